@@ -1,0 +1,4 @@
+pub mod Visits
+pub mod Lists
+pub mod Members
+pub mod JsonReading
