@@ -1,6 +1,9 @@
 -- The definitions, computed on the worked cases.
-use Rattle.std.proofs.Common.{◌≡◌, ℕ, List, [], ◌∷◌, ◌*◌, ◌+◌, min, refl, Some, None, reverse, if◌then◌else◌, nat_eq}
+use Rattle.std.proofs.Common.{◌≡◌, ℕ, List, [], ◌∷◌, ◌++◌, ◌*◌, ◌+◌, min, refl, Some, None, reverse, if◌then◌else◌, nat_eq}
 use Rattle.bwe_specs.specs.declared.network.Closing.{Closing}
+use Rattle.bwe_specs.specs.declared.report.Report.{Report}
+use Rattle.bwe_specs.specs.declared.report.Target.TheVariants.{Task, Link}
+use Rattle.bwe_specs.specs.Reports.{demand_after, capacities_after, capacity_after, last_amount, is_task, is_link}
 use Rattle.bwe_specs.specs.Bounded.{sum_below, found_or, lowest_below, greatest_upto}
 use Rattle.bwe_specs.specs.FunctionValue.{Point, between, value_from, function_value}
 use Rattle.bwe_specs.specs.Paths.{PathGroup, uses, weight_of, weight_over, load_on, link_load, lowest_over, is_open, current_path_group}
@@ -256,3 +259,18 @@ weighted_limits = refl
 weighted_rest : cluster_limits 100 (λ task. 1000) weighted 102 ≡ 77 ∷ (25 ∷ [])
 unfolding common_share handed_out distribution function_value value_from between greatest_upto inner_share node_value weighted slope1
 weighted_rest = refl
+
+-- Drain: demands of two tasks, then the link's capacity cut to 60 and to 0; a further report restores it
+demand_of : ℕ → ℕ → Report
+demand_of task amount = record { reporter = 0; target = Task task; amount = amount }
+
+capacity_of : ℕ → ℕ → Report
+capacity_of link amount = record { reporter = 0; target = Link link; amount = amount }
+
+drain : List Report
+drain = demand_of 0 80 ∷ demand_of 1 80 ∷ capacity_of 0 60 ∷ capacity_of 0 0 ∷ []
+
+drain-case : (demand_after drain 0 ≡ 80) × (demand_after drain 2 ≡ 0) × (capacities_after (100 ∷ 50 ∷ []) drain ≡ 0 ∷ 50 ∷ [])
+    × (capacities_after (100 ∷ []) (drain ++ capacity_of 0 200 ∷ []) ≡ 200 ∷ [])
+unfolding demand_after capacities_after capacity_after last_amount is_task is_link demand_of capacity_of drain
+drain-case = (refl, refl, refl, refl)
