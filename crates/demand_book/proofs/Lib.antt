@@ -1,0 +1,4 @@
+pub mod Amounts
+pub mod LastReports
+pub mod Keeping
+pub mod Rows

@@ -1,0 +1,4 @@
+pub mod Fit
+pub mod Told
+pub mod Book
+pub mod Small
