@@ -1,0 +1,5 @@
+pub mod Prefixes
+pub mod Adding
+pub mod Comparing
+pub mod Placing
+pub mod Rolling
