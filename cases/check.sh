@@ -1,0 +1,34 @@
+#!/usr/bin/env bash
+# cases/check.sh [PROGRAM [CASE..]]: runs the built program on whole cases and compares every byte.
+#
+# A case is a folder: args (a word a line), stdin, stdout (what has to be printed, exactly) and status.
+# Nothing may come on standard error. The last line says how many passed; the status is 0 where all did.
+here=$(cd "$(dirname "${BASH_SOURCE[0]}")" && pwd)
+program=${1:-$here/../crates/bwe/out/bwe}
+shift
+if [ ! -x "$program" ]; then
+    echo "cases/check.sh: no program at $program; build it by 'rt run' in crates/bwe, or call ./bwe once" >&2
+    exit 2
+fi
+[ $# -gt 0 ] || set -- $(cd "$here" && ls -d */ | tr -d /)
+work=$(mktemp -d)
+trap 'rm -rf "$work"' EXIT
+passed=0
+failed=0
+for name in "$@"; do
+    case_folder=$here/$name
+    mapfile -t words <"$case_folder/args"
+    timeout 60 "$program" "${words[@]}" <"$case_folder/stdin" >"$work/stdout" 2>"$work/stderr"
+    status=$?
+    wanted=$(cat "$case_folder/status")
+    if [ "$status" = "$wanted" ] && cmp -s "$work/stdout" "$case_folder/stdout" && [ ! -s "$work/stderr" ]; then
+        passed=$((passed + 1))
+    else
+        failed=$((failed + 1))
+        echo "$name: status $status, wanted $wanted"
+        diff "$case_folder/stdout" "$work/stdout" | head -n 8
+        head -c 400 "$work/stderr"
+    fi
+done
+echo "cases: $passed passed, $failed failed"
+[ "$failed" = 0 ]
