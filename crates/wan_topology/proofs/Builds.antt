@@ -1,0 +1,101 @@
+-- Links added one by one.
+use Rattle.std.proofs.Common.{◌≡◌, ℕ, suc, ◌+◌, ◌<◌, ◌≤◌, false, List, [], ◌∷◌, ◌++◌, length, map, refl, sym, ap, ap₂, ◌∙◌, arith, cond, append_assoc, length-append, add-one, String, Global}
+use Rattle.std.specs.Prelude.{None}
+use Rattle.std.specs.List.{list_any}
+use Rattle.std.specs.Str.{bytes_eq}
+use Rattle.std.specs.String.{string_bytes, string_eq}
+use Rattle.std.proofs.lemmas.List.{map_push, length-map}
+use Rattle.std.proofs.lemmas.List.Elements.{All-push}
+use Rattle.indexmap.specs.IndexSet.{insert_key}
+use Rattle.wan_topology.specs.declared.topology.LinkSpec.{LinkSpec}
+use Rattle.wan_topology.specs.declared.topology.LinkSites.{LinkSites}
+use Rattle.wan_topology.specs.declared.fault.TopologyError.{TopologyError}
+use Rattle.wan_topology.specs.declared.fault.TopologyError.TheVariants.{Refused, OutOfMemory}
+use Rattle.wan_topology.specs.Network.{Link, Network, network_of, network_with, IsNetwork}
+use Rattle.wan_topology.specs.Faults.{link_fault, first_link_fault, topology_fault, TellsFault}
+use Rattle.wan_topology.specs.Held.{link_of, links_of, texts, sites_held, network_held}
+use Rattle.wan_topology.proofs.Names.{list_any-texts}
+use Rattle.wan_topology.proofs.Faults.{first_link_fault-none, first_link_fault-some, first_link_fault-end, topology_fault-few}
+
+-- a name that is not there yet goes last
+pub insert_key-new : (strings : List (String Global)) (name : String Global) → list_any (bytes_eq (string_bytes name)) (texts strings) ≡ false
+    → insert_key string_eq strings name ≡ strings ++ name ∷ []
+insert_key-new strings name new =
+    ap (λ there. cond there strings (strings ++ name ∷ [])) (sym (list_any-texts (bytes_eq (string_bytes name)) strings) ∙ new)
+
+-- what is held, with one more link
+pub network_held-with : (strings : List (String Global)) (sites : List LinkSites) (capacities : List ℕ) (network : Network) → network_held strings sites capacities ≡ network
+    → (spec : LinkSpec) → network_held (strings ++ spec.name ∷ []) (sites ++ record { from = spec.from; to = spec.to } ∷ []) (capacities ++ spec.capacity ∷ []) ≡ network_with network (link_of spec)
+network_held-with strings sites capacities network is spec =
+    ap₂ (λ names sites'. record { names = names; sites = sites'; capacities = capacities ++ spec.capacity ∷ [] })
+    (map_push string_bytes strings spec.name) (map_push sites_held sites (record { from = spec.from; to = spec.to }))
+    ∙ ap (λ n. network_with n (link_of spec)) is
+
+pub IsNetwork-with : (network : Network) (link : Link) → IsNetwork network → length network.capacities < 4_096 → link.capacity ≤ 1_000_000_000_000 → IsNetwork (network_with network link)
+IsNetwork-with network link is room within = record {
+  few_links = omega (arith, length-append network.capacities (link.capacity ∷ []));
+  each_named = omega (arith, is.each_named, length-append network.names (link.name ∷ []), length-append network.capacities (link.capacity ∷ []));
+  each_sited = omega (arith, is.each_sited, length-append network.sites (record { from = link.from; to = link.to } ∷ []), length-append network.capacities (link.capacity ∷ []));
+  capacities_in_range = All-push (λ capacity. capacity ≤ 1_000_000_000_000) network.capacities link.capacity is.capacities_in_range within;
+}
+
+-- the network with further links at its end
+abbrev pub network_then : Network → List Link → Network
+network_then network links = record {
+  names = network.names ++ map (λ link. link.name) links;
+  sites = network.sites ++ map (λ link. record { from = link.from; to = link.to }) links;
+  capacities = network.capacities ++ map (λ link. link.capacity) links;
+}
+
+pub network_then-with : (network : Network) (link : Link) (later : List Link) → network_then (network_with network link) later ≡ network_then network (link ∷ later)
+network_then-with network link later =
+    ap₂ (λ names sites. record { names = names; sites = sites; capacities = (network.capacities ++ link.capacity ∷ []) ++ map (λ other. other.capacity) later })
+    (append_assoc network.names (link.name ∷ []) (map (λ other. other.name) later))
+    (append_assoc network.sites (record { from = link.from; to = link.to } ∷ []) (map (λ other. record { from = other.from; to = other.to }) later))
+    ∙ ap (λ capacities. record {
+      names = network.names ++ link.name ∷ map (λ other. other.name) later;
+      sites = network.sites ++ record { from = link.from; to = link.to } ∷ map (λ other. record { from = other.from; to = other.to }) later;
+      capacities = capacities;
+    })
+    (append_assoc network.capacities (link.capacity ∷ []) (map (λ other. other.capacity) later))
+
+-- so many links of all are in the network, and the others are still to come
+pub record IsUnderWay (network : Network) (later all : List Link) : Type 0 where
+  pub together : network_then network later ≡ network_of all
+  pub fault : first_link_fault network.names (length network.capacities) later ≡ first_link_fault [] 0 all
+  pub few : length network.capacities + length later ≤ 4_096
+
+pub IsUnderWay-start : (all : List Link) → length all ≤ 4_096 → IsUnderWay (network_of []) all all
+IsUnderWay-start all few = record { together = refl; fault = refl; few = omega (arith, few) }
+
+pub IsUnderWay-with : (network : Network) (link : Link) (later all : List Link) → IsUnderWay network (link ∷ later) all → link_fault network.names (length network.capacities) link ≡ None
+    → IsUnderWay (network_with network link) later all
+IsUnderWay-with network link later all under none = record {
+  together = network_then-with network link later ∙ under.together;
+  fault =
+      ap (λ n. first_link_fault (network.names ++ link.name ∷ []) n later) (length-append network.capacities (link.capacity ∷ []) ∙ add-one (length network.capacities))
+      ∙ sym (first_link_fault-none network.names (length network.capacities) link later none) ∙ under.fault;
+  few = omega (arith, under.few, length-append network.capacities (link.capacity ∷ []));
+}
+
+pub length_links : (specs : List LinkSpec) → length (links_of specs) ≡ length specs
+length_links [] = refl
+length_links (spec ∷ specs) = ap suc (length_links specs)
+
+-- the links are few, and their fault is that of the first link that has one
+pub IsUnderWay-fault : (network : Network) (later all : List Link) → IsUnderWay network later all → topology_fault all ≡ first_link_fault network.names (length network.capacities) later
+IsUnderWay-fault network later all under =
+    let few : length all ≤ 4_096 =
+    omega (arith, under.few, ap (λ n. length n.capacities) under.together, length-append network.capacities (map (λ link. link.capacity) later), length-map later (λ link. link.capacity), length-map all (λ link. link.capacity)) in
+    topology_fault-few all few ∙ sym under.fault
+
+-- where every link came, there is no fault
+pub IsUnderWay-end : (network : Network) (all : List Link) → IsUnderWay network [] all → topology_fault all ≡ None
+IsUnderWay-end network all under = IsUnderWay-fault network [] all under ∙ first_link_fault-end network.names (length network.capacities)
+
+-- an error that tells the fault of the next link tells the fault of all
+pub TellsFault-next : (network : Network) (link : Link) (later all : List Link) → IsUnderWay network (link ∷ later) all → (error : TopologyError)
+    → TellsFault (link_fault network.names (length network.capacities) link) error → TellsFault (topology_fault all) error
+TellsFault-next network link later all under (Refused fault) told =
+    IsUnderWay-fault network (link ∷ later) all under ∙ first_link_fault-some network.names (length network.capacities) link later fault told
+TellsFault-next network link later all under OutOfMemory told = tt

@@ -1,0 +1,56 @@
+//! Why links are refused.
+
+use std::alloc::{AllocError, AllocFailed};
+use thiserror::Error;
+
+/// What is wrong with the links, in the order in which it is looked for.
+///
+/// The number of links comes first. Then the first link at fault is named, with the first of the other three that it has.
+#[derive(Clone, Copy, Debug, PartialEq, Eq, Error)]
+pub enum TopologyFault {
+    /// There are more than 4,096 links.
+    #[error("there are {count} links")]
+    TooManyLinks { count: u64 },
+    /// The link's name stood before.
+    #[error("the name of link {link} stood before")]
+    RepeatedLink { link: u32 },
+    /// The link ends where it starts.
+    #[error("link {link} ends where it starts")]
+    SelfLink { link: u32 },
+    /// The link's capacity is above 1,000,000,000,000 kilobits per second.
+    #[error("the capacity of link {link} is too great")]
+    CapacityOverMax { link: u32 },
+}
+
+/// Why `Topology::build` made no topology.
+#[derive(Clone, Copy, Debug, PartialEq, Eq, Error)]
+pub enum TopologyError {
+    /// The links have this fault.
+    #[error("{fault}")]
+    Refused { fault: TopologyFault },
+    /// Memory was wanting.
+    #[error("out of memory")]
+    OutOfMemory,
+}
+
+impl From<AllocError> for TopologyError {
+    ghost use Rattle.std.specs.Prelude.{◌≡◌};
+    ghost use Rattle.wan_topology.specs.declared.fault.TopologyError.TheVariants.{OutOfMemory};
+
+    ghost from_gives = { λ _ error. error ≡ OutOfMemory };
+
+    fn from(_error: AllocError) -> TopologyError {
+        TopologyError::OutOfMemory
+    }
+}
+
+impl<T: Drop> From<AllocFailed<T>> for TopologyError {
+    ghost use Rattle.std.specs.Prelude.{◌≡◌};
+    ghost use Rattle.wan_topology.specs.declared.fault.TopologyError.TheVariants.{OutOfMemory};
+
+    ghost from_gives = { λ _ error. error ≡ OutOfMemory };
+
+    fn from(_failed: AllocFailed<T>) -> TopologyError {
+        TopologyError::OutOfMemory
+    }
+}

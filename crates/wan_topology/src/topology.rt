@@ -1,0 +1,181 @@
+//! A topology: links by their numbers.
+
+ghost use Rattle.std.specs.Prelude.{◌≡◌, ℕ, ◌+◌, ◌<◌, ◌≤◌, ◌↔◌, List, [], ◌∷◌, ◌++◌, length, map, slice_index, slice_set, IfOk, IfErr, OnOk, IsNone, Contains, position};
+ghost use Rattle.std.specs.Str.{bytes_eq};
+ghost use Rattle.wan_topology.specs.Network.{network_of, network_with, sites_of, IsNetwork};
+ghost use Rattle.wan_topology.specs.Faults.{link_fault, topology_fault, TellsFault};
+
+use crate::fault::{TopologyError, TopologyFault};
+use bwe_specs::{MAX_AMOUNT, MAX_LINKS};
+use indexmap::IndexSet;
+use std::alloc::Global;
+use std::marker::Model;
+
+/// A link as it is given. The capacity is in kilobits per second.
+#[derive(Drop)]
+pub struct LinkSpec {
+    pub name: String,
+    pub from: String,
+    pub to: String,
+    pub capacity: u64,
+}
+
+/// The sites where a link starts and ends.
+#[derive(Drop)]
+struct LinkSites {
+    from: String,
+    to: String,
+}
+
+/// The links of the network, by their numbers. Contracts see the record of their names, sites and capacities.
+///
+/// Which links there are, with their names and sites, never changes. A capacity can.
+#[derive(Drop)]
+pub struct Topology {
+    names: IndexSet<String>,
+    sites: Vec<LinkSites>,
+    capacities: Vec<u64>,
+}
+
+impl Model for Topology {
+    ghost use Rattle.wan_topology.specs.Network.{Network, IsNetwork};
+
+    ghost Value = { Network };
+
+    ghost use Rattle.wan_topology.specs.Held.{network_held};
+
+    ghost view = { λ topology. network_held topology.names.keys topology.sites.items topology.capacities.items };
+
+    ghost invariant = { λ topology. IsNetwork (network_held topology.names.keys topology.sites.items topology.capacities.items) };
+}
+
+impl Topology {
+    ghost use Rattle.wan_topology.specs.Held.{link_of, links_of};
+
+    /// The topology of these links, numbered in their order.
+    ///
+    /// The fault that is told is the first one in the order of `TopologyFault`. It costs one look-up of a name for each link.
+    pub fn build(alloc: Global, links: Vec<LinkSpec>) -> Result<Topology, TopologyError>
+        ensures built { IfOk result (λ topology. topology ≡ network_of (links_of links.items)) }
+        ensures accepted { OnOk result (topology_fault (links_of links.items) ≡ None) }
+        ensures refused { IfErr result (TellsFault (topology_fault (links_of links.items))) }
+    {
+        let count = links.len() as u64;
+        if count > MAX_LINKS {
+            return Err(TopologyError::Refused {
+                fault: TopologyFault::TooManyLinks { count },
+            });
+        }
+        let mut topology = Topology::empty(alloc);
+        for link in links {
+            topology = topology.with_link(link)?;
+        }
+        Ok(topology)
+    }
+
+    /// How many links there are.
+    pub fn links(&self) -> u32
+        ensures count { result ≡ length self.now.capacities }
+        ensures network { IsNetwork self.now }
+    {
+        self.capacities.len() as u32
+    }
+
+    /// What the link can carry now, in kilobits per second.
+    pub fn capacity(&self, link: u32) -> u64
+        requires { link < length self.now.capacities }
+        ensures { result ≡ slice_index self.now.capacities link }
+    {
+        self.capacities[link as usize]
+    }
+
+    /// The site where the link starts.
+    pub fn from(&self, link: u32) -> &str
+        requires { link < length self.now.capacities }
+        ensures { result.now ≡ (sites_of self.now link).from }
+    {
+        self.sites[link as usize].from.as_str()
+    }
+
+    /// The site where the link ends.
+    pub fn to(&self, link: u32) -> &str
+        requires { link < length self.now.capacities }
+        ensures { result.now ≡ (sites_of self.now link).to }
+    {
+        self.sites[link as usize].to.as_str()
+    }
+
+    /// The number of the link of this name, `None` where no link has it.
+    pub fn link_number(&self, name: &str) -> Option<u32>
+        ensures number { result ≡ position (bytes_eq name.now) self.now.names }
+        ensures none { IsNone result ↔ (¬ (Contains self.now.names name.now)) }
+    {
+        Some(self.names.get_index_of(name)? as u32)
+    }
+
+    /// Sets what the link can carry, in kilobits per second, and changes nothing else. It takes no memory.
+    pub fn set_capacity(&mut self, link: u32, capacity: u64)
+        requires link { link < length self.old.capacities }
+        requires capacity { capacity ≤ MAX_AMOUNT }
+        ensures { self.new ≡ record self.old { capacities = slice_set self.old.capacities link capacity } }
+    {
+        self.capacities[link as usize] = capacity;
+    }
+
+    // The topology of no link.
+    fn empty(alloc: Global) -> Topology
+        ensures { result ≡ network_of [] }
+    {
+        Topology {
+            names: IndexSet::new(alloc),
+            sites: Vec::new(alloc),
+            capacities: Vec::new(alloc),
+        }
+    }
+
+    // The topology with one more link, which gets the next number.
+    fn with_link(self, link: LinkSpec) -> Result<Topology, TopologyError>
+        requires { length self.capacities < MAX_LINKS }
+        ensures built { IfOk result (λ topology. topology ≡ network_with self (link_of link)) }
+        ensures accepted { OnOk result (link_fault self.names (length self.capacities) (link_of link) ≡ None) }
+        ensures refused { IfErr result (TellsFault (link_fault self.names (length self.capacities) (link_of link))) }
+    {
+        let number = self.capacities.len() as u32;
+        if let Some(fault) = self.fault_of(number, &link) {
+            return Err(TopologyError::Refused { fault });
+        }
+        let Topology {
+            mut names,
+            mut sites,
+            mut capacities,
+        } = self;
+        names.insert(link.name)?;
+        sites.push(LinkSites {
+            from: link.from,
+            to: link.to,
+        })?;
+        capacities.push(link.capacity)?;
+        Ok(Topology {
+            names,
+            sites,
+            capacities,
+        })
+    }
+
+    // The fault of the link of this number, after the links that are here.
+    #[tactic(auto, unfolding(crate::specs::Faults::link_fault))]
+    fn fault_of(&self, number: u32, link: &LinkSpec) -> Option<TopologyFault>
+        ensures { result ≡ link_fault self.now.names number (link_of link.now) }
+    {
+        if self.names.contains(link.name.as_str()) {
+            return Some(TopologyFault::RepeatedLink { link: number });
+        }
+        if link.from == link.to {
+            return Some(TopologyFault::SelfLink { link: number });
+        }
+        if link.capacity > MAX_AMOUNT {
+            return Some(TopologyFault::CapacityOverMax { link: number });
+        }
+        None
+    }
+}
