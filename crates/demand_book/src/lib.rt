@@ -9,6 +9,8 @@ mod book;
 mod maker;
 mod posted;
 mod small;
+#[cfg(test)]
+mod tests;
 mod told;
 
 pub use book::{BookError, DemandBook};
