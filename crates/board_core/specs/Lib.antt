@@ -1,0 +1,2 @@
+pub mod CoreRun
+pub mod Core
