@@ -1,0 +1,149 @@
+//! The sum.
+
+ghost use Rattle.std.specs.Prelude.{◌≡◌, ℕ, ◌+◌, ◌<◌, ◌≤◌, length, map, All, IfOk, OnOk, OnErr, vec_len};
+ghost use Rattle.function_sum.specs.Meaning.{IsMeaning};
+ghost use Rattle.capped_sum.specs.CappedSum.{tasks_value, task_at, with_demand, without_demand};
+
+use crate::index::{RankedTask, SumsBefore, indexed_sum, plain_sum, rebuild};
+use crate::task::Task;
+use bw_function::BwFunction;
+use bwe_specs::{MAX_AMOUNT, MAX_TASKS, MAX_WEIGHT, OutOfMemory};
+use function_sum::ShareFunction;
+use std::alloc::{AllocError, Global};
+use std::marker::Model;
+
+/// Tasks of one function, and the sum of their values.
+#[derive(Drop)]
+pub struct CappedSum {
+    function: BwFunction,
+    tasks: Vec<Task>,
+    ranked: Vec<RankedTask>,
+    before: Vec<SumsBefore>,
+    is_fresh: bool,
+}
+
+impl Model for CappedSum {
+    ghost use Rattle.capped_sum.specs.CappedSum.{Tasks, IsCappedSum};
+
+    ghost Value = { Tasks };
+
+    ghost view = { λ sum. record { function = sum.function; tasks = sum.tasks.items } };
+
+    ghost invariant = { λ sum.
+        IsCappedSum sum.tasks.items sum.ranked.items sum.before.items sum.is_fresh };
+}
+
+impl CappedSum {
+    /// One task for each weight, in order, with demand 0.
+    pub fn new(
+        alloc: Global,
+        function: BwFunction,
+        weights: &[u64],
+    ) -> Result<CappedSum, OutOfMemory>
+        requires few { length weights.now ≤ MAX_TASKS }
+        requires weights { All (λ weight. (1 ≤ weight) × (weight ≤ MAX_WEIGHT)) weights.now }
+        ensures { IfOk result (λ sum.
+            sum ≡ record { function = function; tasks = map without_demand weights.now }) }
+    {
+        let tasks = idle_tasks(alloc, weights)?;
+        let ranked = vec![in alloc; RankedTask::NONE; weights.len()]?;
+        let before = vec![in alloc; SumsBefore::NONE; weights.len() + 1]?;
+        Ok(CappedSum {
+            function,
+            tasks,
+            ranked,
+            before,
+            is_fresh: false,
+        })
+    }
+
+    /// Sets a task's demand, and answers the one before. It takes a constant time.
+    pub fn set(&mut self, task: u32, demand: u64) -> Result<u64, OutOfMemory>
+        requires task { task < length self.old.tasks }
+        requires demand { demand ≤ MAX_AMOUNT }
+        ensures before { IfOk result (λ before. before ≡ (task_at self.old.tasks task).demand) }
+        ensures ok { OnOk result (self.new ≡ with_demand self.old task demand) }
+        ensures err { OnErr result (self.new ≡ self.old) }
+    {
+        let held = self.tasks[task as usize];
+        self.tasks[task as usize] = Task {
+            weight: held.weight,
+            demand,
+        };
+        self.is_fresh = false;
+        Ok(held.demand)
+    }
+
+    /// Makes `value` cheap again after a `set`: it sorts the tasks once. It takes no memory.
+    pub fn refresh(&mut self)
+        ensures { self.new ≡ self.old }
+    {
+        if self.is_fresh {
+            return;
+        }
+        rebuild(self.tasks.as_slice(), &mut self.ranked, &mut self.before);
+        self.is_fresh = true;
+    }
+
+    /// A task's demand, in kilobits per second.
+    pub fn demand(&self, task: u32) -> u64
+        requires { task < length self.now.tasks }
+        ensures { result ≡ (task_at self.now.tasks task).demand }
+    {
+        self.tasks.as_slice()[task as usize].demand
+    }
+
+    /// A task's weight.
+    pub fn weight(&self, task: u32) -> u64
+        requires { task < length self.now.tasks }
+        ensures { result ≡ (task_at self.now.tasks task).weight }
+    {
+        self.tasks.as_slice()[task as usize].weight
+    }
+
+    /// The number of tasks.
+    pub fn tasks(&self) -> u32
+        ensures count { result ≡ length self.now.tasks }
+        ensures few { result ≤ MAX_TASKS }
+    {
+        self.tasks.as_slice().len() as u32
+    }
+
+    /// The tasks' function.
+    pub fn function(&self) -> &BwFunction
+        ensures { result.now ≡ self.now.function }
+    {
+        &self.function
+    }
+}
+
+impl ShareFunction for CappedSum {
+    ghost meaning = { tasks_value };
+
+    fn value(&self, share: u64) -> u64 {
+        let per_weight = self.function.value(share);
+        if self.is_fresh {
+            indexed_sum(
+                self.tasks.as_slice(),
+                self.ranked.as_slice(),
+                self.before.as_slice(),
+                per_weight,
+            )
+        } else {
+            plain_sum(self.tasks.as_slice(), per_weight)
+        }
+    }
+}
+
+// A task for each weight, with demand 0.
+fn idle_tasks(alloc: Global, weights: &[u64]) -> Result<Vec<Task>, AllocError>
+    ensures { IfOk result (λ tasks. tasks.items ≡ map without_demand weights.now) }
+{
+    weights
+        .iter()
+        .map(|weight| Task {
+            weight: *weight,
+            demand: 0,
+        })
+        .collect(alloc)
+}

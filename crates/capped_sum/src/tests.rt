@@ -1,0 +1,44 @@
+//! The worked cases of capped sums, over a stale and over a fresh index.
+
+use crate::CappedSum;
+use bw_function::BwFunction;
+use function_sum::ShareFunction;
+use std::test::Fail;
+
+// The two tasks of the case "Sated group": demands 10 and 200, slope 1.
+#[test]
+fn a_sated_task_has_its_demand(rt: HostRuntime) -> Result<(), Fail> {
+    let alloc = rt.alloc();
+    let function = BwFunction::new(alloc, &[(0, 0), (100, 100)], 100)?;
+    let mut sum = CappedSum::new(alloc, function, &[1, 1])?;
+    assert_eq!(rt; sum.value(90), 0);
+    assert_eq!(rt; sum.set(0, 10)?, 0);
+    assert_eq!(rt; sum.set(1, 200)?, 0);
+    let rows = [(0, 0), (9, 18), (10, 20), (90, 100), (100, 110)];
+    for (share, value) in rows {
+        assert_eq!(rt; sum.value(share), value, "at {share}, stale");
+    }
+    sum.refresh();
+    for (share, value) in rows {
+        assert_eq!(rt; sum.value(share), value, "at {share}");
+    }
+    assert_eq!(rt; sum.set(0, 0)?, 10);
+    assert_eq!(rt; sum.value(90), 90);
+    Ok(())
+}
+
+// The tasks of the case "Weights in one job": weights 3 and 1, demands that don't cap them.
+#[test]
+fn weights_multiply_the_function(rt: HostRuntime) -> Result<(), Fail> {
+    let alloc = rt.alloc();
+    let function = BwFunction::new(alloc, &[(0, 0), (100, 100)], 100)?;
+    let mut sum = CappedSum::new(alloc, function, &[3, 1])?;
+    let _ = sum.set(0, 1_000)?;
+    let _ = sum.set(1, 1_000)?;
+    assert_eq!(rt; (sum.value(25), sum.value(26)), (100, 104));
+    sum.refresh();
+    assert_eq!(rt; (sum.value(25), sum.value(26)), (100, 104));
+    assert_eq!(rt; (sum.weight(0), sum.demand(1), sum.tasks()), (3, 1_000, 2));
+    assert_eq!(rt; sum.function().last_value(), 100);
+    Ok(())
+}

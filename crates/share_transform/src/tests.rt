@@ -1,0 +1,63 @@
+//! The worked cases of the transformation.
+//!
+//! The children's sums of the cases are piecewise linear, so they stand here as functions.
+
+ghost use Rattle.std.specs.Prelude.{◌≡◌, ◌<◌};
+
+use crate::Transform;
+use bw_function::BwFunction;
+use mono_search::Steps;
+use std::marker::Brand;
+use std::sync::ledger::{Blank, Ledger};
+use std::test::Fail;
+
+// The cases "Configured user", "Matched pair" and "Stale pair": first the jobs ask for 100 and
+// 50, then the second one for 10.
+#[test]
+fn a_stale_pair_costs_looks_and_no_answer(rt: HostRuntime) -> Result<(), Fail> {
+    let alloc = rt.alloc();
+    let parent = BwFunction::new(alloc, &[(0, 0), (10, 60)], 10)?;
+    let sum = BwFunction::new(alloc, &[(0, 0), (10, 150)], 10)?;
+    let lower_sum = BwFunction::new(alloc, &[(0, 0), (2, 30), (10, 110)], 10)?;
+    let mut transform = Transform::new(alloc, parent, 10)?;
+    transform.rebuild(&sum);
+    assert!(rt; transform.matched().contains(&(10, 4)));
+    assert_eq!(rt; inner_share(&transform, &sum), 4);
+    assert_eq!(rt; inner_share(&transform, &lower_sum), 5);
+    transform.rebuild(&lower_sum);
+    assert!(rt; transform.matched().contains(&(10, 5)));
+    assert_eq!(rt; inner_share(&transform, &lower_sum), 5);
+    Ok(())
+}
+
+#[test]
+fn matched_shares_are_point_shares_and_sixteenths(rt: HostRuntime) -> Result<(), Fail> {
+    let alloc = rt.alloc();
+    let parent = BwFunction::new(alloc, &[(0, 0), (3, 1), (30, 60)], 32)?;
+    let transform = Transform::new(alloc, parent, 32)?;
+    let pairs = transform.matched();
+    assert_eq!(rt; pairs.len(), 18);
+    assert_eq!(rt; pairs.first(), Some(&(0, 0)));
+    assert!(rt; pairs.contains(&(3, 0)) && pairs.contains(&(30, 0)));
+    assert_eq!(rt; pairs.last(), Some(&(32, 0)));
+    assert_eq!(rt; transform.parent().last_value(), 60);
+    Ok(())
+}
+
+// The inner share at 10.
+fn inner_share(transform: &Transform, sum: &BwFunction) -> u64 {
+    counted_inner_share::<Brand>(transform, sum, Blank::new(1))
+}
+
+// The same with a counter made on the spot.
+fn counted_inner_share<L: Ledger>(transform: &Transform, sum: &BwFunction, blank: Blank) -> u64
+    requires name { blank.name ≡ L.name }
+    requires parts { blank.parts ≡ L.parts }
+    requires some { 0 < L.parts }
+{
+    if transform.parent().top() < 10 {
+        return 0;
+    }
+    let mut steps: Steps<L> = Steps::new(blank);
+    transform.inner_share(sum, 10, &mut steps)
+}
