@@ -1,0 +1,29 @@
+-- What waits to be absorbed is fit for the maker.
+use Rattle.std.proofs.Common.{◌≡◌, ℕ, List, [], ◌∷◌, ◌++◌, get_or, subst, sym, ap, ◌∙◌, arith, suc, Some, None, Bor}
+use Rattle.std.specs.Prelude.{Option, IsSome, IfSome}
+use Rattle.std.specs.Option.{option_copied, option_to_list}
+use Rattle.std.specs.List.{All}
+use Rattle.bwe_specs.specs.declared.report.Report.{Report}
+use Rattle.demand_book.specs.Fit.{IsFit}
+use Rattle.board.specs.Allowed.{IsAllowed}
+
+back_of : (P : Report → Type 0) (front back : List Report) → All P (front ++ back) → All P back
+back_of P [] back all = all
+back_of P (x ∷ front) back all = back_of P front back (λ k d lt. all (suc k) d (omega arith))
+
+pub fit_waiting : (reporters tasks links plan_tasks plan_links : ℕ) (taken waiting seen : List Report) → seen ≡ taken ++ waiting → All (IsAllowed reporters tasks links) seen
+    → plan_tasks ≡ tasks → plan_links ≡ links → All (IsFit plan_tasks plan_links) waiting
+fit_waiting reporters tasks links plan_tasks plan_links taken waiting seen is allowed tasks_so links_so =
+    let all = back_of (IsAllowed reporters tasks links) taken waiting (subst (All (IsAllowed reporters tasks links)) is allowed) in
+    subst (λ (n : ℕ). All (IsFit n plan_links) waiting) (sym tasks_so) (subst (λ (n : ℕ). All (IsFit tasks n) waiting) (sym links_so) (λ k d lt. (all k d lt).1))
+
+-- what the front shows is the first item
+pub front_is : (front : Option (Bor Report)) (items : List Report) (report : Report) → Some report ≡ option_copied front → IfSome front (λ x. x.now ≡ get_or items 0 x.now)
+    → IsSome front × (get_or items 0 report ≡ report)
+front_is (Some x) items report shown here = (search, cc)
+front_is None items report shown here = absurd cc
+
+-- and popping it leaves the rest
+pub popped : (items rest : List Report) (taken : Option Report) (report : Report) → items ≡ option_to_list taken ++ rest → taken ≡ Some (get_or items 0 report) → get_or items 0 report ≡ report
+    → items ≡ report ∷ rest
+popped items rest taken report parts is first = parts ∙ ap (λ (o : Option Report). option_to_list o ++ rest) (is ∙ ap Some first)

@@ -1,0 +1,4 @@
+pub mod Sending
+pub mod Totals
+pub mod Plans
+pub mod Absorbing

@@ -1,0 +1,18 @@
+use Rattle.std.proofs.Common.{◌≡◌, ◌∙◌, ap, subst, arith, length, List}
+use Rattle.std.specs.List.{All}
+use Rattle.bwe_specs.specs.declared.report.Report.{Report}
+use Rattle.board_log.specs.Roll.{own_of}
+use Rattle.board.specs.Reporting.{Reporting}
+use Rattle.board.proofs.Totals.{all_sent}
+use Rattle.board.proofs.steps.LogState.finish.Goals as goal
+
+pub returns-in-Ok-clause-sent : goal.returns-in-Ok-clause-sent
+returns-in-Ok-clause-sent g c =
+    let i = c.self.invariant in
+    let log = c.self.inside.log.items in
+    let passes : List Reporting = c.args.passes.items in
+    let IsOwn : List Report → Reporting → Type 0 = λ reports pass. pass.own ≡ own_of pass.number reports in
+    let compared : All (IsOwn log) c.as_mut_slice.result.now = subst (λ (reports : List Report). All (IsOwn reports) c.as_mut_slice.result.now) (ap (λ roll. roll.log) i.rolled) c.compare_all.ensures.exact in
+    let exact : All (IsOwn log) passes = subst (All (IsOwn log)) c.as_mut_slice.ensures.value compared in
+    let held : c.len-length.result ≡ length log = omega (arith, c.len-length.ensures, c.self.inside.log.ok.0) in
+    held ∙ all_sent passes log g.N.Profile.reporters g.N.Profile.tasks g.N.Profile.links c.requires.count i.allowed c.requires.order exact

@@ -1,0 +1,8 @@
+pub mod Allowed
+pub mod Pair
+pub mod Reading
+pub mod Reporting
+pub mod Refusals
+pub mod Standing
+pub mod Shop
+pub mod Opening

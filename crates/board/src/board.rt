@@ -1,0 +1,153 @@
+//! The board: what threads call.
+ghost use Rattle.std.specs.Prelude.{◌≡◌, ◌≤◌, ◌++◌, length, drop, IfOk, IfErr, OnOk, OnErr};
+ghost use Rattle.std.specs.List.{All, sum_by};
+ghost use mathlib.Core.List.{IsPrefix};
+ghost use Rattle.bwe_specs.specs.declared.limits.TheConstants.{MAX_REPORTS};
+ghost use Rattle.board_log.specs.Laws.{StandIn};
+ghost use Rattle.board_log.specs.Roll.{IsBy, placed, own_of};
+ghost use Rattle.board.specs.Allowed.{IsAllowed};
+ghost use Rattle.board.specs.Refusals.{IsRefusalAt};
+ghost use Rattle.board.specs.Reporting.{AreInOrder};
+
+use crate::ack::Ack;
+use crate::allocator::AllocatorPass;
+use crate::ended::{Ended, FinishRefused};
+use crate::profile::Profile;
+use crate::refusal::ReportError;
+use crate::reporter::ReporterPass;
+use crate::steps::LogState;
+use crate::workshop::{Workshop, solve_and_post};
+use board_log::{Bases, Beginning};
+use bwe_specs::{OutOfMemory, Report};
+use demand_book::Maker;
+use std::alloc::Global;
+use std::sync::{Mutex, Wait};
+
+/// A log under a lock, whose tables are published. End it by `close`, which waits for the readers.
+///
+/// Want of memory stands, in each call, also for comparisons of logs that no clause can tell to hold, though in a run they always do.
+pub struct Board<M: Maker, N: Profile<M::Table>, B: Bases> {
+    // It is taken before the log lock, and never inside it.
+    shop: Mutex<Workshop<M, N, B>>,
+    state: Mutex<LogState<M, N, B>>,
+}
+
+impl<M: Maker, N: Profile<M::Table>, B: Bases> Board<M, N, B> {
+    pub(crate) fn new(shop: Workshop<M, N, B>, state: LogState<M, N, B>) -> Board<M, N, B> {
+        Board {
+            shop: Mutex::new(shop),
+            state: Mutex::new(state),
+        }
+    }
+
+    /// Adds the reports of a pass at the end of the log, and answers the place of the first.
+    ///
+    /// All of them enter at one step, or none does. Full comes before want of memory. It costs by the piece, and waits for the log lock alone.
+    pub fn report<R: Wait>(
+        &self,
+        rt: &R,
+        alloc: Global,
+        pass: &mut ReporterPass<B>,
+        reports: &[Report],
+    ) -> Result<u64, ReportError>
+        requires by { All (IsBy pass.old.number) reports.now }
+        requires allowed { All (IsAllowed N.reporters N.tasks N.links) reports.now }
+        // The pass has seen a longer log, where the piece stands from the answered place on.
+        ensures number { pass.new.number ≡ pass.old.number }
+        ensures seen { IsPrefix pass.old.seen pass.new.seen }
+        ensures placed { IfOk result (λ first. drop first pass.new.seen ≡ reports.now) }
+        // Its own list grows by the piece, and is then all of its number in that log.
+        ensures own { IfOk result (λ first. pass.new.own ≡ pass.old.own ++ placed pass.old.number first reports.now) }
+        ensures exact { OnOk result (pass.new.own ≡ own_of pass.old.number pass.new.seen) }
+        // Full is answered just where the log has no room, and the pass has then seen that log.
+        ensures room { OnOk result (length pass.new.seen ≤ MAX_REPORTS) }
+        ensures refused { IfErr result (IsRefusalAt pass.new.seen (length reports.now)) }
+        ensures kept { OnErr result (pass.new.own ≡ pass.old.own) }
+    {
+        self.state.lock(rt).append(alloc, pass, reports)
+    }
+
+    /// An ack that holds all that the pass has seen, and so each of its reports. Where no posted table covers that, it solves and posts one.
+    pub fn settle<R: Wait>(
+        &self,
+        rt: &R,
+        alloc: Global,
+        pass: &mut ReporterPass<B>,
+    ) -> Result<Ack<B>, OutOfMemory>
+        ensures pass { pass.new ≡ pass.old }
+        ensures seen { IfOk result (λ ack. IsPrefix pass.old.seen ack) }
+        ensures own { IfOk result (λ ack. StandIn ack pass.old.own) }
+    {
+        self.ack_of(rt, alloc, &pass.known)
+    }
+
+    /// Posts the table of the log as it stands, and answers how many reports the posted table covers. The pass has then seen so many.
+    ///
+    /// Where a table was posted that covers the whole log it solves nothing. The log lock is free while it solves.
+    pub fn round<R: Wait>(
+        &self,
+        rt: &R,
+        alloc: Global,
+        pass: &mut AllocatorPass<B>,
+    ) -> Result<u64, OutOfMemory>
+        ensures seen { IsPrefix pass.old pass.new }
+        ensures prefix { IfOk result (λ prefix. prefix ≡ length pass.new) }
+        ensures floor { IfOk result (λ prefix. length pass.old ≤ prefix) }
+        ensures refused { OnErr result (pass.new ≡ pass.old) }
+    {
+        let behind = self.state.lock(rt).is_behind();
+        if behind {
+            solve_and_post(rt, alloc, &self.shop, &self.state)?;
+        }
+        let ack = self.state.lock(rt).ack(&pass.known)?;
+        pass.known = ack.known;
+        Ok(pass.known.len())
+    }
+
+    /// The whole log, and the table of it. It takes the passes of all reporters, in the order of their numbers.
+    pub fn finish<R: Wait>(
+        &self,
+        rt: &R,
+        alloc: Global,
+        passes: Vec<ReporterPass<B>>,
+    ) -> Result<Ended<M::Table, B>, FinishRefused<B>>
+        requires count { length passes.items ≡ N.reporters }
+        requires order { AreInOrder passes.items }
+        // The ack has the whole log: each pass's own list, and nothing else.
+        ensures length { IfOk result (λ ended. ended.length ≡ length ended.ack) }
+        ensures sent { IfOk result (λ ended. ended.length ≡ sum_by (λ pass. length pass.own) passes.items) }
+        ensures exact { IfOk result (λ ended. All (λ pass. pass.own ≡ own_of pass.number ended.ack) passes.items) }
+        ensures allowed { IfOk result (λ ended. All (IsAllowed N.reporters N.tasks N.links) ended.ack) }
+        // The table is that of the whole log.
+        ensures covers { IfOk result (λ ended. M.Table.covers ended.table ≡ ended.length) }
+        ensures table { IfOk result (λ ended. N.belongs ended.ack ended.table) }
+        ensures refused { IfErr result (λ refused. refused.passes.items ≡ passes.items) }
+    {
+        let mut shop = self.shop.lock(rt);
+        let shop = &mut *shop;
+        self.state.lock(rt).finish(rt, alloc, shop, passes)
+    }
+
+    /// Ends the board, whose writer can't be dropped. It waits for readers to leave.
+    pub fn close<R: Wait>(self, rt: &R) {
+        let Board { shop, state } = self;
+        drop(shop);
+        state.into_inner().close(rt);
+    }
+
+    // An ack that holds what is known.
+    fn ack_of<R: Wait>(
+        &self,
+        rt: &R,
+        alloc: Global,
+        known: &Beginning<B>,
+    ) -> Result<Ack<B>, OutOfMemory>
+        ensures known { IfOk result (λ ack. IsPrefix known.now ack) }
+    {
+        if let Ok(ack) = self.state.lock(rt).ack(known) {
+            return Ok(ack);
+        }
+        solve_and_post(rt, alloc, &self.shop, &self.state)?;
+        self.state.lock(rt).ack(known)
+    }
+}

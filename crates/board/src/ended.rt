@@ -1,0 +1,18 @@
+use crate::ack::Ack;
+use crate::reporter::ReporterPass;
+use board_log::Bases;
+use demand_book::Posted;
+
+/// The end of a board: its whole log, how many reports that has, and the table of it.
+#[derive(Drop)]
+pub struct Ended<T: Posted, B: Bases> {
+    pub ack: Ack<B>,
+    pub length: u64,
+    pub table: T,
+}
+
+/// Memory was wanting at the end of a board. The passes come back, and `finish` can be called again.
+#[derive(Drop)]
+pub struct FinishRefused<B: Bases> {
+    pub passes: Vec<ReporterPass<B>>,
+}

@@ -1,0 +1,37 @@
+//! The board: reports of many threads in one log, and tables of its beginnings that readers read without a lock.
+//!
+//! `crew` runs reporters, readers and an allocator over it. It rests on four promises, each the contract of a call, for any `Maker`:
+//! `Board::report` puts a piece into the log once and keeps the reporter's own list exact;
+//! the ack of `Board::settle` holds all that its pass had seen, and a posted table covers it;
+//! `ReaderPass::read` shows a table that belongs to the first reports of a log which begins with all that the pass had seen, never older than its floor;
+//! `Board::finish` gives the whole log, each reporter's list in it, and its table.
+//!
+//! A board is opened by `Opened::new` and `Opened::named`, under two names: `Profile`, the plan, and `Bases`, the log.
+//! `read` and `learn` of a reader take no lock and don't wait. `report` waits for the log lock, which nobody holds while a table is made.
+//! Not promised: that a reader sees what nobody told it, waiting, fairness, and that memory is there.
+#![tactic(auto)]
+
+mod ack;
+mod allocator;
+mod board;
+mod ended;
+mod open;
+mod pair;
+mod poster;
+mod profile;
+mod reader;
+mod refusal;
+mod reporter;
+pub mod steps;
+mod workshop;
+
+pub use ack::Ack;
+pub use allocator::AllocatorPass;
+pub use board::Board;
+pub use board_log::Bases;
+pub use ended::{Ended, FinishRefused};
+pub use open::Opened;
+pub use profile::Profile;
+pub use reader::{ReaderPass, View};
+pub use refusal::ReportError;
+pub use reporter::ReporterPass;

@@ -1,0 +1,229 @@
+//! How a board is opened. Its bases have identities only once they are made, so this is two calls.
+ghost use Rattle.std.specs.Prelude.{◌≡◌, ℕ, ◌+◌, ◌<◌, ◌≤◌, [], List, length, IfOk, OnOk};
+ghost use Rattle.std.specs.List.{All};
+ghost use Rattle.bwe_specs.specs.declared.report.Report.{Report};
+ghost use Rattle.bwe_specs.specs.declared.limits.TheConstants.{MAX_REPORTERS, MAX_READERS};
+ghost use Rattle.board.specs.Reporting.{AreFresh, fresh_pass};
+ghost use Rattle.board.specs.Reading.{IsNewReader};
+ghost use Rattle.board.specs.Allowed.{NamesTables, AreOfOnePlan};
+
+use crate::allocator::AllocatorPass;
+use crate::board::Board;
+use crate::pair::{News, Pair};
+use crate::poster::Poster;
+use crate::profile::Profile;
+use crate::reader::ReaderPass;
+use crate::reporter::ReporterPass;
+use crate::steps::LogState;
+use crate::workshop::Workshop;
+use board_log::{Bases, OpenedLog, OpenedRoll, Roll, WholeLog};
+use bwe_specs::OutOfMemory;
+use demand_book::{Maker, Posted};
+use std::alloc::Global;
+use std::marker::{Model, PhantomData};
+use std::sync::Wait;
+
+/// The bases of a board that has no name yet, with its maker. Contracts see which bases they are, and for how many readers.
+#[derive(Drop)]
+pub struct Opened<M: Maker, N: Profile<M::Table>> {
+    maker: M,
+    reporters: u32,
+    readers: u32,
+    log: OpenedLog,
+    roll: OpenedRoll,
+    of: PhantomData<N>,
+}
+
+impl<M: Maker, N: Profile<M::Table>> Model for Opened<M, N> {
+    ghost use Rattle.std.specs.Prelude.{[]};
+    ghost use Rattle.board.specs.Opening.{Opening, IsOpening};
+
+    ghost Value = { Opening };
+
+    ghost view = { λ opened. record { book = opened.log.seen.book; table = opened.roll.table.shared.table_id; readers = opened.readers } };
+
+    ghost invariant = { λ opened. IsOpening (M.absorbed opened.maker []) (M.table_of (M.plan opened.maker)) (M.plan_tasks (M.plan opened.maker)) (M.plan_links (M.plan opened.maker)) N.belongs N.reporters N.tasks N.links opened.reporters opened.readers };
+}
+
+impl<M: Maker, N: Profile<M::Table>> Opened<M, N> {
+    /// Makes the bases. The first name `N` has to be that of the maker's plan and of so many reporters.
+    ///
+    /// It doesn't wait.
+    pub fn new<R: Wait>(
+        _rt: &R,
+        alloc: Global,
+        maker: M,
+        reporters: u32,
+        readers: u32,
+    ) -> Result<Opened<M, N>, OutOfMemory>
+        requires absorbed { M.absorbed maker [] }
+        requires belongs { NamesTables N.belongs (M.table_of (M.plan maker)) }
+        requires tasks { M.plan_tasks (M.plan maker) ≡ N.tasks }
+        requires links { M.plan_links (M.plan maker) ≡ N.links }
+        requires reporters { reporters ≡ N.reporters }
+        requires few_reporters { reporters ≤ MAX_REPORTERS }
+        requires some_readers { 1 ≤ readers }
+        requires few_readers { readers ≤ MAX_READERS }
+        ensures readers { IfOk result (λ opened. opened.readers ≡ readers) }
+    {
+        Ok(Opened {
+            maker,
+            reporters,
+            readers,
+            log: OpenedLog::new(),
+            roll: OpenedRoll::new(alloc)?,
+            of: PhantomData,
+        })
+    }
+}
+
+type Passes<M, N, B> = (
+    Board<M, N, B>,
+    Vec<ReporterPass<B>>,
+    Vec<ReaderPass<<M as Maker>::Table, N, B>>,
+    AllocatorPass<B>,
+);
+
+impl<M: Maker, N: Profile<M::Table>> Opened<M, N> {
+    /// The board under the names of its bases, with a pass for each reporter's number in their order, the readers' passes and the allocator's.
+    ///
+    /// It may wait only where it is refused.
+    pub fn named<B: Bases, R: Wait>(
+        self,
+        rt: &R,
+        alloc: Global,
+    ) -> Result<Passes<M, N, B>, OutOfMemory>
+        requires book { self.book ≡ B.book }
+        requires table { self.table ≡ B.table }
+        ensures reporters { IfOk result (λ opened. length opened.1.items ≡ N.reporters) }
+        ensures fresh { IfOk result (λ opened. AreFresh opened.1.items) }
+        ensures readers { IfOk result (λ opened. length opened.2.items ≡ self.readers) }
+        ensures new { IfOk result (λ opened. All (IsNewReader M.Table.covers N.belongs) opened.2.items) }
+        ensures allocator { IfOk result (λ opened. opened.3 ≡ []) }
+    {
+        let Opened {
+            mut maker,
+            reporters,
+            readers,
+            log,
+            roll,
+            of: _,
+        } = self;
+        let whole = log.named::<B>();
+        let mut roll = roll.named::<B>();
+        let passes = enroll_all(alloc, reporters, &whole, &mut roll)?;
+        let table = maker.table(alloc)?;
+        let first: Pair<M::Table, N, B> = empty_pair(alloc, &whole, &table)?;
+        let second = empty_pair(alloc, &whole, &table)?;
+        let poster = Poster::new(alloc, first, second, readers as usize)?;
+        match seat_all(alloc, readers, &whole, &table, &poster) {
+            Ok(seats) => {
+                let known = whole.first(0);
+                let shop = Workshop::empty(alloc, maker, whole.first(0));
+                let state = LogState::empty(alloc, whole, roll, poster);
+                Ok((
+                    Board::new(shop, state),
+                    passes,
+                    seats,
+                    AllocatorPass { known },
+                ))
+            }
+            Err(error) => {
+                poster.take(rt);
+                Err(error)
+            }
+        }
+    }
+}
+
+// A pass for each number.
+fn enroll_all<B: Bases>(
+    alloc: Global,
+    reporters: u32,
+    whole: &WholeLog<B>,
+    roll: &mut Roll<B>,
+) -> Result<Vec<ReporterPass<B>>, OutOfMemory>
+    requires whole { whole.now ≡ [] }
+    requires roll { roll.old ≡ record { log = []; members = 0 } }
+    ensures count { IfOk result (λ passes. length passes.items ≡ reporters) }
+    ensures fresh { IfOk result (λ passes. AreFresh passes.items) }
+    ensures roll { OnOk result (roll.new ≡ record { log = []; members = reporters }) }
+{
+    let mut passes = Vec::new(alloc);
+    for number in 0..reporters {
+        let pass = enroll(number, whole, roll);
+        passes.push(pass)?;
+    }
+    Ok(passes)
+}
+
+fn enroll<B: Bases>(number: u32, whole: &WholeLog<B>, roll: &mut Roll<B>) -> ReporterPass<B>
+    requires whole { whole.now ≡ [] }
+    requires roll { roll.old ≡ record { log = []; members = number } }
+    ensures pass { result ≡ fresh_pass number }
+    ensures roll { roll.new ≡ record { log = []; members = number + 1 } }
+{
+    let member = roll.enroll();
+    ReporterPass::new(number, member, whole.first(0))
+}
+
+// The empty log and its table.
+fn empty_pair<T: Posted, N: Profile<T>, B: Bases>(
+    alloc: Global,
+    whole: &WholeLog<B>,
+    table: &T,
+) -> Result<Pair<T, N, B>, OutOfMemory>
+    requires whole { whole.now ≡ [] }
+    requires covers { T.covers table.now ≡ 0 }
+    requires belongs { N.belongs [] table.now }
+    requires one_plan { AreOfOnePlan T.frame T.tasks_of N.belongs N.tasks }
+    ensures pair { IfOk result (λ pair. pair ≡ record { log = []; table = table.now }) }
+{
+    let copy = table.copy(alloc)?;
+    Ok(Pair {
+        log: Vec::new(alloc),
+        table: copy,
+        known: whole.first(0),
+        of: PhantomData,
+    })
+}
+
+// So many readers, each with a copy of its own.
+fn seat_all<T: Posted, N: Profile<T>, B: Bases>(
+    alloc: Global,
+    readers: u32,
+    whole: &WholeLog<B>,
+    table: &T,
+    poster: &Poster<Pair<T, N, B>, News<T, N, B>>,
+) -> Result<Vec<ReaderPass<T, N, B>>, OutOfMemory>
+    requires whole { whole.now ≡ [] }
+    requires covers { T.covers table.now ≡ 0 }
+    requires belongs { N.belongs [] table.now }
+    requires one_plan { AreOfOnePlan T.frame T.tasks_of N.belongs N.tasks }
+    ensures count { IfOk result (λ seats. length seats.items ≡ readers) }
+    ensures new { IfOk result (λ seats. All (IsNewReader T.covers N.belongs) seats.items) }
+{
+    let mut seats = Vec::new(alloc);
+    for _ in 0..readers {
+        let seat = seat(alloc, whole, table, poster)?;
+        seats.push(seat)?;
+    }
+    Ok(seats)
+}
+
+fn seat<T: Posted, N: Profile<T>, B: Bases>(
+    alloc: Global,
+    whole: &WholeLog<B>,
+    table: &T,
+    poster: &Poster<Pair<T, N, B>, News<T, N, B>>,
+) -> Result<ReaderPass<T, N, B>, OutOfMemory>
+    requires whole { whole.now ≡ [] }
+    requires covers { T.covers table.now ≡ 0 }
+    requires belongs { N.belongs [] table.now }
+    requires one_plan { AreOfOnePlan T.frame T.tasks_of N.belongs N.tasks }
+    ensures new { IfOk result (IsNewReader T.covers N.belongs) }
+{
+    let copy = empty_pair(alloc, whole, table)?;
+    let home = poster.reader()?;
+    Ok(ReaderPass::new(home, copy))
+}

@@ -1,0 +1,182 @@
+//! The published pair: a log, and the table of some of its first reports.
+ghost use Rattle.std.specs.Prelude.{◌≡◌, ◌≤◌, ◌++◌, length, take, drop, OnOk, OnErr};
+ghost use Rattle.std.specs.Bool.{OnTrue};
+ghost use Rattle.std.specs.List.{All};
+ghost use mathlib.Core.List.{IsPrefix};
+ghost use Rattle.board.specs.Allowed.{IsAllowed};
+
+use crate::ack::Ack;
+use crate::profile::Profile;
+use board_log::{Bases, Beginning};
+use bwe_specs::{OutOfMemory, Report};
+use demand_book::Posted;
+use left_right::Absorb;
+use std::alloc::{AllocError, Global};
+use std::collections::LinkedList;
+use std::marker::{Model, PhantomData};
+
+/// A log, and a table that belongs to its first reports. No value of it is made.
+pub struct Posting<T> {
+    pub log: LinkedList<Report>,
+    pub table: T,
+}
+
+/// A log, and the table of its first reports, as many as it covers. Contracts see it as these two.
+#[derive(Drop)]
+pub struct Pair<T: Posted, N: Profile<T>, B: Bases> {
+    pub(crate) log: Vec<Report>,
+    pub(crate) table: T,
+    pub(crate) known: Beginning<B>,
+    pub(crate) of: PhantomData<N>,
+}
+
+impl<T: Posted, N: Profile<T>, B: Bases> Model for Pair<T, N, B> {
+    ghost use Rattle.board.specs.declared.pair.Posting.{Posting};
+    ghost use Rattle.board.specs.Pair.{IsPair};
+
+    ghost Value = { Posting T };
+
+    ghost view = { λ pair. record { log = pair.log.items; table = pair.table } };
+
+    ghost invariant = { λ pair. IsPair T.covers T.frame T.tasks_of N.belongs N.reporters N.tasks N.links pair.known pair.log.items pair.table };
+}
+
+/// What a post brings: the reports from a place on, and the table. Contracts see the pair that it makes.
+#[derive(Drop)]
+pub struct News<T: Posted, N: Profile<T>, B: Bases> {
+    pub(crate) alloc: Global,
+    pub(crate) from: u64,
+    pub(crate) more: Vec<Report>,
+    pub(crate) table: T,
+    pub(crate) known: Beginning<B>,
+    pub(crate) of: PhantomData<N>,
+}
+
+impl<T: Posted, N: Profile<T>, B: Bases> Model for News<T, N, B> {
+    ghost use Rattle.board.specs.declared.pair.Posting.{Posting};
+    ghost use Rattle.board.specs.Pair.{IsNews};
+
+    ghost Value = { Posting T };
+
+    ghost view = { λ news. record { log = news.known; table = news.table } };
+
+    ghost invariant = { λ news. IsNews T.covers N.belongs N.reporters N.tasks N.links news.from news.more.items news.known news.table };
+}
+
+impl<T: Posted, N: Profile<T>, B: Bases> Pair<T, N, B> {
+    // Takes the log to all that is known of it here, and the table to that one by their change.
+    // `more` is what the known log has from the place `from` on, where this log ends.
+    fn follow(
+        &mut self,
+        alloc: Global,
+        from: u64,
+        more: &[Report],
+        known: &Beginning<B>,
+        table: &T,
+    ) -> Result<(), OutOfMemory>
+        requires from { from ≤ length known.now }
+        requires more { more.now ≡ drop from known.now }
+        requires covers { T.covers table.now ≤ length known.now }
+        requires belongs { N.belongs (take (T.covers table.now) known.now) table.now }
+        requires allowed { All (IsAllowed N.reporters N.tasks N.links) known.now }
+        ensures ok { OnOk result (self.new ≡ record { log = known.now; table = table.now }) }
+        ensures refused { OnErr result (self.new ≡ self.old) }
+        ensures log { IsPrefix self.old.log self.new.log }
+    {
+        if self.log.len() as u64 != from || !self.known.begins(known) {
+            return Err(OutOfMemory);
+        }
+        let held = self.log.len();
+        let change = self.table.change_to(alloc, table)?;
+        self.log.extend_from_slice(more)?;
+        match self.table.apply(alloc, &change) {
+            Ok(()) => {
+                self.known = known.copy();
+                Ok(())
+            }
+            Err(error) => {
+                self.log.truncate(held);
+                Err(error)
+            }
+        }
+    }
+
+    // Takes over a later pair. One that is not later is refused.
+    fn catch_up(&mut self, alloc: Global, later: &Pair<T, N, B>) -> Result<(), OutOfMemory>
+        ensures ok { OnOk result (self.new ≡ later.now) }
+        ensures refused { OnErr result (self.new ≡ self.old) }
+        ensures log { IsPrefix self.old.log self.new.log }
+        ensures floor { T.covers self.old.table ≤ T.covers self.new.table }
+    {
+        let from = self.log.len();
+        if from > later.log.len() || later.table.prefix() < self.table.prefix() {
+            return Err(OutOfMemory);
+        }
+        self.follow(
+            alloc,
+            from as u64,
+            &later.log[from..],
+            &later.known,
+            &later.table,
+        )
+    }
+
+    /// Takes over the published pair where something was published since. Where memory is wanting it stays as it is.
+    ///
+    /// Each publish raises what the table covers, so where nothing was published it costs one comparison.
+    pub(crate) fn refresh(&mut self, alloc: Global, published: &Pair<T, N, B>)
+        ensures log { IsPrefix self.old.log self.new.log }
+        ensures floor { T.covers self.old.table ≤ T.covers self.new.table }
+    {
+        if published.table.prefix() > self.table.prefix() {
+            let _ = self.catch_up(alloc, published);
+        }
+    }
+
+    /// Whether the log begins with the ack's, and the table covers all of that.
+    pub(crate) fn covers(&self, ack: &Ack<B>) -> bool
+        ensures log { OnTrue result (IsPrefix ack.now self.now.log) }
+        ensures covers { OnTrue result (length ack.now ≤ T.covers self.now.table) }
+    {
+        ack.prefix() <= self.table.prefix() && ack.known.begins(&self.known)
+    }
+
+    /// Takes over a later pair that covers the ack. Another pair is refused.
+    pub(crate) fn catch_up_to(
+        &mut self,
+        alloc: Global,
+        later: &Pair<T, N, B>,
+        ack: &Ack<B>,
+    ) -> Result<(), OutOfMemory>
+        ensures told { OnOk result (IsPrefix ack.now self.new.log) }
+        ensures covers { OnOk result (length ack.now ≤ T.covers self.new.table) }
+        ensures log { IsPrefix self.old.log self.new.log }
+        ensures floor { T.covers self.old.table ≤ T.covers self.new.table }
+        ensures refused { OnErr result (self.new ≡ self.old) }
+    {
+        if !later.covers(ack) {
+            return Err(OutOfMemory);
+        }
+        self.catch_up(alloc, later)
+    }
+}
+
+impl<T: Posted, N: Profile<T>, B: Bases> Absorb<News<T, N, B>> for Pair<T, N, B> {
+    type State = Posting<T>;
+
+    ghost state = { λ pair. pair };
+
+    ghost applied = { λ before news. news };
+
+    fn absorb_first(
+        &mut self,
+        news: &News<T, N, B>,
+        _other: &Pair<T, N, B>,
+    ) -> Result<(), AllocError> {
+        let more = news.more.as_slice();
+        match self.follow(news.alloc, news.from, more, &news.known, &news.table) {
+            Ok(()) => Ok(()),
+            Err(_) => Err(AllocError),
+        }
+    }
+}

@@ -1,0 +1,234 @@
+//! Readers of the published pair. None of their calls waits or takes a lock.
+ghost use Rattle.std.specs.Prelude.{◌≡◌, ◌+◌, ◌-◌, ◌^◌, ◌<◌, ◌≤◌, ◌↔◌, length, take, min, slice_get, IfSome, IsNone, OnOk, OnErr};
+ghost use Rattle.std.specs.List.{All};
+ghost use mathlib.Core.List.{IsPrefix};
+ghost use Rattle.board.specs.Allowed.{IsAllowed};
+
+use crate::ack::Ack;
+use crate::pair::Pair;
+use crate::profile::Profile;
+use board_log::Bases;
+use bwe_specs::{OutOfMemory, Report};
+use crossbeam_utils::rule::Unruled;
+use demand_book::Posted;
+use left_right::reader::Reader;
+use std::alloc::Global;
+use std::marker::Model;
+
+type Home<T, N, B> = Reader<Pair<T, N, B>, (), Unruled>;
+
+/// A reader's pass: a copy of its own of a log and of the table of its first reports, and how often it has read.
+///
+/// The log is what the pass has seen. How many reports the table covers is its floor.
+#[derive(Drop)]
+pub struct ReaderPass<T: Posted, N: Profile<T>, B: Bases> {
+    // None only while a call has it
+    home: Option<Home<T, N, B>>,
+    copy: Pair<T, N, B>,
+    reads: u64,
+}
+
+impl<T: Posted, N: Profile<T>, B: Bases> Model for ReaderPass<T, N, B> {
+    ghost use Rattle.board.specs.Reading.{Reading};
+
+    ghost Value = { Reading T };
+
+    ghost view = { λ pass. record { log = pass.copy.log; table = pass.copy.table; reads = pass.reads } };
+}
+
+/// What a read shows: the log and the table of its pass.
+#[derive(Drop)]
+pub struct View<'a, T: Posted, N: Profile<T>, B: Bases> {
+    copy: &'a Pair<T, N, B>,
+}
+
+impl<T: Posted, N: Profile<T>, B: Bases> ReaderPass<T, N, B> {
+    ghost use Rattle.std.specs.Prelude.{◌≡◌, ◌+◌, ◌-◌, ◌^◌, ◌<◌, ◌≤◌, length, take, min, OnOk, OnErr, ⊤};
+    ghost use Rattle.std.specs.Borrow.{sem};
+    ghost use Rattle.std.specs.List.{All};
+    ghost use mathlib.Core.List.{IsPrefix};
+    ghost use mathlib.Core.Option.{none};
+    ghost use denote.Follow.{follows_so};
+    ghost use Rattle.board.specs.Allowed.{IsAllowed};
+    ghost use Rattle.board.specs.contracts.reader.ReaderPass.{the_row};
+
+    // A pass that has read nothing yet.
+    pub(crate) fn new(home: Home<T, N, B>, copy: Pair<T, N, B>) -> ReaderPass<T, N, B>
+        ensures log { result.log ≡ copy.log }
+        ensures table { result.table ≡ copy.table }
+        ensures reads { result.reads ≡ 0 }
+    {
+        ReaderPass {
+            home: Some(home),
+            copy,
+            reads: 0,
+        }
+    }
+
+    /// How many reports the table covers that was read or learnt last.
+    pub fn floor(&self) -> u64
+        ensures floor { result ≡ T.covers self.now.table }
+        ensures within { result ≤ length self.now.log }
+        ensures table { N.belongs (take result self.now.log) self.now.table }
+    {
+        let copy = &self.copy;
+        let _ = &copy.log;
+        copy.table.prefix()
+    }
+
+    /// How often it has read. It stays at the last value once it is there.
+    pub fn reads(&self) -> u64
+        ensures reads { result ≡ self.now.reads }
+    {
+        self.reads
+    }
+
+    /// Enters a published copy, brings the pass up to date by what was published since, and shows what it then has.
+    ///
+    /// It is never refused. Where there is no memory for what is newer, it shows again what the pass had.
+    /// Where nothing was published since, it takes no memory and copies nothing; else it copies the reports that are new, and makes and applies one change of the table.
+    pub fn read(&mut self, alloc: Global) -> View<'_, T, N, B>
+        // The pass has the log and the table that are shown, and one read more.
+        ensures* after { sem 𝓛 (follows_so (the_row T.row N.row B.row T.Frame.row T.Change.row T.Posted N.Profile B.Bases) (the_row T.row N.row B.row T.Frame.row T.Change.row T.Posted N.Profile B.Bases) self.entry.ghost_name none (λ _ _. ⊤) (λ pass. (pass.log ≡ result.copy.now.log) × (pass.table ≡ result.copy.now.table) × (pass.reads ≡ min (self.old.reads + 1) (2 ^ 64 - 1)))) }
+        ensures log { IsPrefix self.old.log result.copy.now.log }
+        ensures floor { T.covers self.old.table ≤ T.covers result.copy.now.table }
+        // What is shown: the table of the log's first reports, as many as it covers.
+        ensures within { T.covers result.copy.now.table ≤ length result.copy.now.log }
+        ensures table { N.belongs (take (T.covers result.copy.now.table) result.copy.now.log) result.copy.now.table }
+        ensures allowed { All (IsAllowed N.reporters N.tasks N.links) result.copy.now.log }
+    {
+        self.refresh(alloc);
+        self.view()
+    }
+
+    /// Sees at least what the ack holds: it enters a published copy and brings the pass up to date where that is needed.
+    ///
+    /// It costs as `read` does, and nothing where the pass covers the ack already. After a refusal the pass is as it was.
+    pub fn learn(&mut self, alloc: Global, ack: &Ack<B>) -> Result<(), OutOfMemory>
+        ensures told { OnOk result (IsPrefix ack.now self.new.log) }
+        ensures covers { OnOk result (length ack.now ≤ T.covers self.new.table) }
+        ensures log { IsPrefix self.old.log self.new.log }
+        ensures floor { T.covers self.old.table ≤ T.covers self.new.table }
+        ensures refused { OnErr result (self.new ≡ self.old) }
+        ensures reads { self.new.reads ≡ self.old.reads }
+    {
+        if self.copy.covers(ack) {
+            return Ok(());
+        }
+        let Some(reader) = self.home.take() else {
+            return Err(OutOfMemory);
+        };
+        let (reader, learnt) = match reader.enter_as::<Unruled>() {
+            Ok(reading) => {
+                let learnt = self.copy.catch_up_to(alloc, reading.get(), ack);
+                (reading.leave(), learnt)
+            }
+            Err(reader) => (reader, Err(OutOfMemory)),
+        };
+        self.home = Some(reader);
+        learnt
+    }
+
+    // Enters a published copy, and counts the read.
+    fn refresh(&mut self, alloc: Global)
+        ensures log { IsPrefix self.old.log self.new.log }
+        ensures floor { T.covers self.old.table ≤ T.covers self.new.table }
+        ensures reads { self.new.reads ≡ min (self.old.reads + 1) (2 ^ 64 - 1) }
+    {
+        if let Some(reader) = self.home.take() {
+            self.home = Some(enter_and_leave(alloc, reader, &mut self.copy));
+        }
+        self.reads = self.reads.saturating_add(1);
+    }
+
+    // What it has.
+    fn view(&self) -> View<'_, T, N, B>
+        ensures log { result.copy.now.log ≡ self.now.log }
+        ensures table { result.copy.now.table ≡ self.now.table }
+        ensures within { T.covers self.now.table ≤ length self.now.log }
+        ensures belongs { N.belongs (take (T.covers self.now.table) self.now.log) self.now.table }
+        ensures allowed { All (IsAllowed N.reporters N.tasks N.links) self.now.log }
+    {
+        let copy = &self.copy;
+        let _ = &copy.log;
+        View { copy }
+    }
+}
+
+// Enters a published copy and takes it over where it is newer.
+fn enter_and_leave<T: Posted, N: Profile<T>, B: Bases>(
+    alloc: Global,
+    reader: Home<T, N, B>,
+    copy: &mut Pair<T, N, B>,
+) -> Home<T, N, B>
+    ensures log { IsPrefix copy.old.log copy.new.log }
+    ensures floor { T.covers copy.old.table ≤ T.covers copy.new.table }
+{
+    match reader.enter_as::<Unruled>() {
+        Ok(reading) => {
+            copy.refresh(alloc, reading.get());
+            reading.leave()
+        }
+        Err(reader) => reader,
+    }
+}
+
+impl<'a, T: Posted, N: Profile<T>, B: Bases> View<'a, T, N, B> {
+    /// How many reports the table covers.
+    pub fn prefix(&self) -> u64
+        ensures prefix { result ≡ T.covers self.now.copy.now.table }
+        ensures within { result ≤ length self.now.copy.now.log }
+        ensures table { N.belongs (take result self.now.copy.now.log) self.now.copy.now.table }
+    {
+        let copy = self.copy;
+        let _ = &copy.log;
+        copy.table.prefix()
+    }
+
+    /// How many reports the log has that the pass has seen.
+    pub fn log_length(&self) -> u64
+        ensures length { result ≡ length self.now.copy.now.log }
+        ensures covers { T.covers self.now.copy.now.table ≤ result }
+    {
+        let copy = self.copy;
+        copy.log.len() as u64
+    }
+
+    /// The report at a place of the log, counted from 0.
+    pub fn entry(&self, place: u64) -> Option<Report>
+        ensures entry { result ≡ slice_get self.now.copy.now.log place }
+        ensures none { IsNone result ↔ (length self.now.copy.now.log ≤ place) }
+        ensures allowed { IfSome result (IsAllowed N.reporters N.tasks N.links) }
+    {
+        let copy = self.copy;
+        copy.log.get(place as usize).copied()
+    }
+
+    /// The limit of a task, in kilobits per second.
+    pub fn limit(&self, task: u32) -> u64
+        requires task { task < N.tasks }
+        ensures limit { result ≡ T.limit_at self.now.copy.now.table task }
+    {
+        let copy = self.copy;
+        let _ = &copy.log;
+        copy.table.limit(task)
+    }
+
+    /// The table's total, in kilobits per second.
+    pub fn total(&self) -> u64
+        ensures total { result ≡ T.total_of self.now.copy.now.table }
+    {
+        let copy = self.copy;
+        copy.table.total()
+    }
+
+    /// The table, which belongs to the log's first `prefix` reports.
+    pub fn table(&self) -> &T
+        ensures table { result.now ≡ self.now.copy.now.table }
+        ensures belongs { N.belongs (take (T.covers result.now) self.now.copy.now.log) result.now }
+        ensures tasks { T.tasks_of (T.frame result.now) ≡ N.tasks }
+    {
+        let copy = self.copy;
+        &copy.table
+    }
+}

@@ -1,0 +1,348 @@
+//! What the log lock holds, and the steps on it. Nothing else adds to the log or publishes.
+ghost use Rattle.std.specs.Prelude.{◌≡◌, ◌<◌, ◌≤◌, ◌↔◌, IsTrue, ◌++◌, [], List, length, take, drop, max, IfOk, IfErr, OnOk, OnErr};
+ghost use Rattle.std.specs.List.{All, sum_by};
+ghost use mathlib.Core.List.{IsPrefix};
+ghost use Rattle.bwe_specs.specs.declared.report.Report.{Report};
+ghost use Rattle.bwe_specs.specs.declared.limits.TheConstants.{MAX_REPORTS};
+ghost use Rattle.board_log.specs.Roll.{IsBy, placed, own_of};
+ghost use Rattle.board.specs.Allowed.{IsAllowed};
+ghost use Rattle.board.specs.Refusals.{IsRefusalAt};
+ghost use Rattle.board.specs.Reporting.{AreInOrder};
+ghost use Rattle.board.specs.Standing.{IsRaised};
+
+use crate::ack::Ack;
+use crate::ended::{Ended, FinishRefused};
+use crate::pair::{News, Pair};
+use crate::poster::Poster;
+use crate::profile::Profile;
+use crate::refusal::ReportError;
+use crate::reporter::ReporterPass;
+use crate::workshop::Workshop;
+use board_log::{Bases, Beginning, Roll, WholeLog};
+use bwe_specs::{MAX_REPORTS, OutOfMemory, Report};
+use demand_book::{Maker, Posted};
+use std::alloc::Global;
+use std::marker::{Model, PhantomData};
+use std::sync::Wait;
+
+type Desk<T, N, B> = Poster<Pair<T, N, B>, News<T, N, B>>;
+
+/// The log, what adds to it, and what posts its tables. Contracts see the log, the posted number and the pending number.
+///
+/// The pending number is how many reports the table covers that a refused publish left waiting, and the posted number where none waits.
+pub struct LogState<M: Maker, N: Profile<M::Table>, B: Bases> {
+    log: Vec<Report>,
+    whole: WholeLog<B>,
+    roll: Roll<B>,
+    poster: Desk<M::Table, N, B>,
+    pending: u64,
+    // how many reports of the log are published or wait to be
+    laid: u64,
+}
+
+impl<M: Maker, N: Profile<M::Table>, B: Bases> Model for LogState<M, N, B> {
+    ghost use Rattle.board.specs.Standing.{Standing, IsStanding};
+
+    ghost Value = { Standing };
+
+    ghost view = { λ state. record { log = state.log.items; posted = M.Table.covers state.poster.shown.table; pending = state.pending } };
+
+    ghost invariant = { λ state. IsStanding M.Table.covers N.reporters N.tasks N.links state.log.items state.whole state.roll state.poster state.pending state.laid };
+}
+
+/// Makes the table the posted one, unless a later one is posted or waits. It may wait for readers to leave a published copy.
+///
+/// A table that a refused publish left waiting is published first, as a post of its own.
+pub fn post<M: Maker, N: Profile<M::Table>, B: Bases, R: Wait>(
+    rt: &R,
+    alloc: Global,
+    state: &mut LogState<M, N, B>,
+    table: M::Table,
+) -> Result<u64, OutOfMemory>
+    requires covers { M.Table.covers table ≤ length state.old.log }
+    requires belongs { N.belongs (take (M.Table.covers table) state.old.log) table }
+    ensures log { state.new.log ≡ state.old.log }
+    ensures answer { IfOk result (λ prefix. prefix ≡ max state.old.pending (M.Table.covers table)) }
+    ensures posted { IfOk result (λ prefix. state.new.posted ≡ prefix) }
+    ensures none_waits { IfOk result (λ prefix. state.new.pending ≡ prefix) }
+    ensures refused { OnErr result (IsRaised state.old.posted state.new.posted (max state.old.pending (M.Table.covers table))) }
+    ensures waits { OnErr result (IsRaised state.old.pending state.new.pending (max state.old.pending (M.Table.covers table))) }
+{
+    state.publish(rt)?;
+    if table.prefix() > state.pending {
+        state.lay(alloc, table)?;
+        state.publish(rt)?;
+    }
+    Ok(state.pending)
+}
+
+impl<M: Maker, N: Profile<M::Table>, B: Bases> LogState<M, N, B> {
+    // The empty log, whose table is posted.
+    pub(crate) fn empty(
+        alloc: Global,
+        whole: WholeLog<B>,
+        roll: Roll<B>,
+        poster: Desk<M::Table, N, B>,
+    ) -> LogState<M, N, B>
+        requires whole { whole ≡ [] }
+        requires roll { roll ≡ record { log = []; members = N.reporters } }
+        requires shown { M.Table.covers poster.shown.table ≡ 0 }
+        requires waiting { poster.waiting ≡ [] }
+        ensures empty { result ≡ record { log = []; posted = 0; pending = 0 } }
+    {
+        LogState {
+            log: Vec::new(alloc),
+            whole,
+            roll,
+            poster,
+            pending: 0,
+            laid: 0,
+        }
+    }
+
+    /// Adds the reports of a pass at the end of the log, and answers the first place.
+    ///
+    /// It costs by the piece, whatever the log's length.
+    #[tactic(auto, using(std::proofs::lemmas::List::drop_at))]
+    pub(crate) fn append(
+        &mut self,
+        alloc: Global,
+        pass: &mut ReporterPass<B>,
+        reports: &[Report],
+    ) -> Result<u64, ReportError>
+        requires by { All (IsBy pass.old.number) reports.now }
+        requires allowed { All (IsAllowed N.reporters N.tasks N.links) reports.now }
+        ensures first { IfOk result (λ first. first ≡ length self.old.log) }
+        ensures log { OnOk result (self.new.log ≡ self.old.log ++ reports.now) }
+        ensures room { OnOk result (length self.new.log ≤ MAX_REPORTS) }
+        ensures unchanged { OnErr result (self.new.log ≡ self.old.log) }
+        ensures posted { self.new.posted ≡ self.old.posted }
+        ensures pending { self.new.pending ≡ self.old.pending }
+        // What the pass knows afterwards.
+        ensures number { pass.new.number ≡ pass.old.number }
+        ensures seen { IsPrefix pass.old.seen pass.new.seen }
+        ensures whole { OnOk result (pass.new.seen ≡ self.new.log) }
+        ensures placed { IfOk result (λ first. drop first pass.new.seen ≡ reports.now) }
+        ensures own { IfOk result (λ first. pass.new.own ≡ pass.old.own ++ placed pass.old.number first reports.now) }
+        ensures exact { OnOk result (pass.new.own ≡ own_of pass.old.number self.new.log) }
+        ensures kept { OnErr result (pass.new.own ≡ pass.old.own) }
+        ensures refused { IfErr result (IsRefusalAt pass.new.seen (length reports.now)) }
+    {
+        let held = self.log.len() as u64;
+        let whole = self.whole.first(held);
+        if !pass.known.begins(&whole) {
+            return Err(ReportError::OutOfMemory);
+        }
+        if reports.len() as u64 > MAX_REPORTS - held {
+            pass.see(whole);
+            return Err(ReportError::Full { held });
+        }
+        let piece = Vec::from_slice(alloc, reports)?;
+        grow(&mut self.log, &mut self.whole, &piece)?;
+        let whole = self.whole.first(self.log.len() as u64);
+        pass.send(&mut self.roll, &piece, whole);
+        Ok(held)
+    }
+
+    /// An ack of what is posted, if that covers what is known.
+    pub(crate) fn ack(&self, known: &Beginning<B>) -> Result<Ack<B>, OutOfMemory>
+        ensures ack { IfOk result (λ ack. ack ≡ take self.now.posted self.now.log) }
+        ensures prefix { IfOk result (λ ack. length ack ≡ self.now.posted) }
+        ensures known { IfOk result (λ ack. IsPrefix known.now ack) }
+    {
+        let whole = self.whole.first(self.log.len() as u64);
+        let posted = self.posted();
+        if !known.begins(&whole) || known.len() > posted {
+            return Err(OutOfMemory);
+        }
+        let known = whole.first(posted);
+        Ok(Ack { known })
+    }
+
+    /// Whether the log has reports that the posted table doesn't cover.
+    pub(crate) fn is_behind(&self) -> bool
+        ensures behind { IsTrue result ↔ (self.now.posted < length self.now.log) }
+    {
+        self.posted() < self.log.len() as u64
+    }
+
+    /// Lets the workshop see the log as it stands.
+    pub(crate) fn show(&self, shop: &mut Workshop<M, N, B>) -> Result<(), OutOfMemory>
+        ensures ok { OnOk result (shop.new ≡ self.now.log) }
+        ensures refused { OnErr result (shop.new ≡ shop.old) }
+    {
+        let log = &self.log;
+        let whole = self.whole.first(log.len() as u64);
+        shop.look(whole, log.as_slice())
+    }
+
+    /// Posts the table of all that the workshop has seen.
+    pub(crate) fn post_made<R: Wait>(
+        &mut self,
+        rt: &R,
+        alloc: Global,
+        shop: &Workshop<M, N, B>,
+        table: M::Table,
+    ) -> Result<u64, OutOfMemory>
+        requires covers { M.Table.covers table ≡ length shop.now }
+        requires belongs { N.belongs shop.now table }
+        ensures log { self.new.log ≡ self.old.log }
+        ensures posted { IfOk result (λ prefix. prefix ≡ self.new.posted) }
+        ensures covered { IfOk result (λ prefix. length shop.now ≤ prefix) }
+        ensures raised { self.old.posted ≤ self.new.posted }
+    {
+        let whole = self.whole.first(self.log.len() as u64);
+        if !shop.is_seen_in(&whole) {
+            return Err(OutOfMemory);
+        }
+        post(rt, alloc, self, table)
+    }
+
+    /// The whole log and its table, once each pass is compared with the log.
+    #[tactic(auto, using(crate::proofs::Totals::all_sent))]
+    pub(crate) fn finish<R: Wait>(
+        &mut self,
+        rt: &R,
+        alloc: Global,
+        shop: &mut Workshop<M, N, B>,
+        mut passes: Vec<ReporterPass<B>>,
+    ) -> Result<Ended<M::Table, B>, FinishRefused<B>>
+        requires count { length passes.items ≡ N.reporters }
+        requires order { AreInOrder passes.items }
+        ensures log { self.new.log ≡ self.old.log }
+        ensures posted { self.old.posted ≤ self.new.posted }
+        ensures whole { IfOk result (λ ended. ended.ack ≡ self.old.log) }
+        ensures length { IfOk result (λ ended. ended.length ≡ length self.old.log) }
+        ensures sent { IfOk result (λ ended. ended.length ≡ sum_by (λ pass. length pass.own) passes.items) }
+        ensures exact { OnOk result (All (λ pass. pass.own ≡ own_of pass.number self.old.log) passes.items) }
+        ensures allowed { All (IsAllowed N.reporters N.tasks N.links) self.old.log }
+        ensures covers { IfOk result (λ ended. M.Table.covers ended.table ≡ ended.length) }
+        ensures table { IfOk result (λ ended. N.belongs self.old.log ended.table) }
+        ensures refused { IfErr result (λ refused. refused.passes.items ≡ passes.items) }
+    {
+        compare_all(&mut self.roll, passes.as_mut_slice());
+        let length = self.log.len() as u64;
+        let ack = Ack {
+            known: self.whole.first(length),
+        };
+        match self.last_table(rt, alloc, shop) {
+            Ok(table) => Ok(Ended { ack, length, table }),
+            Err(_) => Err(FinishRefused { passes }),
+        }
+    }
+
+    /// Ends the writer. It waits for readers to leave.
+    pub(crate) fn close<R: Wait>(self, rt: &R) {
+        let LogState {
+            log,
+            whole,
+            roll,
+            poster,
+            pending: _,
+            laid: _,
+        } = self;
+        drop((log, whole, roll));
+        poster.take(rt);
+    }
+
+    // How many reports the posted table covers.
+    fn posted(&self) -> u64
+        ensures posted { result ≡ self.now.posted }
+        ensures within { result ≤ length self.now.log }
+    {
+        let poster = &self.poster;
+        let pair = poster.shown();
+        pair.table.prefix()
+    }
+
+    // Publishes what waits.
+    fn publish<R: Wait>(&mut self, rt: &R) -> Result<(), OutOfMemory>
+        ensures log { self.new.log ≡ self.old.log }
+        ensures pending { self.new.pending ≡ self.old.pending }
+        ensures ok { OnOk result (self.new.posted ≡ self.old.pending) }
+        ensures refused { OnErr result (self.new.posted ≡ self.old.posted) }
+        ensures below { self.old.posted ≤ self.old.pending }
+    {
+        self.poster.publish(rt)
+    }
+
+    // Lays a table beside the log as it stands, to be published next. Only what was not laid before is copied.
+    fn lay(&mut self, alloc: Global, table: M::Table) -> Result<(), OutOfMemory>
+        requires later { self.old.pending ≤ M.Table.covers table }
+        requires covers { M.Table.covers table ≤ length self.old.log }
+        requires belongs { N.belongs (take (M.Table.covers table) self.old.log) table }
+        ensures log { self.new.log ≡ self.old.log }
+        ensures posted { self.new.posted ≡ self.old.posted }
+        ensures ok { OnOk result (self.new.pending ≡ M.Table.covers table) }
+        ensures refused { OnErr result (self.new.pending ≡ self.old.pending) }
+    {
+        let from = self.laid;
+        let len = self.log.len() as u64;
+        let more = Vec::from_slice(alloc, &self.log[from as usize..])?;
+        let pending = table.prefix();
+        let news = News {
+            alloc,
+            from,
+            more,
+            table,
+            known: self.whole.first(len),
+            of: PhantomData,
+        };
+        if self.poster.append(news).is_err() {
+            return Err(OutOfMemory);
+        }
+        self.pending = pending;
+        self.laid = len;
+        Ok(())
+    }
+
+    // Posts the table of the whole log, and gives it.
+    fn last_table<R: Wait>(
+        &mut self,
+        rt: &R,
+        alloc: Global,
+        shop: &mut Workshop<M, N, B>,
+    ) -> Result<M::Table, OutOfMemory>
+        ensures log { self.new.log ≡ self.old.log }
+        ensures posted { self.old.posted ≤ self.new.posted }
+        ensures covers { IfOk result (λ table. M.Table.covers table ≡ length self.old.log) }
+        ensures belongs { IfOk result (N.belongs self.old.log) }
+    {
+        self.show(shop)?;
+        let table = shop.solve(alloc)?;
+        let copy = table.copy(alloc)?;
+        self.post_made(rt, alloc, shop, copy)?;
+        Ok(table)
+    }
+}
+
+// Compares each pass with the log.
+fn compare_all<B: Bases>(roll: &mut Roll<B>, passes: &mut [ReporterPass<B>])
+    ensures roll { roll.new ≡ roll.old }
+    ensures passes { passes.new ≡ passes.old }
+    ensures exact { All (λ pass. pass.own ≡ own_of pass.number roll.old.log) passes.old }
+{
+    for pass in passes.iter_mut() {
+        pass.compare(roll);
+    }
+}
+
+// Adds a piece at the end of the log and of its history, or to neither.
+fn grow<B: Bases>(
+    log: &mut Vec<Report>,
+    whole: &mut WholeLog<B>,
+    piece: &Vec<Report>,
+) -> Result<(), OutOfMemory>
+    requires whole { whole.old ≡ log.old.items }
+    ensures whole { whole.new ≡ log.new.items }
+    ensures ok { OnOk result (log.new.items ≡ log.old.items ++ piece.now.items) }
+    ensures refused { OnErr result (log.new.items ≡ log.old.items) }
+{
+    let held = log.len();
+    log.extend_from_slice(piece.as_slice())?;
+    if !whole.append(piece) {
+        log.truncate(held);
+        return Err(OutOfMemory);
+    }
+    Ok(())
+}
