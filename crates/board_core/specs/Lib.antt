@@ -1,2 +1,3 @@
 pub mod CoreRun
+pub mod Laws
 pub mod Core

@@ -83,6 +83,7 @@ impl<M: Maker> CoreState<M> {
         ensures full { (result ≡ Err (CoreError.Full (length self.old.state.log))) ↔ IsOverfull self.old.state event }
         ensures plan { M.plan self.new.maker ≡ M.plan self.old.maker }
         ensures reporters { self.new.reporters ≡ self.old.reporters }
+        ensures readers { length self.new.state.floors ≡ length self.old.state.floors }
     {
         match event {
             CoreEvent::Report { reporter, reports } => self.report(reporter, &reports),
@@ -102,6 +103,7 @@ impl<M: Maker> CoreState<M> {
         ensures full { (result ≡ Err (CoreError.Full (length self.old.state.log)))
             ↔ IsOverfull self.old.state (CoreEvent.Report reporter piece.now) }
         ensures maker { self.new.maker ≡ self.old.maker }
+        ensures floors { self.new.state.floors ≡ self.old.state.floors }
         ensures reporters { self.new.reporters ≡ self.old.reporters }
     {
         let held = self.log.len() as u64;
@@ -118,6 +120,7 @@ impl<M: Maker> CoreState<M> {
         ensures run { Steps (λ reports. M.Table.total_of (M.table_of (M.plan self.old.maker) reports))
             self.old.state (CoreEvent.Post upto) result self.new.state }
         ensures plan { M.plan self.new.maker ≡ M.plan self.old.maker }
+        ensures floors { self.new.state.floors ≡ self.old.state.floors }
         ensures reporters { self.new.reporters ≡ self.old.reporters }
     {
         let prefix = upto.max(self.taken).min(self.log.len() as u64);
