@@ -1,0 +1,123 @@
+//! A table of limits.
+
+ghost use Rattle.std.specs.Prelude.{◌≡◌, ◌<◌, ◌≤◌, ◌^◌, List, length, slice_index, sum_by, IfOk};
+ghost use Rattle.bwe_specs.specs.Allocation.{Table};
+ghost use Rattle.limit_table.specs.Tables.{Frame, Change, IsTable, Leads, frame_of, total_of};
+
+use crate::change::{TableChange, change_between};
+use crate::line::{GroupLine, copy_lines};
+use bwe_specs::{Closing, OutOfMemory};
+use demand_book::Posted;
+use std::alloc::Global;
+use std::marker::Model;
+
+/// Limits, amounts and loads in kilobits per second, for the demands and capacities after the first `prefix` reports.
+///
+/// Limits are by task, lines by group and loads by link. Closings stand in their order.
+/// All groups get at most 20,000,000,000,000,000 together.
+#[derive(Debug, Drop)]
+pub struct LimitTable {
+    pub prefix: u64,
+    pub limits: Vec<u64>,
+    pub groups: Vec<GroupLine>,
+    pub loads: Vec<u64>,
+    pub closings: Vec<Closing>,
+}
+
+impl Model for LimitTable {
+    ghost use Rattle.bwe_specs.specs.Allocation.{Table};
+    ghost use Rattle.limit_table.specs.Tables.{IsTable};
+
+    ghost Value = { Table };
+
+    ghost view = { λ table. record {
+      prefix = table.prefix;
+      limits = table.limits.items;
+      groups = table.groups.items;
+      loads = table.loads.items;
+      closings = table.closings.items;
+    } };
+
+    ghost invariant = { λ table. IsTable (record {
+      prefix = table.prefix;
+      limits = table.limits.items;
+      groups = table.groups.items;
+      loads = table.loads.items;
+      closings = table.closings.items;
+    }) };
+}
+
+/// How many tasks, path groups of each group, and links a table has. No value of it is made: clauses speak of it.
+pub struct TableFrame;
+
+impl Model for TableFrame {
+    ghost use Rattle.std.specs.Prelude.{[]};
+    ghost use Rattle.limit_table.specs.Tables.{Frame};
+
+    ghost Value = { Frame };
+
+    ghost view = { λ _. record { tasks = 0; path_groups = []; links = 0 } };
+}
+
+impl Posted for LimitTable {
+    type Frame = TableFrame;
+
+    ghost frame = { frame_of };
+
+    ghost tasks_of = { λ frame. frame.tasks };
+
+    ghost covers = { λ table. table.prefix };
+
+    ghost limit_at = { λ table task. slice_index table.limits task };
+
+    ghost total_of = { total_of };
+
+    type Change = TableChange;
+
+    ghost leads = { Leads };
+
+    fn prefix(&self) -> u64 {
+        self.prefix
+    }
+
+    fn limit(&self, task: u32) -> u64 {
+        self.limits[task as usize]
+    }
+
+    fn total(&self) -> u64 {
+        total_in(&self.groups)
+    }
+
+    fn copy(&self, alloc: Global) -> Result<LimitTable, OutOfMemory> {
+        Ok(LimitTable {
+            prefix: self.prefix,
+            limits: Vec::from_slice(alloc, &self.limits)?,
+            groups: copy_lines(alloc, &self.groups)?,
+            loads: Vec::from_slice(alloc, &self.loads)?,
+            closings: Vec::from_slice(alloc, &self.closings)?,
+        })
+    }
+
+    fn change_to(&self, alloc: Global, later: &LimitTable) -> Result<TableChange, OutOfMemory> {
+        change_between(alloc, self, later)
+    }
+
+    fn apply(&mut self, alloc: Global, change: &TableChange) -> Result<(), OutOfMemory> {
+        // What takes memory comes first, so that a refusal leaves the table as it was.
+        let copied = change.copy(alloc)?;
+        copied.write_to(self);
+        Ok(())
+    }
+}
+
+// What the lines' groups get together.
+fn total_in(lines: &[GroupLine]) -> u64
+    requires { sum_by (λ line. line.amount) lines.now < 2 ^ 64 }
+    ensures { result ≡ sum_by (λ line. line.amount) lines.now }
+{
+    let mut total = 0;
+    for line in lines {
+        total += line.amount;
+    }
+    total
+}
