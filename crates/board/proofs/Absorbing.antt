@@ -5,16 +5,16 @@ use Rattle.std.specs.Option.{option_copied, option_to_list}
 use Rattle.std.specs.List.{All}
 use Rattle.bwe_specs.specs.declared.report.Report.{Report}
 use Rattle.demand_book.specs.Fit.{IsFit}
-use Rattle.board.specs.Allowed.{IsAllowed}
+use Rattle.board_core.specs.Core.{IsAllowed}
 
 back_of : (P : Report → Type 0) (front back : List Report) → All P (front ++ back) → All P back
 back_of P [] back all = all
 back_of P (x ∷ front) back all = back_of P front back (λ k d lt. all (suc k) d (omega arith))
 
-pub fit_waiting : (reporters tasks links plan_tasks plan_links : ℕ) (taken waiting seen : List Report) → seen ≡ taken ++ waiting → All (IsAllowed reporters tasks links) seen
+pub fit_waiting : (reporters tasks links plan_tasks plan_links : ℕ) (taken waiting seen : List Report) → seen ≡ taken ++ waiting → All (IsAllowed reporters (IsFit tasks links)) seen
     → plan_tasks ≡ tasks → plan_links ≡ links → All (IsFit plan_tasks plan_links) waiting
 fit_waiting reporters tasks links plan_tasks plan_links taken waiting seen is allowed tasks_so links_so =
-    let all = back_of (IsAllowed reporters tasks links) taken waiting (subst (All (IsAllowed reporters tasks links)) is allowed) in
+    let all = back_of (IsAllowed reporters (IsFit tasks links)) taken waiting (subst (All (IsAllowed reporters (IsFit tasks links))) is allowed) in
     subst (λ (n : ℕ). All (IsFit n plan_links) waiting) (sym tasks_so) (subst (λ (n : ℕ). All (IsFit tasks n) waiting) (sym links_so) (λ k d lt. (all k d lt).1))
 
 -- what the front shows is the first item

@@ -1,7 +1,7 @@
 -- All tables of a named plan are of one plan.
 use Rattle.std.proofs.Common.{◌≡◌, ℕ, List, ap, sym, ◌∙◌}
 use Rattle.bwe_specs.specs.declared.report.Report.{Report}
-use Rattle.board.specs.Allowed.{NamesTables, AreOfOnePlan}
+use Rattle.board.specs.Plan.{NamesTables, AreOfOnePlan}
 
 pub one_plan : {T F : Type 0} (frame : T → F) (tasks_of : F → ℕ) (belongs : List Report → T → Type 0) (table_of : List Report → T) (tasks : ℕ)
     → NamesTables belongs table_of

@@ -6,7 +6,8 @@ use Rattle.std.proofs.lemmas.List.Sums.{sum_by-append}
 use Rattle.bwe_specs.specs.declared.report.Report.{Report}
 use Rattle.board_log.specs.Roll.{own_of, sent_of_first}
 use Rattle.board_log.proofs.Placing.{own_lists_add}
-use Rattle.board.specs.Allowed.{IsAllowed}
+use Rattle.demand_book.specs.Fit.{IsFit}
+use Rattle.board_core.specs.Core.{IsAllowed}
 use Rattle.board.specs.Reporting.{Reporting, AreInOrder, fresh_pass}
 
 someone : Reporting
@@ -23,7 +24,7 @@ sent_below passes log (suc m) le order exact =
     let front : sum_by (λ (p : Reporting). length p.own) (take m passes) ≡ sent_of_first m log = sent_below passes log m (omega arith) order exact in
     ap (sum_by (λ (p : Reporting). length p.own)) more ∙ sum_by-append (λ (p : Reporting). length p.own) (take m passes) (pass ∷ []) ∙ omega (arith, front, own)
 
-pub all_sent : (passes : List Reporting) (log : List Report) (reporters tasks links : ℕ) → length passes ≡ reporters → All (IsAllowed reporters tasks links) log → AreInOrder passes
+pub all_sent : (passes : List Reporting) (log : List Report) (reporters tasks links : ℕ) → length passes ≡ reporters → All (IsAllowed reporters (IsFit tasks links)) log → AreInOrder passes
     → All (λ pass. pass.own ≡ own_of pass.number log) passes → length log ≡ sum_by (λ pass. length pass.own) passes
 all_sent passes log reporters tasks links count allowed order exact =
     let whole : take reporters passes ≡ passes = take_all reporters passes (omega arith) in

@@ -1,4 +1,4 @@
-pub mod Allowed
+pub mod Plan
 pub mod Pair
 pub mod Reading
 pub mod Reporting
@@ -6,3 +6,4 @@ pub mod Refusals
 pub mod Standing
 pub mod Shop
 pub mod Opening
+pub mod CoreSteps

@@ -2,7 +2,9 @@
 use Rattle.std.specs.Prelude.{ℕ, ◌≡◌, ◌≤◌, List, length, take, drop}
 use Rattle.std.specs.List.{All}
 use Rattle.bwe_specs.specs.declared.report.Report.{Report}
-use Rattle.board.specs.Allowed.{IsAllowed, AreOfOnePlan}
+use Rattle.demand_book.specs.Fit.{IsFit}
+use Rattle.board_core.specs.Core.{IsAllowed}
+use Rattle.board.specs.Plan.{AreOfOnePlan}
 
 -- the log is the one that is known, the table belongs to its first reports, and each report is allowed
 pub record IsPair {T F : Type 0} (covers : T → ℕ) (frame : T → F) (tasks_of : F → ℕ) (belongs : List Report → T → Type 0) (reporters tasks links : ℕ)
@@ -10,7 +12,7 @@ pub record IsPair {T F : Type 0} (covers : T → ℕ) (frame : T → F) (tasks_o
   pub known_so : known ≡ log
   pub within : covers table ≤ length log
   pub belongs_so : belongs (take (covers table) log) table
-  pub allowed : All (IsAllowed reporters tasks links) log
+  pub allowed : All (IsAllowed reporters (IsFit tasks links)) log
   pub one_plan : AreOfOnePlan frame tasks_of belongs tasks
 
 -- the reports are what the known log has from a place on, and the table belongs to its first reports
@@ -20,4 +22,4 @@ pub record IsNews {T : Type 0} (covers : T → ℕ) (belongs : List Report → T
   pub more_so : more ≡ drop from known
   pub within : covers table ≤ length known
   pub belongs_so : belongs (take (covers table) known) table
-  pub allowed : All (IsAllowed reporters tasks links) known
+  pub allowed : All (IsAllowed reporters (IsFit tasks links)) known

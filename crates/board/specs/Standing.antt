@@ -5,7 +5,8 @@ use Rattle.bwe_specs.specs.declared.report.Report.{Report}
 use Rattle.bwe_specs.specs.declared.limits.TheConstants.{MAX_REPORTS}
 use Rattle.board_log.specs.Roll.{Rolled}
 use Rattle.board.specs.declared.pair.Posting.{Posting}
-use Rattle.board.specs.Allowed.{IsAllowed}
+use Rattle.demand_book.specs.Fit.{IsFit}
+use Rattle.board_core.specs.Core.{IsAllowed}
 
 -- the value that readers take, and the operations that wait to be published
 pub record Desk (P O : Type 0) : Type 0 where
@@ -29,7 +30,7 @@ pub record IsStanding {T : Type 0} (covers : T → ℕ) (reporters tasks links :
   pub whole_so : whole ≡ log
   pub rolled : roll ≡ record { log = log; members = reporters }
   pub room : length log ≤ MAX_REPORTS
-  pub allowed : All (IsAllowed reporters tasks links) log
+  pub allowed : All (IsAllowed reporters (IsFit tasks links)) log
   pub last_covers : covers (last_of desk).table ≡ pending
   pub posted_first : covers desk.shown.table ≤ pending
   pub pending_within : pending ≤ length log

@@ -5,7 +5,8 @@ ghost use mathlib.Core.List.{IsPrefix};
 ghost use Rattle.bwe_specs.specs.declared.limits.TheConstants.{MAX_REPORTS};
 ghost use Rattle.board_log.specs.Laws.{StandIn};
 ghost use Rattle.board_log.specs.Roll.{IsBy, placed, own_of};
-ghost use Rattle.board.specs.Allowed.{IsAllowed};
+ghost use Rattle.demand_book.specs.Fit.{IsFit};
+ghost use Rattle.board_core.specs.Core.{IsAllowed};
 ghost use Rattle.board.specs.Refusals.{IsRefusalAt};
 ghost use Rattle.board.specs.Reporting.{AreInOrder};
 
@@ -51,7 +52,7 @@ impl<M: Maker, N: Profile<M::Table>, B: Bases> Board<M, N, B> {
         reports: &[Report],
     ) -> Result<u64, ReportError>
         requires by { All (IsBy pass.old.number) reports.now }
-        requires allowed { All (IsAllowed N.reporters N.tasks N.links) reports.now }
+        requires allowed { All (IsAllowed N.reporters (IsFit N.tasks N.links)) reports.now }
         // The pass has seen a longer log, where the piece stands from the answered place on.
         ensures number { pass.new.number ≡ pass.old.number }
         ensures seen { IsPrefix pass.old.seen pass.new.seen }
@@ -117,7 +118,7 @@ impl<M: Maker, N: Profile<M::Table>, B: Bases> Board<M, N, B> {
         ensures length { IfOk result (λ ended. ended.length ≡ length ended.ack) }
         ensures sent { IfOk result (λ ended. ended.length ≡ sum_by (λ pass. length pass.own) passes.items) }
         ensures exact { IfOk result (λ ended. All (λ pass. pass.own ≡ own_of pass.number ended.ack) passes.items) }
-        ensures allowed { IfOk result (λ ended. All (IsAllowed N.reporters N.tasks N.links) ended.ack) }
+        ensures allowed { IfOk result (λ ended. All (IsAllowed N.reporters (IsFit N.tasks N.links)) ended.ack) }
         // The table is that of the whole log.
         ensures covers { IfOk result (λ ended. M.Table.covers ended.table ≡ ended.length) }
         ensures table { IfOk result (λ ended. N.belongs ended.ack ended.table) }

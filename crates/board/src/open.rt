@@ -5,7 +5,7 @@ ghost use Rattle.bwe_specs.specs.declared.report.Report.{Report};
 ghost use Rattle.bwe_specs.specs.declared.limits.TheConstants.{MAX_REPORTERS, MAX_READERS};
 ghost use Rattle.board.specs.Reporting.{AreFresh, fresh_pass};
 ghost use Rattle.board.specs.Reading.{IsNewReader};
-ghost use Rattle.board.specs.Allowed.{NamesTables, AreOfOnePlan};
+ghost use Rattle.board.specs.Plan.{NamesTables, AreOfOnePlan};
 
 use crate::allocator::AllocatorPass;
 use crate::board::Board;

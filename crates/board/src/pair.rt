@@ -3,7 +3,8 @@ ghost use Rattle.std.specs.Prelude.{◌≡◌, ◌≤◌, ◌++◌, length, take
 ghost use Rattle.std.specs.Bool.{OnTrue};
 ghost use Rattle.std.specs.List.{All};
 ghost use mathlib.Core.List.{IsPrefix};
-ghost use Rattle.board.specs.Allowed.{IsAllowed};
+ghost use Rattle.demand_book.specs.Fit.{IsFit};
+ghost use Rattle.board_core.specs.Core.{IsAllowed};
 
 use crate::ack::Ack;
 use crate::profile::Profile;
@@ -78,7 +79,7 @@ impl<T: Posted, N: Profile<T>, B: Bases> Pair<T, N, B> {
         requires more { more.now ≡ drop from known.now }
         requires covers { T.covers table.now ≤ length known.now }
         requires belongs { N.belongs (take (T.covers table.now) known.now) table.now }
-        requires allowed { All (IsAllowed N.reporters N.tasks N.links) known.now }
+        requires allowed { All (IsAllowed N.reporters (IsFit N.tasks N.links)) known.now }
         ensures ok { OnOk result (self.new ≡ record { log = known.now; table = table.now }) }
         ensures refused { OnErr result (self.new ≡ self.old) }
         ensures log { IsPrefix self.old.log self.new.log }

@@ -2,7 +2,8 @@
 ghost use Rattle.std.specs.Prelude.{◌≡◌, ◌+◌, ◌-◌, ◌^◌, ◌<◌, ◌≤◌, ◌↔◌, length, take, min, slice_get, IfSome, IsNone, OnOk, OnErr};
 ghost use Rattle.std.specs.List.{All};
 ghost use mathlib.Core.List.{IsPrefix};
-ghost use Rattle.board.specs.Allowed.{IsAllowed};
+ghost use Rattle.demand_book.specs.Fit.{IsFit};
+ghost use Rattle.board_core.specs.Core.{IsAllowed};
 
 use crate::ack::Ack;
 use crate::pair::Pair;
@@ -49,7 +50,8 @@ impl<T: Posted, N: Profile<T>, B: Bases> ReaderPass<T, N, B> {
     ghost use mathlib.Core.List.{IsPrefix};
     ghost use mathlib.Core.Option.{none};
     ghost use denote.Follow.{follows_so};
-    ghost use Rattle.board.specs.Allowed.{IsAllowed};
+    ghost use Rattle.demand_book.specs.Fit.{IsFit};
+    ghost use Rattle.board_core.specs.Core.{IsAllowed};
     ghost use Rattle.board.specs.contracts.reader.ReaderPass.{the_row};
 
     // A pass that has read nothing yet.
@@ -95,7 +97,7 @@ impl<T: Posted, N: Profile<T>, B: Bases> ReaderPass<T, N, B> {
         // What is shown: the table of the log's first reports, as many as it covers.
         ensures within { T.covers result.copy.now.table ≤ length result.copy.now.log }
         ensures table { N.belongs (take (T.covers result.copy.now.table) result.copy.now.log) result.copy.now.table }
-        ensures allowed { All (IsAllowed N.reporters N.tasks N.links) result.copy.now.log }
+        ensures allowed { All (IsAllowed N.reporters (IsFit N.tasks N.links)) result.copy.now.log }
     {
         self.refresh(alloc);
         self.view()
@@ -147,7 +149,7 @@ impl<T: Posted, N: Profile<T>, B: Bases> ReaderPass<T, N, B> {
         ensures table { result.copy.now.table ≡ self.now.table }
         ensures within { T.covers self.now.table ≤ length self.now.log }
         ensures belongs { N.belongs (take (T.covers self.now.table) self.now.log) self.now.table }
-        ensures allowed { All (IsAllowed N.reporters N.tasks N.links) self.now.log }
+        ensures allowed { All (IsAllowed N.reporters (IsFit N.tasks N.links)) self.now.log }
     {
         let copy = &self.copy;
         let _ = &copy.log;
@@ -198,7 +200,7 @@ impl<'a, T: Posted, N: Profile<T>, B: Bases> View<'a, T, N, B> {
     pub fn entry(&self, place: u64) -> Option<Report>
         ensures entry { result ≡ slice_get self.now.copy.now.log place }
         ensures none { IsNone result ↔ (length self.now.copy.now.log ≤ place) }
-        ensures allowed { IfSome result (IsAllowed N.reporters N.tasks N.links) }
+        ensures allowed { IfSome result (IsAllowed N.reporters (IsFit N.tasks N.links)) }
     {
         let copy = self.copy;
         copy.log.get(place as usize).copied()

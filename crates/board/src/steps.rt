@@ -5,10 +5,12 @@ ghost use mathlib.Core.List.{IsPrefix};
 ghost use Rattle.bwe_specs.specs.declared.report.Report.{Report};
 ghost use Rattle.bwe_specs.specs.declared.limits.TheConstants.{MAX_REPORTS};
 ghost use Rattle.board_log.specs.Roll.{IsBy, placed, own_of};
-ghost use Rattle.board.specs.Allowed.{IsAllowed};
+ghost use Rattle.demand_book.specs.Fit.{IsFit};
+ghost use Rattle.board_core.specs.Core.{IsAllowed};
 ghost use Rattle.board.specs.Refusals.{IsRefusalAt};
 ghost use Rattle.board.specs.Reporting.{AreInOrder};
 ghost use Rattle.board.specs.Standing.{IsRaised};
+ghost use Rattle.board.specs.CoreSteps.{IsReportStep, ArePostSteps};
 
 use crate::ack::Ack;
 use crate::ended::{Ended, FinishRefused};
@@ -65,6 +67,8 @@ pub fn post<M: Maker, N: Profile<M::Table>, B: Bases, R: Wait>(
     ensures answer { IfOk result (λ prefix. prefix ≡ max state.old.pending (M.Table.covers table)) }
     ensures posted { IfOk result (λ prefix. state.new.posted ≡ prefix) }
     ensures none_waits { IfOk result (λ prefix. state.new.pending ≡ prefix) }
+    // By Core run these are two posts: of the table that waits, and of this one.
+    ensures run { IfOk result (λ prefix. ArePostSteps state.old (M.Table.covers table) prefix state.new) }
     ensures refused { OnErr result (IsRaised state.old.posted state.new.posted (max state.old.pending (M.Table.covers table))) }
     ensures waits { OnErr result (IsRaised state.old.pending state.new.pending (max state.old.pending (M.Table.covers table))) }
 {
@@ -111,13 +115,15 @@ impl<M: Maker, N: Profile<M::Table>, B: Bases> LogState<M, N, B> {
         reports: &[Report],
     ) -> Result<u64, ReportError>
         requires by { All (IsBy pass.old.number) reports.now }
-        requires allowed { All (IsAllowed N.reporters N.tasks N.links) reports.now }
+        requires allowed { All (IsAllowed N.reporters (IsFit N.tasks N.links)) reports.now }
         ensures first { IfOk result (λ first. first ≡ length self.old.log) }
         ensures log { OnOk result (self.new.log ≡ self.old.log ++ reports.now) }
         ensures room { OnOk result (length self.new.log ≤ MAX_REPORTS) }
         ensures unchanged { OnErr result (self.new.log ≡ self.old.log) }
         ensures posted { self.new.posted ≡ self.old.posted }
         ensures pending { self.new.pending ≡ self.old.pending }
+        // By Core run this is one report.
+        ensures run { IsReportStep self.old pass.old.number reports.now result self.new }
         // What the pass knows afterwards.
         ensures number { pass.new.number ≡ pass.old.number }
         ensures seen { IsPrefix pass.old.seen pass.new.seen }
@@ -215,7 +221,7 @@ impl<M: Maker, N: Profile<M::Table>, B: Bases> LogState<M, N, B> {
         ensures length { IfOk result (λ ended. ended.length ≡ length self.old.log) }
         ensures sent { IfOk result (λ ended. ended.length ≡ sum_by (λ pass. length pass.own) passes.items) }
         ensures exact { OnOk result (All (λ pass. pass.own ≡ own_of pass.number self.old.log) passes.items) }
-        ensures allowed { All (IsAllowed N.reporters N.tasks N.links) self.old.log }
+        ensures allowed { All (IsAllowed N.reporters (IsFit N.tasks N.links)) self.old.log }
         ensures covers { IfOk result (λ ended. M.Table.covers ended.table ≡ ended.length) }
         ensures table { IfOk result (λ ended. N.belongs self.old.log ended.table) }
         ensures refused { IfErr result (λ refused. refused.passes.items ≡ passes.items) }
@@ -262,6 +268,7 @@ impl<M: Maker, N: Profile<M::Table>, B: Bases> LogState<M, N, B> {
         ensures ok { OnOk result (self.new.posted ≡ self.old.pending) }
         ensures refused { OnErr result (self.new.posted ≡ self.old.posted) }
         ensures below { self.old.posted ≤ self.old.pending }
+        ensures within { self.old.pending ≤ length self.old.log }
     {
         self.poster.publish(rt)
     }

@@ -6,7 +6,8 @@ ghost use mathlib.Core.List.{IsPrefix};
 ghost use Rattle.bwe_specs.specs.declared.report.Report.{Report};
 ghost use Rattle.bwe_specs.specs.declared.limits.TheConstants.{MAX_REPORTS};
 ghost use Rattle.demand_book.specs.Fit.{IsFit};
-ghost use Rattle.board.specs.Allowed.{IsAllowed, NamesTables};
+ghost use Rattle.board_core.specs.Core.{IsAllowed};
+ghost use Rattle.board.specs.Plan.{NamesTables};
 
 use crate::profile::Profile;
 use crate::steps::LogState;
@@ -63,7 +64,7 @@ impl<M: Maker, N: Profile<M::Table>, B: Bases> Workshop<M, N, B> {
     pub(crate) fn look(&mut self, whole: Beginning<B>, log: &[Report]) -> Result<(), OutOfMemory>
         requires whole { whole ≡ log.now }
         requires room { length log.now ≤ MAX_REPORTS }
-        requires allowed { All (IsAllowed N.reporters N.tasks N.links) log.now }
+        requires allowed { All (IsAllowed N.reporters (IsFit N.tasks N.links)) log.now }
         ensures ok { OnOk result (self.new ≡ log.now) }
         ensures refused { OnErr result (self.new ≡ self.old) }
     {

@@ -3,7 +3,8 @@ use Rattle.std.specs.List.{All}
 use Rattle.std.proofs.lemmas.List.{take_rest}
 use mathlib.Core.List.{IsPrefix}
 use Rattle.bwe_specs.specs.declared.report.Report.{Report}
-use Rattle.board.specs.Allowed.{IsAllowed}
+use Rattle.demand_book.specs.Fit.{IsFit}
+use Rattle.board_core.specs.Core.{IsAllowed}
 use Rattle.board_log.proofs.Prefixes.{followed}
 use Rattle.board.proofs.workshop.Workshop.look.Goals as goal
 
@@ -19,7 +20,7 @@ invariant_of-self-2 g c =
     let whole : known ++ drop seen log ≡ log = followed known log (drop seen log) seen begins (sym c.len-seen.ensures.length) (λ k. drop seen log) in
     let regrouped : log ≡ i.taken ++ waiting =
     sym whole ∙ ap (λ (l : List Report). l ++ drop seen log) i.seen_so ∙ append_assoc i.taken c.self.inside.waiting.items (drop seen log) ∙ ap (λ (l : List Report). i.taken ++ l) (sym more) in
-    let P : Report → Type 0 = IsAllowed g.N.Profile.reporters g.N.Profile.tasks g.N.Profile.links in
+    let P : Report → Type 0 = IsAllowed g.N.Profile.reporters (IsFit g.N.Profile.tasks g.N.Profile.links) in
     record {
       taken = i.taken;
       absorbed_so = i.absorbed_so;

@@ -1,11 +1,6 @@
--- Which reports may stand in a board's log, and which tables belong to them.
-use Rattle.std.specs.Prelude.{ℕ, ◌<◌, ◌≡◌, ◌↔◌, List}
+-- Which tables belong to a plan.
+use Rattle.std.specs.Prelude.{ℕ, ◌≡◌, ◌↔◌, List}
 use Rattle.bwe_specs.specs.declared.report.Report.{Report}
-use Rattle.demand_book.specs.Fit.{IsFit}
-
--- the report is of one of so many reporters, and speaks of one of so many tasks or links
-abbrev pub IsAllowed : ℕ → ℕ → ℕ → Report → Type 0
-IsAllowed reporters tasks links report = (report.reporter < reporters) × IsFit tasks links report
 
 -- a table belongs to reports just where it is the plan's table of them
 abbrev pub NamesTables : {T : Type 0} → (List Report → T → Type 0) → (List Report → T) → Type 0
