@@ -1,0 +1,9 @@
+pub mod Transforms
+pub mod Meanings
+pub mod Updates
+pub mod Idle
+pub mod Numbers
+pub mod Agreement
+pub mod Homes
+pub mod TreeFacts
+pub mod Counting

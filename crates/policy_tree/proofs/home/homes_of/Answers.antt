@@ -1,0 +1,66 @@
+use Rattle.std.proofs.Common.{refl, ◌≡◌, ℕ, ◌+◌, ◌<◌, ◌++◌, ◌∷◌, [], List, length, get_or, take, sum, map, sym, ap, subst, ◌∙◌, arith}
+use Rattle.std.proofs.lemmas.List.{length-map}
+use Rattle.std.proofs.lemmas.List.Sums.{sum_by_more}
+use Rattle.policy_tree.specs.declared.home.Home.{Home}
+use Rattle.policy_tree.specs.States.{JobState, UserState, job_tasks}
+use Rattle.policy_tree.specs.Kept.{user_counts, cluster_counts, counts_of, users_count, clusters_count, IsHome}
+use Rattle.policy_tree.proofs.Homes.{AreHomesBelow, homes-push, homes-counted, counts-cluster, counts-user, counts-job}
+use Rattle.policy_tree.proofs.home.homes_of.Goals as goal
+use Rattle.policy_tree.proofs.home.homes_of.Goals.{After-tasks-task-end}
+
+cluster_read : (c : After-tasks-task-end) → get_or (counts_of c.args.clusters.now) c.loop-cluster.cluster [] ≡ map user_counts c.users-user_node-items.result.now
+cluster_read c =
+    counts-cluster c.args.clusters.now c.loop-cluster.cluster c.index-clusters-cluster.result c.loop-cluster-test.true c.index-clusters-cluster.is
+    ∙ ap (λ (users : List UserState). map user_counts users) (sym c.users-user_node-items.ensures)
+
+user_read : (c : After-tasks-task-end) → get_or (get_or (counts_of c.args.clusters.now) c.loop-cluster.cluster []) c.loop-user.user [] ≡ map job_tasks c.jobs-job_node-items.result.now
+user_read c =
+    ap (λ (users : List (List ℕ)). get_or users c.loop-user.user []) (cluster_read c)
+    ∙ counts-user c.users-user_node-items.result.now c.loop-user.user c.user_node-item.result c.loop-user-test.true c.user_node-item.is
+    ∙ ap (λ (jobs : List JobState). map job_tasks jobs) (sym c.jobs-job_node-items.ensures)
+
+job_read : (c : After-tasks-task-end) → get_or (get_or (get_or (counts_of c.args.clusters.now) c.loop-cluster.cluster []) c.loop-user.user []) c.loop-job.job 0 ≡ c.tasks-task-end.result
+job_read c =
+    ap (λ (jobs : List ℕ). get_or jobs c.loop-job.job 0) (user_read c)
+    ∙ counts-job c.jobs-job_node-items.result.now c.loop-job.job c.job_node-item.result c.loop-job-test.true c.job_node-item.is
+    ∙ sym c.tasks-task-end.ensures
+
+job_within : (c : After-tasks-task-end) → c.loop-job.job < length (get_or (get_or (counts_of c.args.clusters.now) c.loop-cluster.cluster []) c.loop-user.user [])
+job_within c =
+    let e = ap (λ (jobs : List ℕ). length jobs) (user_read c) in
+    omega (arith, e, length-map c.jobs-job_node-items.result.now job_tasks, c.loop-job-test.true)
+
+user_within : (c : After-tasks-task-end) → c.loop-user.user < length (get_or (counts_of c.args.clusters.now) c.loop-cluster.cluster [])
+user_within c =
+    let e = ap (λ (users : List (List ℕ)). length users) (cluster_read c) in
+    omega (arith, e, length-map c.users-user_node-items.result.now user_counts, c.loop-user-test.true)
+
+pub loop-task-preserved : goal.loop-task-preserved
+loop-task-preserved c =
+    let all = counts_of c.args.clusters.now in
+    let b = (goal.at.loop-task-preserved c).After-tasks-task-end in
+    let before = clusters_count (take c.loop-cluster.cluster all) in
+    let before_user = users_count (take c.loop-user.user (get_or all c.loop-cluster.cluster [])) in
+    let before_job = sum (take c.loop-job.job (get_or (get_or all c.loop-cluster.cluster []) c.loop-user.user [])) in
+    let count = before + (before_user + (before_job + c.loop-task.task)) in
+    let next = before + (before_user + (before_job + (c.loop-task.task + 1))) in
+    let one_more : count + 1 ≡ next = omega arith in
+    let home : Home = record { cluster = c.loop-cluster.cluster; user = c.loop-user.user; job = c.loop-job.job; task = c.loop-task.task } in
+    let is : IsHome all count home = record {
+      cluster = omega (arith, length-map c.args.clusters.now cluster_counts, c.loop-cluster-test.true);
+      user = user_within b;
+      job = job_within b;
+      task = omega (arith, job_read b, c.loop-task-test.true);
+      counted = refl;
+    } in
+    subst (λ (homes : List Home). AreHomesBelow all homes next) (sym c.in_ok-push.ensures.items)
+    (homes-counted all (c.loop-task.homes.items ++ home ∷ []) (count + 1) next one_more (homes-push all c.loop-task.homes.items home count c.loop-task.invariant is))
+
+pub loop-job-preserved : goal.loop-job-preserved
+loop-job-preserved c =
+    let all = counts_of c.args.clusters.now in
+    let b = (goal.at.loop-job-preserved c).After-tasks-task-end in
+    let jobs = get_or (get_or all c.loop-cluster.cluster []) c.loop-user.user [] in
+    homes-counted all c.loop-task.homes.items _ _
+    (omega (arith, sum_by_more (λ (n : ℕ). n) jobs c.loop-job.job 0 (job_within b), job_read b, c.loop-task-test.false, c.loop-task.auto.task-end))
+    c.loop-task.invariant

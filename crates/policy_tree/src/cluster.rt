@@ -1,0 +1,163 @@
+//! A cluster of the tree.
+
+ghost use Rattle.std.specs.Prelude.{◌≡◌, ℕ, ◌<◌, ◌≤◌, length, map, sum_by, All, IfOk, OnOk, OnErr};
+ghost use Rattle.capped_sum.specs.CappedSum.{task_at};
+ghost use Rattle.policy_tree.specs.States.{cluster_meaning, job_tasks, IsUserState, IsClusterState};
+ghost use Rattle.policy_tree.specs.Asked.{HasUserWeights, HasClusterWeights, user_weights, cluster_weights, idle_user, idle_cluster};
+ghost use Rattle.policy_tree.specs.Changes.{job_at, user_at, cluster_with};
+
+use crate::job::transform_of;
+use crate::siblings::Siblings;
+use crate::spec::{ClusterSpec, UserSpec};
+use crate::user::UserNode;
+use crate::value::{rebuild, value_at};
+use bwe_specs::{MAX_AMOUNT, MAX_TASKS, OutOfMemory};
+use function_sum::ShareFunction;
+use share_transform::Transform;
+use std::alloc::Global;
+use std::marker::Model;
+
+/// A cluster: its users, and its configured function's transformation.
+#[derive(Drop)]
+pub(crate) struct ClusterNode {
+    transform: Option<Transform>,
+    users: Vec<UserNode>,
+}
+
+impl Model for ClusterNode {
+    ghost use Rattle.policy_tree.specs.States.{ClusterState, IsClusterState, configured_by};
+
+    ghost Value = { ClusterState };
+
+    ghost view = { λ cluster.
+        record { configured = configured_by cluster.transform; users = cluster.users.items } };
+
+    ghost invariant = { λ cluster.
+        IsClusterState
+        (record { configured = configured_by cluster.transform; users = cluster.users.items }) };
+}
+
+impl ClusterNode {
+    /// The cluster of a spec. Every demand is 0.
+    pub(crate) fn new(alloc: Global, spec: ClusterSpec) -> Result<ClusterNode, OutOfMemory>
+        requires weights { HasClusterWeights spec }
+        requires few { cluster_weights spec ≤ MAX_TASKS }
+        ensures idle { IfOk result (λ cluster. cluster ≡ idle_cluster spec) }
+        ensures is { IfOk result IsClusterState }
+    {
+        let ClusterSpec { function, users } = spec;
+        let transform = transform_of(alloc, function)?;
+        let users = user_nodes(alloc, users)?;
+        Ok(ClusterNode { transform, users })
+    }
+
+    /// The users.
+    pub(crate) fn users(&self) -> &[UserNode]
+        ensures { result.now ≡ self.now.users }
+    {
+        self.users.as_slice()
+    }
+
+    /// Sets the demand of a task of a user's job.
+    pub(crate) fn set(
+        &mut self,
+        user: usize,
+        job: usize,
+        task: u32,
+        demand: u64,
+    ) -> Result<(), OutOfMemory>
+        requires user { user < length self.old.users }
+        requires job { job < length (user_at self.old.users user).jobs }
+        requires task { task < job_tasks (job_at (user_at self.old.users user).jobs job) }
+        requires demand { demand ≤ MAX_AMOUNT }
+        ensures ok { OnOk result (self.new ≡ cluster_with self.old user job task demand) }
+        ensures err { OnErr result (self.new ≡ self.old) }
+    {
+        self.users[user].set(job, task, demand)?;
+        Ok(())
+    }
+
+    /// The demand of a task of a user's job.
+    pub(crate) fn demand(&self, user: usize, job: usize, task: u32) -> u64
+        requires user { user < length self.now.users }
+        requires job { job < length (user_at self.now.users user).jobs }
+        requires task { task < job_tasks (job_at (user_at self.now.users user).jobs job) }
+        ensures { result
+            ≡ (task_at (job_at (user_at self.now.users user).jobs job).sum.tasks task).demand }
+    {
+        self.users[user].demand(job, task)
+    }
+
+    /// Makes the value cheap again.
+    pub(crate) fn rematch(&mut self)
+        ensures { self.new ≡ self.old }
+    {
+        rematch_users(self.users.as_mut_slice());
+        let users = Siblings {
+            nodes: self.users.as_slice(),
+        };
+        rebuild(&mut self.transform, &users);
+    }
+}
+
+impl ShareFunction for ClusterNode {
+    ghost meaning = { cluster_meaning };
+
+    fn value(&self, share: u64) -> u64 {
+        let users = Siblings {
+            nodes: self.users.as_slice(),
+        };
+        value_at(&self.transform, &users, share)
+    }
+}
+
+// The users of their specs.
+fn user_nodes(alloc: Global, specs: Vec<UserSpec>) -> Result<Vec<UserNode>, OutOfMemory>
+    requires weights { All HasUserWeights specs.items }
+    requires few { sum_by user_weights specs.items ≤ MAX_TASKS }
+    ensures idle { IfOk result (λ users. users.items ≡ map idle_user specs.items) }
+    ensures are { IfOk result (λ users. All IsUserState users.items) }
+{
+    let mut users = Vec::new(alloc);
+    for spec in specs {
+        let user = UserNode::new(alloc, spec)?;
+        users.push(user)?;
+    }
+    Ok(users)
+}
+
+/// The clusters of their specs.
+pub(crate) fn cluster_nodes(
+    alloc: Global,
+    specs: Vec<ClusterSpec>,
+) -> Result<Vec<ClusterNode>, OutOfMemory>
+    requires weights { All HasClusterWeights specs.items }
+    requires few { sum_by cluster_weights specs.items ≤ MAX_TASKS }
+    ensures idle { IfOk result (λ clusters. clusters.items ≡ map idle_cluster specs.items) }
+    ensures are { IfOk result (λ clusters. All IsClusterState clusters.items) }
+{
+    let mut clusters = Vec::new(alloc);
+    for spec in specs {
+        let cluster = ClusterNode::new(alloc, spec)?;
+        clusters.push(cluster)?;
+    }
+    Ok(clusters)
+}
+
+/// Makes the value of each cluster cheap again.
+pub(crate) fn rematch_all(clusters: &mut [ClusterNode])
+    ensures { clusters.new ≡ clusters.old }
+{
+    for cluster in clusters.iter_mut() {
+        cluster.rematch();
+    }
+}
+
+// Makes the value of each user cheap again.
+fn rematch_users(users: &mut [UserNode])
+    ensures { users.new ≡ users.old }
+{
+    for user in users.iter_mut() {
+        user.rematch();
+    }
+}

@@ -1,0 +1,115 @@
+//! A job of the tree.
+
+ghost use Rattle.std.specs.Prelude.{◌≡◌, ℕ, ◌<◌, ◌≤◌, length, IfOk, OnOk, OnErr};
+ghost use Rattle.capped_sum.specs.CappedSum.{task_at};
+ghost use Rattle.policy_tree.specs.States.{job_meaning, job_tasks, configured_by, IsKeptFunction, IsJobState};
+ghost use Rattle.policy_tree.specs.Asked.{AreWeights, idle_job};
+ghost use Rattle.policy_tree.specs.Changes.{job_with};
+
+use crate::spec::JobSpec;
+use crate::value::{rebuild, value_at};
+use bw_function::BwFunction;
+use bwe_specs::{MAX_AMOUNT, MAX_TASKS, OutOfMemory};
+use capped_sum::CappedSum;
+use function_sum::ShareFunction;
+use share_transform::Transform;
+use std::alloc::Global;
+use std::marker::Model;
+
+/// A job: the sum of its tasks, and its configured function's transformation.
+#[derive(Drop)]
+pub(crate) struct JobNode {
+    transform: Option<Transform>,
+    sum: CappedSum,
+}
+
+impl Model for JobNode {
+    ghost use Rattle.policy_tree.specs.States.{JobState, IsJobState, configured_by};
+
+    ghost Value = { JobState };
+
+    ghost view = { λ job. record { configured = configured_by job.transform; sum = job.sum } };
+
+    ghost invariant = { λ job.
+        IsJobState (record { configured = configured_by job.transform; sum = job.sum }) };
+}
+
+impl JobNode {
+    /// The job of a spec. Every demand is 0.
+    pub(crate) fn new(alloc: Global, spec: JobSpec) -> Result<JobNode, OutOfMemory>
+        requires weights { AreWeights spec.weights.items }
+        requires few { length spec.weights.items ≤ MAX_TASKS }
+        ensures idle { IfOk result (λ job. job ≡ idle_job spec) }
+        ensures is { IfOk result IsJobState }
+    {
+        let JobSpec {
+            function,
+            task,
+            weights,
+        } = spec;
+        // The proof learns here that the tasks' function is one of a document.
+        let _ = task.top();
+        let transform = transform_of(alloc, function)?;
+        let sum = CappedSum::new(alloc, task, weights.as_slice())?;
+        Ok(JobNode { transform, sum })
+    }
+
+    /// How many tasks there are.
+    pub(crate) fn tasks(&self) -> u32
+        ensures { result ≡ job_tasks self.now }
+    {
+        self.sum.tasks()
+    }
+
+    /// Sets one demand.
+    pub(crate) fn set(&mut self, task: u32, demand: u64) -> Result<(), OutOfMemory>
+        requires task { task < length self.old.sum.tasks }
+        requires demand { demand ≤ MAX_AMOUNT }
+        ensures ok { OnOk result (self.new ≡ job_with self.old task demand) }
+        ensures err { OnErr result (self.new ≡ self.old) }
+    {
+        self.sum.set(task, demand)?;
+        Ok(())
+    }
+
+    /// The demand of a task.
+    pub(crate) fn demand(&self, task: u32) -> u64
+        requires { task < length self.now.sum.tasks }
+        ensures { result ≡ (task_at self.now.sum.tasks task).demand }
+    {
+        self.sum.demand(task)
+    }
+
+    /// Makes the value cheap again.
+    pub(crate) fn rematch(&mut self)
+        ensures { self.new ≡ self.old }
+    {
+        self.sum.refresh();
+        rebuild(&mut self.transform, &self.sum);
+    }
+}
+
+impl ShareFunction for JobNode {
+    ghost meaning = { job_meaning };
+
+    fn value(&self, share: u64) -> u64 {
+        value_at(&self.transform, &self.sum, share)
+    }
+}
+
+/// The transformation of a configured function.
+pub(crate) fn transform_of(
+    alloc: Global,
+    function: Option<BwFunction>,
+) -> Result<Option<Transform>, OutOfMemory>
+    ensures same { IfOk result (λ transform. configured_by transform ≡ function) }
+    ensures kept { IfOk result (λ transform. IsKeptFunction (configured_by transform)) }
+{
+    match function {
+        None => Ok(None),
+        Some(function) => {
+            let top = function.top();
+            Ok(Some(Transform::new(alloc, function, top)?))
+        }
+    }
+}

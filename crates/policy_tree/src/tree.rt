@@ -1,0 +1,136 @@
+//! The tree of all groups.
+
+ghost use Rattle.std.specs.Prelude.{◌≡◌, ℕ, ◌^◌, ◌<◌, ◌≤◌, length, All, IfOk, IfErr, OnOk, OnErr, None};
+ghost use Rattle.bwe_specs.specs.Values.{AreValues};
+ghost use Rattle.policy_tree.specs.Trees.{asking, demand_in, value_in, task_numbers, IsTree};
+ghost use Rattle.policy_tree.specs.Asked.{HasClusterTop, HasClusterWeights};
+ghost use Rattle.policy_tree.specs.Childless.{clusters_of, idle_tree};
+ghost use Rattle.policy_tree.specs.Walk.{walk, tree_fault, TellsFault};
+
+use crate::childless::fault_of;
+use crate::cluster::{ClusterNode, cluster_nodes, rematch_all};
+use crate::fault::TreeError;
+use crate::home::{Home, homes_of};
+use crate::spec::TreeSpec;
+use bwe_specs::{MAX_AMOUNT, MAX_SHARE, OutOfMemory};
+use function_sum::ShareFunction;
+use std::alloc::Global;
+use std::marker::Model;
+
+/// The clusters of all groups, with their users, jobs and tasks, and what each task asks for.
+#[derive(Drop)]
+pub struct PolicyTree {
+    top: u64,
+    clusters: Vec<ClusterNode>,
+    homes: Vec<Home>,
+}
+
+impl Model for PolicyTree {
+    ghost use Rattle.policy_tree.specs.Trees.{Tree, tree_of};
+
+    ghost Value = { Tree };
+
+    ghost use Rattle.policy_tree.specs.Kept.{IsKeptTree};
+
+    ghost view = { λ tree. tree_of tree.top tree.clusters.items };
+
+    ghost invariant = { λ tree. IsKeptTree tree.top tree.clusters.items tree.homes.items };
+}
+
+impl PolicyTree {
+    /// The tree of a spec, with every demand 0.
+    ///
+    /// The fault that is told is the first one in the order of `TreeFault`. It costs one step for
+    /// each node and each task, and a sort of the matched shares of each configured function.
+    pub fn build(alloc: Global, spec: TreeSpec) -> Result<PolicyTree, TreeError>
+        requires low { 1 ≤ spec.top }
+        requires high { spec.top ≤ MAX_SHARE }
+        requires tops { All (HasClusterTop spec.top) spec.clusters.items }
+        requires weights { All HasClusterWeights spec.clusters.items }
+        requires nodes { length (walk (clusters_of spec.clusters.items)) < 2 ^ 32 }
+        requires tasks { length (task_numbers (clusters_of spec.clusters.items)) < 2 ^ 64 }
+
+        ensures built { IfOk result (λ tree. tree ≡ idle_tree spec) }
+        ensures accepted { OnOk result (tree_fault (clusters_of spec.clusters.items) ≡ None) }
+        ensures refused { IfErr result (TellsFault (tree_fault (clusters_of spec.clusters.items))) }
+    {
+        let TreeSpec { top, clusters } = spec;
+        if let Some(fault) = fault_of(clusters.as_slice()) {
+            return Err(TreeError::Refused { fault });
+        }
+        let clusters = cluster_nodes(alloc, clusters)?;
+        let homes = homes_of(alloc, clusters.as_slice())?;
+        Ok(PolicyTree {
+            top,
+            clusters,
+            homes,
+        })
+    }
+
+    /// Sets what a task asks for, in kilobits per second.
+    pub fn set_demand(&mut self, task: u32, demand: u64) -> Result<(), OutOfMemory>
+        requires task { task < length self.old.demands }
+        requires demand { demand ≤ MAX_AMOUNT }
+        ensures ok { OnOk result (self.new ≡ asking self.old task demand) }
+        ensures err { OnErr result (self.new ≡ self.old) }
+    {
+        let home = self.homes[task as usize];
+        self.clusters[home.cluster].set(home.user, home.job, home.task, demand)?;
+        Ok(())
+    }
+
+    /// Makes values cheap again after demands were set.
+    pub fn rematch(&mut self)
+        ensures { self.new ≡ self.old }
+    {
+        rematch_all(self.clusters.as_mut_slice());
+    }
+
+    /// What a task asks for, in kilobits per second. At first it is 0.
+    pub fn demand(&self, task: u32) -> u64
+        requires { task < length self.now.demands }
+        ensures { result ≡ demand_in self.now task }
+    {
+        let home = self.homes[task as usize];
+        self.clusters[home.cluster].demand(home.user, home.job, home.task)
+    }
+
+    /// How many groups there are.
+    pub fn groups(&self) -> u32
+        ensures { result ≡ length self.now.clusters }
+    {
+        self.clusters.len() as u32
+    }
+
+    /// How many tasks there are.
+    pub fn tasks(&self) -> u32
+        ensures { result ≡ length self.now.demands }
+    {
+        self.homes.len() as u32
+    }
+
+    /// The greatest share.
+    pub fn top(&self) -> u64
+        ensures top { result ≡ self.now.top }
+        ensures tree { IsTree self.now }
+        ensures values { AreValues (length self.now.clusters) self.now.top (value_in self.now) }
+    {
+        self.top
+    }
+
+    /// What a group may have at a share, in kilobits per second.
+    pub fn group_value(&self, group: u32, share: u64) -> u64
+        requires { group < length self.now.clusters }
+        ensures { result ≡ value_in self.now group share }
+    {
+        self.clusters[group as usize].value(share)
+    }
+
+    /// What a group may have at the greatest share, in kilobits per second.
+    pub fn group_top(&self, group: u32) -> u64
+        requires { group < length self.now.clusters }
+        ensures { result ≡ value_in self.now group self.now.top }
+    {
+        self.group_value(group, self.top)
+    }
+}

@@ -1,0 +1,125 @@
+//! A user of the tree.
+
+ghost use Rattle.std.specs.Prelude.{◌≡◌, ℕ, ◌<◌, ◌≤◌, length, map, sum_by, All, IfOk, OnOk, OnErr};
+ghost use Rattle.capped_sum.specs.CappedSum.{task_at};
+ghost use Rattle.policy_tree.specs.States.{user_meaning, job_tasks, IsJobState, IsUserState};
+ghost use Rattle.policy_tree.specs.Asked.{HasJobWeights, HasUserWeights, job_weights, user_weights, idle_job, idle_user};
+ghost use Rattle.policy_tree.specs.Changes.{job_at, user_with};
+
+use crate::job::{JobNode, transform_of};
+use crate::siblings::Siblings;
+use crate::spec::{JobSpec, UserSpec};
+use crate::value::{rebuild, value_at};
+use bwe_specs::{MAX_AMOUNT, MAX_TASKS, OutOfMemory};
+use function_sum::ShareFunction;
+use share_transform::Transform;
+use std::alloc::Global;
+use std::marker::Model;
+
+/// A user: its jobs, and its configured function's transformation.
+#[derive(Drop)]
+pub(crate) struct UserNode {
+    transform: Option<Transform>,
+    jobs: Vec<JobNode>,
+}
+
+impl Model for UserNode {
+    ghost use Rattle.policy_tree.specs.States.{UserState, IsUserState, configured_by};
+
+    ghost Value = { UserState };
+
+    ghost view = { λ user.
+        record { configured = configured_by user.transform; jobs = user.jobs.items } };
+
+    ghost invariant = { λ user.
+        IsUserState (record { configured = configured_by user.transform; jobs = user.jobs.items }) };
+}
+
+impl UserNode {
+    /// The user of a spec. Every demand is 0.
+    pub(crate) fn new(alloc: Global, spec: UserSpec) -> Result<UserNode, OutOfMemory>
+        requires weights { HasUserWeights spec }
+        requires few { user_weights spec ≤ MAX_TASKS }
+        ensures idle { IfOk result (λ user. user ≡ idle_user spec) }
+        ensures is { IfOk result IsUserState }
+    {
+        let UserSpec { function, jobs } = spec;
+        let transform = transform_of(alloc, function)?;
+        let jobs = job_nodes(alloc, jobs)?;
+        Ok(UserNode { transform, jobs })
+    }
+
+    /// The jobs.
+    pub(crate) fn jobs(&self) -> &[JobNode]
+        ensures { result.now ≡ self.now.jobs }
+    {
+        self.jobs.as_slice()
+    }
+
+    /// Sets the demand of a task of a job.
+    pub(crate) fn set(&mut self, job: usize, task: u32, demand: u64) -> Result<(), OutOfMemory>
+        requires job { job < length self.old.jobs }
+        requires task { task < job_tasks (job_at self.old.jobs job) }
+        requires demand { demand ≤ MAX_AMOUNT }
+        ensures ok { OnOk result (self.new ≡ user_with self.old job task demand) }
+        ensures err { OnErr result (self.new ≡ self.old) }
+    {
+        self.jobs[job].set(task, demand)?;
+        Ok(())
+    }
+
+    /// The demand of a task of a job.
+    pub(crate) fn demand(&self, job: usize, task: u32) -> u64
+        requires job { job < length self.now.jobs }
+        requires task { task < job_tasks (job_at self.now.jobs job) }
+        ensures { result ≡ (task_at (job_at self.now.jobs job).sum.tasks task).demand }
+    {
+        self.jobs[job].demand(task)
+    }
+
+    /// Makes the value cheap again.
+    pub(crate) fn rematch(&mut self)
+        ensures { self.new ≡ self.old }
+    {
+        rematch_jobs(self.jobs.as_mut_slice());
+        let jobs = Siblings {
+            nodes: self.jobs.as_slice(),
+        };
+        rebuild(&mut self.transform, &jobs);
+    }
+}
+
+impl ShareFunction for UserNode {
+    ghost meaning = { user_meaning };
+
+    fn value(&self, share: u64) -> u64 {
+        let jobs = Siblings {
+            nodes: self.jobs.as_slice(),
+        };
+        value_at(&self.transform, &jobs, share)
+    }
+}
+
+// The jobs of their specs.
+fn job_nodes(alloc: Global, specs: Vec<JobSpec>) -> Result<Vec<JobNode>, OutOfMemory>
+    requires weights { All HasJobWeights specs.items }
+    requires few { sum_by job_weights specs.items ≤ MAX_TASKS }
+    ensures idle { IfOk result (λ jobs. jobs.items ≡ map idle_job specs.items) }
+    ensures are { IfOk result (λ jobs. All IsJobState jobs.items) }
+{
+    let mut jobs = Vec::new(alloc);
+    for spec in specs {
+        let job = JobNode::new(alloc, spec)?;
+        jobs.push(job)?;
+    }
+    Ok(jobs)
+}
+
+// Makes the value of each job cheap again.
+fn rematch_jobs(jobs: &mut [JobNode])
+    ensures { jobs.new ≡ jobs.old }
+{
+    for job in jobs.iter_mut() {
+        job.rematch();
+    }
+}
