@@ -1,0 +1,43 @@
+//! Pieces of a line.
+
+ghost use Rattle.std.specs.Prelude.{◌≡◌, ◌++◌, ◌<◌, OnOk, codes, decimal, length, string_bytes};
+ghost use Rattle.table_text.specs.TableText.{name_at};
+
+use std::alloc::{AllocError, Global};
+
+/// Puts a number at the end of the text.
+pub(crate) fn push_number(alloc: Global, text: &mut String, number: u64) -> Result<(), AllocError>
+    ensures { OnOk result (string_bytes text.new ≡ string_bytes text.old ++ decimal number) }
+{
+    let digits = format!(in alloc; "{number}")?;
+    text.push_str(digits.as_str())
+}
+
+/// Puts a word and a number at the end of the text.
+pub(crate) fn push_word_and_number(
+    alloc: Global,
+    text: &mut String,
+    word: &str,
+    number: u64,
+) -> Result<(), AllocError>
+    ensures { OnOk result
+        (string_bytes text.new ≡ string_bytes text.old ++ word.now ++ decimal number) }
+{
+    text.push_str(word)?;
+    push_number(alloc, text, number)
+}
+
+/// Puts a word and the name of a number at the end of the text.
+pub(crate) fn push_word_and_name(
+    text: &mut String,
+    word: &str,
+    names: &[String],
+    number: u32,
+) -> Result<(), AllocError>
+    requires { number < length names.now }
+    ensures { OnOk result
+        (string_bytes text.new ≡ string_bytes text.old ++ word.now ++ name_at names.now number) }
+{
+    text.push_str(word)?;
+    text.push_str(names[number as usize].as_str())
+}

@@ -1,0 +1,236 @@
+//! The text of a table, line by line.
+
+ghost use Rattle.std.specs.Prelude.{◌≡◌, ◌++◌, ◌<◌, ◌≤◌, ◌^◌, ℕ, All, IfOk, OnOk, codes, decimal, flat_map, length, string_bytes, sum_by};
+ghost use Rattle.bwe_specs.specs.Reports.{numbers};
+ghost use Rattle.bwe_specs.specs.declared.limits.TheConstants.{MAX_TOTAL};
+ghost use Rattle.table_text.specs.TableText.{ClosedHasName, HasNames, closed_text, closing_line, group_lines, link_line, place_line, task_line, text_of};
+
+use crate::line::{push_number, push_word_and_name, push_word_and_number};
+use bwe_specs::{Closing, OutOfMemory};
+use limit_table::{GroupLine, LimitTable, PlaceLine};
+use doc_names::Names;
+use std::alloc::{AllocError, Global};
+
+#[tactic(auto, unfolding(crate::specs::TableText::text_of))]
+/// The text of the table, with the names of its links, groups and tasks.
+pub fn table_text(alloc: Global, table: &LimitTable, names: &Names) -> Result<Vec<u8>, OutOfMemory>
+    requires { HasNames names.now table.now }
+    ensures { IfOk result (λ text. text.items ≡ text_of names.now table.now) }
+{
+    let mut text = String::new(alloc);
+    push_word_and_number(alloc, &mut text, "table ", table.prefix)?;
+    text.push_str("\n")?;
+    push_closings(alloc, &mut text, names, &table.closings)?;
+    push_links(alloc, &mut text, names, &table.loads)?;
+    push_groups(alloc, &mut text, names, &table.groups)?;
+    push_tasks(alloc, &mut text, names, &table.limits)?;
+    push_word_and_number(alloc, &mut text, "total ", total(&table.groups))?;
+    text.push_str("\n")?;
+    Ok(text.into_bytes())
+}
+
+// What the groups get together.
+fn total(lines: &[GroupLine]) -> u64
+    requires { sum_by (λ line. line.amount) lines.now ≤ MAX_TOTAL }
+    ensures { result ≡ sum_by (λ line. line.amount) lines.now }
+{
+    let mut total = 0;
+    for line in lines {
+        total += line.amount;
+    }
+    total
+}
+
+fn push_closing(
+    alloc: Global,
+    text: &mut String,
+    names: &Names,
+    closing: Closing,
+) -> Result<(), AllocError>
+    requires { closing.link < length names.now.links.items }
+    ensures { OnOk result
+        (string_bytes text.new ≡ string_bytes text.old ++ closing_line names.now closing) }
+{
+    push_word_and_name(text, "closing ", &names.links, closing.link)?;
+    push_word_and_number(alloc, text, " at ", closing.share)?;
+    text.push_str("\n")
+}
+
+fn push_closings(
+    alloc: Global,
+    text: &mut String,
+    names: &Names,
+    closings: &[Closing],
+) -> Result<(), AllocError>
+    requires { All (λ closing. closing.link < length names.now.links.items) closings.now }
+    ensures { OnOk result
+        (string_bytes text.new ≡ string_bytes text.old ++ flat_map (closing_line names.now) closings.now) }
+{
+    for closing in closings {
+        push_closing(alloc, text, names, *closing)?;
+    }
+    Ok(())
+}
+
+fn push_link(
+    alloc: Global,
+    text: &mut String,
+    names: &Names,
+    loads: &[u64],
+    link: usize,
+) -> Result<(), AllocError>
+    requires load { link < length loads.now }
+    requires named { length loads.now ≤ length names.now.links.items }
+    requires few { length loads.now < 2 ^ 32 }
+    ensures { OnOk result
+        (string_bytes text.new ≡ string_bytes text.old ++ link_line names.now loads.now link) }
+{
+    push_word_and_name(text, "link ", &names.links, link as u32)?;
+    push_word_and_number(alloc, text, " load ", loads[link])?;
+    text.push_str("\n")
+}
+
+#[tactic(auto, using(crate::proofs::Lines::one_line_more))]
+fn push_links(
+    alloc: Global,
+    text: &mut String,
+    names: &Names,
+    loads: &[u64],
+) -> Result<(), AllocError>
+    requires named { length loads.now ≤ length names.now.links.items }
+    requires few { length loads.now < 2 ^ 32 }
+    ensures { OnOk result
+        (string_bytes text.new ≡ string_bytes text.old ++ flat_map (link_line names.now loads.now) (numbers (length loads.now))) }
+{
+    for link in 0..loads.len() {
+        push_link(alloc, text, names, loads, link)?;
+    }
+    Ok(())
+}
+
+#[tactic(auto, unfolding(crate::specs::TableText::closed_text))]
+fn push_closed(text: &mut String, names: &Names, closed: Option<u32>) -> Result<(), AllocError>
+    requires { (link : ℕ) → closed ≡ Some link → link < length names.now.links.items }
+    ensures { OnOk result
+        (string_bytes text.new ≡ string_bytes text.old ++ closed_text names.now closed) }
+{
+    match closed {
+        Some(link) => {
+            push_word_and_name(text, " closed by ", &names.links, link)?;
+            text.push_str("\n")
+        }
+        None => text.push_str(" open\n"),
+    }
+}
+
+fn push_place(
+    alloc: Global,
+    text: &mut String,
+    names: &Names,
+    lines: &[PlaceLine],
+    place: usize,
+) -> Result<(), AllocError>
+    requires place { place < length lines.now }
+    requires named { All (ClosedHasName (length names.now.links.items)) lines.now }
+    ensures { OnOk result
+        (string_bytes text.new ≡ string_bytes text.old ++ place_line names.now lines.now place) }
+{
+    let line = lines[place];
+    push_word_and_number(alloc, text, "place ", place as u64)?;
+    push_word_and_number(alloc, text, " amount ", line.amount)?;
+    push_closed(text, names, line.closed)
+}
+
+#[tactic(auto, using(crate::proofs::Lines::one_line_more))]
+fn push_places(
+    alloc: Global,
+    text: &mut String,
+    names: &Names,
+    lines: &[PlaceLine],
+) -> Result<(), AllocError>
+    requires { All (ClosedHasName (length names.now.links.items)) lines.now }
+    ensures { OnOk result
+        (string_bytes text.new ≡ string_bytes text.old ++ flat_map (place_line names.now lines.now) (numbers (length lines.now))) }
+{
+    for place in 0..lines.len() {
+        push_place(alloc, text, names, lines, place)?;
+    }
+    Ok(())
+}
+
+fn push_group(
+    alloc: Global,
+    text: &mut String,
+    names: &Names,
+    lines: &[GroupLine],
+    group: usize,
+) -> Result<(), AllocError>
+    requires group { group < length lines.now }
+    requires named { length lines.now ≤ length names.now.groups.items }
+    requires few { length lines.now < 2 ^ 32 }
+    requires places { All (λ line. All (ClosedHasName (length names.now.links.items)) line.places) lines.now }
+    ensures { OnOk result
+        (string_bytes text.new ≡ string_bytes text.old ++ group_lines names.now lines.now group) }
+{
+    let line = &lines[group];
+    push_word_and_name(text, "group ", &names.groups, group as u32)?;
+    push_word_and_number(alloc, text, " share ", line.share)?;
+    push_word_and_number(alloc, text, " amount ", line.amount)?;
+    text.push_str("\n")?;
+    push_places(alloc, text, names, &line.places)
+}
+
+#[tactic(auto, using(crate::proofs::Lines::one_line_more))]
+fn push_groups(
+    alloc: Global,
+    text: &mut String,
+    names: &Names,
+    lines: &[GroupLine],
+) -> Result<(), AllocError>
+    requires named { length lines.now ≤ length names.now.groups.items }
+    requires few { length lines.now < 2 ^ 32 }
+    requires places { All (λ line. All (ClosedHasName (length names.now.links.items)) line.places) lines.now }
+    ensures { OnOk result
+        (string_bytes text.new ≡ string_bytes text.old ++ flat_map (group_lines names.now lines.now) (numbers (length lines.now))) }
+{
+    for group in 0..lines.len() {
+        push_group(alloc, text, names, lines, group)?;
+    }
+    Ok(())
+}
+
+fn push_task(
+    alloc: Global,
+    text: &mut String,
+    names: &Names,
+    limits: &[u64],
+    task: usize,
+) -> Result<(), AllocError>
+    requires task { task < length limits.now }
+    requires named { length limits.now ≤ length names.now.tasks.items }
+    requires few { length limits.now < 2 ^ 32 }
+    ensures { OnOk result
+        (string_bytes text.new ≡ string_bytes text.old ++ task_line names.now limits.now task) }
+{
+    push_word_and_name(text, "task ", &names.tasks, task as u32)?;
+    push_word_and_number(alloc, text, " limit ", limits[task])?;
+    text.push_str("\n")
+}
+
+#[tactic(auto, using(crate::proofs::Lines::one_line_more))]
+fn push_tasks(
+    alloc: Global,
+    text: &mut String,
+    names: &Names,
+    limits: &[u64],
+) -> Result<(), AllocError>
+    requires named { length limits.now ≤ length names.now.tasks.items }
+    requires few { length limits.now < 2 ^ 32 }
+    ensures { OnOk result
+        (string_bytes text.new ≡ string_bytes text.old ++ flat_map (task_line names.now limits.now) (numbers (length limits.now))) }
+{
+    for task in 0..limits.len() {
+        push_task(alloc, text, names, limits, task)?;
+    }
+    Ok(())
+}
