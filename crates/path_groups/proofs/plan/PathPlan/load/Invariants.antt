@@ -1,0 +1,7 @@
+use Rattle.std.proofs.Common.{◌≡◌, false, take}
+use Rattle.path_groups.specs.Parts.{has_part}
+use Rattle.path_groups.proofs.plan.PathPlan.load.Given as goal
+
+-- no part before is the link's
+abbrev pub invariant-loop-part : goal.invariant-loop-part
+invariant-loop-part l = has_part (take l.part-index l.part-items) l.link ≡ false
