@@ -1,6 +1,7 @@
 -- Lists that contracts see through a function, item by item.
-use Rattle.std.proofs.Common.{◌≡◌, ℕ, zero, suc, ◌<◌, List, [], ◌∷◌, length, map, refl, sym, ◌∙◌, ap, arith, subst, get_or}
+use Rattle.std.proofs.Common.{◌≡◌, ℕ, zero, suc, ◌<◌, Bool, ◌||◌, List, [], ◌∷◌, length, map, refl, sym, ◌∙◌, ap, arith, subst, get_or}
 use Rattle.std.specs.Prelude.{All}
+use Rattle.std.specs.List.{list_any}
 use Rattle.std.proofs.lemmas.List.{length-map}
 
 pub get_map : {A B : Type 0} (f : A → B) (xs : List A) (i : ℕ) (d : A) (e : B) → i < length xs → get_or (map f xs) i e ≡ f (get_or xs i d)
@@ -17,3 +18,11 @@ pub All-map_item : {A B : Type 0} (P : B → Type 0) (f : A → B) (xs : List A)
 All-map_item P f xs i x lt is all =
     let within : i < length (map f xs) = omega (arith, length-map xs f) in
     subst P (get_map-item f xs i x (f x) lt is) (all i (f x) within)
+
+-- a test of the items as they are seen
+pub any_map : {A B : Type 0} (test : B → Bool) (f : A → B) (xs : List A) → list_any test (map f xs) ≡ list_any (λ x. test (f x)) xs
+any_map test f [] = refl
+any_map test f (x ∷ xs) = ap (λ b. test (f x) || b) (any_map test f xs)
+
+pub length_map : {A B : Type 0} (f : A → B) (xs : List A) → length (map f xs) ≡ length xs
+length_map f xs = length-map xs f

@@ -22,10 +22,6 @@ sum_map : {A B : Type 0} (weight : B → ℕ) (f : A → B) (xs : List A) → su
 sum_map weight f [] = refl
 sum_map weight f (x ∷ xs) = sum_by-cons weight (f x) (map f xs) ∙ ap (λ n. weight (f x) + n) (sum_map weight f xs) ∙ sym (sum_by-cons (λ y. weight (f y)) x xs)
 
-any_map : {A B : Type 0} (test : B → Bool) (f : A → B) (xs : List A) → list_any test (map f xs) ≡ list_any (λ x. test (f x)) xs
-any_map test f [] = refl
-any_map test f (x ∷ xs) = ap (λ b. test (f x) || b) (any_map test f xs)
-
 pub weight_of-read : (paths : List PathSpec) → weight_of (map path_of paths) ≡ sum_by (λ path. path.weight) paths
 unfolding weight_of
 weight_of-read paths = sum_map (λ path. path.weight) path_of paths
