@@ -7,8 +7,8 @@ ghost use Rattle.table_text.specs.TableText.{ClosedHasName, HasNames, closed_tex
 
 use crate::line::{push_number, push_word_and_name, push_word_and_number};
 use bwe_specs::{Closing, OutOfMemory};
-use limit_table::{GroupLine, LimitTable, PlaceLine};
 use doc_names::Names;
+use limit_table::{GroupLine, LimitTable, PlaceLine};
 use std::alloc::{AllocError, Global};
 
 #[tactic(auto, unfolding(crate::specs::TableText::text_of))]
