@@ -1,0 +1,29 @@
+//! What the allocator does.
+ghost use mathlib.Core.List.{IsPrefix};
+
+use crate::actor::{Actor, Gate};
+use board::{AllocatorPass, Bases, Board, Profile};
+use bwe_specs::OutOfMemory;
+use demand_book::Maker;
+use std::alloc::Global;
+use std::sync::Wait;
+
+/// Makes so many rounds. Each posts a table of the log as it stands, where none covers it.
+pub fn make_rounds<M: Maker, N: Profile<M::Table>, B: Bases, G: Gate, R: Wait>(
+    rt: &R,
+    alloc: Global,
+    board: &Board<M, N, B>,
+    gate: &G,
+    rounds: u64,
+    pass: &mut AllocatorPass<B>,
+) -> Result<(), OutOfMemory>
+    ensures seen { IsPrefix pass.old pass.new }
+{
+    for call in 0..rounds {
+        gate.before(Actor::Allocator, call);
+        let posted = board.round(rt, alloc, pass);
+        gate.after(Actor::Allocator, call);
+        posted?;
+    }
+    Ok(())
+}

@@ -1,0 +1,90 @@
+//! What a reporter does.
+ghost use Rattle.std.specs.Prelude.{◌≡◌, ◌++◌, ◌∷◌, [], length, OnOk};
+ghost use Rattle.std.specs.List.{All};
+ghost use Rattle.board_log.specs.Laws.{without_places};
+ghost use Rattle.board_log.specs.Roll.{IsBy};
+ghost use Rattle.board.specs.Allowed.{IsAllowed};
+
+use crate::actor::{Actor, Gate};
+use crate::reading::NewestAck;
+use board::{Bases, Board, Profile, ReporterPass};
+use bwe_specs::{OutOfMemory, Report};
+use demand_book::Maker;
+use std::alloc::Global;
+use std::sync::Wait;
+
+// Reports one entry of a script.
+fn report_one<M: Maker, N: Profile<M::Table>, B: Bases, G: Gate, R: Wait>(
+    rt: &R,
+    alloc: Global,
+    board: &Board<M, N, B>,
+    gate: &G,
+    call: u64,
+    report: Report,
+    pass: &mut ReporterPass<B>,
+) -> Result<(), OutOfMemory>
+    requires by { report.reporter ≡ pass.old.number }
+    requires allowed { IsAllowed N.reporters N.tasks N.links report }
+    ensures number { pass.new.number ≡ pass.old.number }
+    ensures own { OnOk result (without_places pass.new.own ≡ without_places pass.old.own ++ report ∷ []) }
+{
+    let actor = Actor::Reporter {
+        number: pass.number(),
+    };
+    gate.before(actor, call);
+    let placed = board.report(rt, alloc, pass, &[report]);
+    gate.after(actor, call);
+    match placed {
+        Ok(_) => Ok(()),
+        Err(_) => Err(OutOfMemory),
+    }
+}
+
+// Reports each entry of a script, one after another.
+fn report_script<M: Maker, N: Profile<M::Table>, B: Bases, G: Gate, R: Wait>(
+    rt: &R,
+    alloc: Global,
+    board: &Board<M, N, B>,
+    gate: &G,
+    script: &[Report],
+    pass: &mut ReporterPass<B>,
+) -> Result<(), OutOfMemory>
+    requires by { All (IsBy pass.old.number) script.now }
+    requires allowed { All (IsAllowed N.reporters N.tasks N.links) script.now }
+    requires fresh { pass.old.own ≡ [] }
+    ensures number { pass.new.number ≡ pass.old.number }
+    ensures own { OnOk result (without_places pass.new.own ≡ script.now) }
+{
+    for (call, report) in script.iter().enumerate() {
+        report_one(rt, alloc, board, gate, call as u64, *report, pass)?;
+    }
+    Ok(())
+}
+
+/// Reports each entry of a script by a call of its own, and settles. The acknowledgement is left for the readers.
+pub fn report_and_settle<M: Maker, N: Profile<M::Table>, B: Bases, G: Gate, R: Wait>(
+    rt: &R,
+    alloc: Global,
+    board: &Board<M, N, B>,
+    newest: &NewestAck<B>,
+    gate: &G,
+    script: &[Report],
+    pass: &mut ReporterPass<B>,
+) -> Result<(), OutOfMemory>
+    requires by { All (IsBy pass.old.number) script.now }
+    requires allowed { All (IsAllowed N.reporters N.tasks N.links) script.now }
+    requires fresh { pass.old.own ≡ [] }
+    ensures number { pass.new.number ≡ pass.old.number }
+    ensures own { OnOk result (without_places pass.new.own ≡ script.now) }
+{
+    report_script(rt, alloc, board, gate, script, pass)?;
+    let actor = Actor::Reporter {
+        number: pass.number(),
+    };
+    let call = script.len() as u64;
+    gate.before(actor, call);
+    let settled = board.settle(rt, alloc, pass);
+    gate.after(actor, call);
+    *newest.lock(rt) = Some(settled?);
+    Ok(())
+}
