@@ -4,7 +4,8 @@ use Rattle.std.specs.List.{All}
 use Rattle.std.specs.declared.alloc.Global.{Global}
 use Rattle.bwe_specs.specs.declared.report.Report.{Report}
 use Rattle.bwe_specs.specs.Reports.{reports_of}
-use Rattle.board.specs.Allowed.{IsAllowed}
+use Rattle.board_core.specs.Core.{IsAllowed}
+use Rattle.demand_book.specs.Fit.{IsFit}
 use Rattle.crew_actors.specs.declared.log.ReadLine.{ReadLine}
 use Rattle.crew_actors.specs.declared.log.ReaderLog.{ReaderLog}
 use Rattle.crew_actors.specs.declared.log.CrewLog.{CrewLog}
@@ -26,8 +27,8 @@ pub record IsReaderOf {T : Type 0} (belongs : List Report → T → Type 0) (tot
 -- the history has each reporter's script once and in its order and no other report, each reader is one of it, and the table is its table
 pub record IsLegalCrewLog {T : Type 0} (belongs : List Report → T → Type 0) (total_of : T → ℕ) (tasks links : ℕ) (scripts : List (Vec Report Global)) (readers reads : ℕ) (log : CrewLog T) : Type 0 where
   pub scripts_so : (number : ℕ) (other : Vec Report Global) → number < length scripts → reports_of number log.history.items ≡ (slice_index_or scripts number other).items
-  pub no_other : All (IsAllowed (length scripts) tasks links) log.history.items
+  pub no_other : All (IsAllowed (length scripts) (IsFit tasks links)) log.history.items
   pub sent : log.sent.items ≡ map (λ script. length script.items) scripts
   pub readers_so : length log.readers.items ≡ readers
-  pub each_reader : All (IsReaderOf belongs total_of (IsAllowed (length scripts) tasks links) reads log.history.items) log.readers.items
+  pub each_reader : All (IsReaderOf belongs total_of (IsAllowed (length scripts) (IsFit tasks links)) reads log.history.items) log.readers.items
   pub table_so : belongs log.history.items log.table

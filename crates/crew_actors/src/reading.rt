@@ -2,7 +2,8 @@
 ghost use Rattle.std.specs.Prelude.{◌≡◌, ◌+◌, ◌-◌, ◌^◌, ◌<◌, ◌≤◌, ◌++◌, [], length, drop, min, IfOk, OnOk};
 ghost use Rattle.std.specs.List.{All};
 ghost use mathlib.Core.List.{IsPrefix};
-ghost use Rattle.board.specs.Allowed.{IsAllowed};
+ghost use Rattle.board_core.specs.Core.{IsAllowed};
+ghost use Rattle.demand_book.specs.Fit.{IsFit};
 ghost use Rattle.crew_actors.specs.Lines.{IsLineOf, NeverGoBack, HasRead};
 ghost use Rattle.crew_actors.specs.LegalCrewLog.{IsReaderOf};
 
@@ -67,7 +68,7 @@ fn read_last<T: Posted, N: Profile<T>, B: Bases, G: Gate>(
     ensures line { IfOk result (λ last. IsLineOf N.belongs T.total_of pass.new.log last.line) }
     ensures length { IfOk result (λ last. last.length ≡ length pass.new.log) }
     ensures beyond { IfOk result (λ last. last.beyond.items ≡ drop from pass.new.log) }
-    ensures allowed { OnOk result (All (IsAllowed N.reporters N.tasks N.links) pass.new.log) }
+    ensures allowed { OnOk result (All (IsAllowed N.reporters (IsFit N.tasks N.links)) pass.new.log) }
     ensures log { IsPrefix pass.old.log pass.new.log }
     ensures reads { pass.new.reads ≡ min (pass.old.reads + 1) (2 ^ 64 - 1) }
 {
@@ -162,7 +163,7 @@ pub fn read_to_the_end<T: Posted, N: Profile<T>, B: Bases, G: Gate>(
     requires lines { All (IsLineOf N.belongs T.total_of pass.old.log) reads.items }
     requires never_back { NeverGoBack 0 reads.items (T.covers pass.old.table) }
     ensures reader { IfOk result (IsReaderOf
-        N.belongs T.total_of (IsAllowed N.reporters N.tasks N.links) (length reads.items) end.now) }
+        N.belongs T.total_of (IsAllowed N.reporters (IsFit N.tasks N.links)) (length reads.items) end.now) }
     ensures log { IfOk result (λ reader. pass.new.log ≡ end.now ++ reader.beyond.items) }
     ensures floor { IfOk result (λ reader. T.covers pass.new.table ≡ reader.last.prefix) }
     ensures reads { OnOk result (pass.new.reads ≡ min (pass.old.reads + 1) (2 ^ 64 - 1)) }

@@ -3,7 +3,8 @@ ghost use Rattle.std.specs.Prelude.{◌≡◌, ◌++◌, ◌∷◌, [], length, 
 ghost use Rattle.std.specs.List.{All};
 ghost use Rattle.board_log.specs.Laws.{without_places};
 ghost use Rattle.board_log.specs.Roll.{IsBy};
-ghost use Rattle.board.specs.Allowed.{IsAllowed};
+ghost use Rattle.board_core.specs.Core.{IsAllowed};
+ghost use Rattle.demand_book.specs.Fit.{IsFit};
 
 use crate::actor::{Actor, Gate};
 use crate::reading::NewestAck;
@@ -24,7 +25,7 @@ fn report_one<M: Maker, N: Profile<M::Table>, B: Bases, G: Gate, R: Wait>(
     pass: &mut ReporterPass<B>,
 ) -> Result<(), OutOfMemory>
     requires by { report.reporter ≡ pass.old.number }
-    requires allowed { IsAllowed N.reporters N.tasks N.links report }
+    requires allowed { IsAllowed N.reporters (IsFit N.tasks N.links) report }
     ensures number { pass.new.number ≡ pass.old.number }
     ensures own { OnOk result (without_places pass.new.own ≡ without_places pass.old.own ++ report ∷ []) }
 {
@@ -50,7 +51,7 @@ fn report_script<M: Maker, N: Profile<M::Table>, B: Bases, G: Gate, R: Wait>(
     pass: &mut ReporterPass<B>,
 ) -> Result<(), OutOfMemory>
     requires by { All (IsBy pass.old.number) script.now }
-    requires allowed { All (IsAllowed N.reporters N.tasks N.links) script.now }
+    requires allowed { All (IsAllowed N.reporters (IsFit N.tasks N.links)) script.now }
     requires fresh { pass.old.own ≡ [] }
     ensures number { pass.new.number ≡ pass.old.number }
     ensures own { OnOk result (without_places pass.new.own ≡ script.now) }
@@ -72,7 +73,7 @@ pub fn report_and_settle<M: Maker, N: Profile<M::Table>, B: Bases, G: Gate, R: W
     pass: &mut ReporterPass<B>,
 ) -> Result<(), OutOfMemory>
     requires by { All (IsBy pass.old.number) script.now }
-    requires allowed { All (IsAllowed N.reporters N.tasks N.links) script.now }
+    requires allowed { All (IsAllowed N.reporters (IsFit N.tasks N.links)) script.now }
     requires fresh { pass.old.own ≡ [] }
     ensures number { pass.new.number ≡ pass.old.number }
     ensures own { OnOk result (without_places pass.new.own ≡ script.now) }

@@ -1,6 +1,7 @@
 use Rattle.std.proofs.Common.{◌≡◌, ◌++◌, List, ℕ, length, drop, sym, ◌∙◌, ap, arith}
 use mathlib.Core.List.{IsPrefix}
-use Rattle.board.specs.Allowed.{IsAllowed}
+use Rattle.board_core.specs.Core.{IsAllowed}
+use Rattle.demand_book.specs.Fit.{IsFit}
 use Rattle.bwe_specs.specs.declared.report.Report.{Report}
 use Rattle.crew_actors.specs.declared.log.ReaderLog.{ReaderLog}
 use Rattle.crew_actors.proofs.Lines.{prefix_then}
@@ -20,7 +21,7 @@ returns g c =
     let grew : IsPrefix c.args.pass.now.log log = prefix_then c.args.pass.now.log learnt.log log c.learn.ensures.log says.log in
     let beyond : read.beyond.items ≡ drop (length history) log = says.beyond ∙ ap (λ (n : ℕ). drop n log) c.prefix.ensures.prefix in
     record {
-      reader = is_reader g.N.Profile.belongs g.T.Posted.total_of (IsAllowed g.N.Profile.reporters g.N.Profile.tasks g.N.Profile.links)
+      reader = is_reader g.N.Profile.belongs g.T.Posted.total_of (IsAllowed g.N.Profile.reporters (IsFit g.N.Profile.tasks g.N.Profile.links))
           history c.args.pass.now.log log (covers c.args.pass.now.table) reader begins grew beyond says.length says.allowed c.requires.lines c.requires.never_back
           (omega (arith, says.floor, c.learn.ensures.floor)) (omega (arith, says.floor, c.in_ok-learn.ensures.covers)) says.never_back says.line;
       log = beyond_of history log begins ∙ ap (λ (rest : List Report). history ++ rest) (sym beyond);
