@@ -1,0 +1,29 @@
+//! What is filled.
+
+ghost use Rattle.std.specs.Prelude.{◌≡◌, ◌<◌, ◌≤◌};
+ghost use Rattle.mpfa_fill.specs.GroupValues.{Values, AreGroupValues};
+
+/// What each group may have at each share, in kilobits per second.
+///
+/// Groups are numbered from 0. Shares go from 0 to the top share.
+pub trait GroupValues {
+    ghost meaning: { Self → Values };
+
+    /// How many groups there are.
+    fn groups(&self) -> u32
+        ensures { result ≡ (meaning self.now).groups };
+
+    /// The top share, at most 1,000,000,000.
+    ///
+    /// Whoever asks for it learns that each group's value is 0 at share 0 and never falls up to the top, and
+    /// that all groups have together at most 20,000,000,000,000,000 there.
+    fn top(&self) -> u64
+        ensures top { result ≡ (meaning self.now).top }
+        ensures values { AreGroupValues (meaning self.now) };
+
+    /// The group's value at the share.
+    fn value(&self, group: u32, share: u64) -> u64
+        requires group { group < (meaning self.now).groups }
+        requires share { share ≤ (meaning self.now).top }
+        ensures { result ≡ (meaning self.now).value group share };
+}

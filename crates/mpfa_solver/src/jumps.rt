@@ -1,0 +1,89 @@
+//! The filling by jumps.
+
+ghost use Rattle.std.specs.Prelude.{◌≡◌, ℕ, ◌+◌, ◌*◌, ◌<◌, ◌≤◌, length, reverse, IfOk};
+ghost use Rattle.bwe_specs.specs.Filling.{filling, IsReached};
+ghost use Rattle.path_groups.specs.Plan.{IsBuiltOn};
+ghost use Rattle.mpfa_fill.specs.GroupValues.{Values, wan_of};
+ghost use Rattle.mpfa_fill.specs.Filling.{IsFilling};
+ghost use Rattle.mpfa_fill.specs.Moment.{IsMoment, wan_in, state_of};
+ghost use Rattle.mpfa_solver.specs.Stops.{hint_of, searches};
+
+use crate::rise::risen;
+use bwe_specs::OutOfMemory;
+use mono_search::Steps;
+use mpfa_fill::{Closing, Filling, GroupValues, Moment};
+use path_groups::PathPlan;
+use std::alloc::Global;
+use std::marker::Brand;
+use std::sync::ledger::Ledger;
+use wan_topology::Topology;
+
+/// The filling of the values over the paths of the plan, between the capacities of the topology ("Filling", "Stop
+/// share", docs/DEFINITIONS.md), found by one search for each closing.
+///
+/// The hints say where links may close; they change the number of tests alone. The search for the closing at a place of
+/// the answer is begun at the share of the hint there, or at the top where there is none.
+pub fn solve<'a, V: GroupValues, L: Ledger>(
+    alloc: Global,
+    values: &'a V,
+    topology: &'a Topology,
+    plan: &'a PathPlan,
+    hints: &[Closing],
+    steps: &mut Steps<L>,
+) -> Result<Filling, OutOfMemory>
+    requires built_on { IsBuiltOn topology.now plan.now }
+    requires groups { (V.meaning values.now).groups ≡ length plan.now }
+    ensures filling { IfOk result
+        (IsFilling (wan_of (V.meaning values.now) plan.now topology.now.capacities)) }
+
+    // Also where memory is wanting.
+    ensures ticks { let closings = (filling (wan_of (V.meaning values.now) plan.now topology.now.capacities)).closings in
+        steps.new ≤ steps.old + 62 * (length closings + 1) }
+    ensures right_hints { let closings = (filling (wan_of (V.meaning values.now) plan.now topology.now.capacities)).closings in
+        hints.now ≡ reverse closings → steps.new ≤ steps.old + 2 * (length closings + 1) }
+{
+    let top = values.top();
+    let mut moment = Moment::first(alloc, values, topology, plan)?;
+    while moment.share() < top {
+        moment = advanced(moment, top, hints, steps)?;
+    }
+    moment.into_filling(alloc)
+}
+
+// Takes a moment past the next closing, or to the top where there is none.
+fn advanced<'a, V: GroupValues, L: Ledger>(
+    moment: Moment<'a, V>,
+    top: u64,
+    hints: &[Closing],
+    steps: &mut Steps<L>,
+) -> Result<Moment<'a, V>, OutOfMemory>
+    requires moment { IsMoment V.meaning moment }
+    requires reached { IsReached (wan_in V.meaning moment) (state_of moment) }
+    requires top { top ≡ (V.meaning moment.values.now).top }
+    requires below { (state_of moment).share < top }
+    ensures moment { IfOk result (IsMoment V.meaning) }
+    ensures wan { IfOk result (λ next. wan_in V.meaning next ≡ wan_in V.meaning moment.entry) }
+    ensures reached { IfOk result (λ next. IsReached (wan_in V.meaning moment.entry) (state_of next)) }
+    ensures search { IfOk result (λ next.
+        searches top (state_of next) ≡ searches top (state_of moment.entry) + 1) }
+    ensures ticks { steps.new ≤ steps.old + 62 }
+    ensures right_hints { hints.now ≡ reverse (filling (wan_in V.meaning moment.entry)).closings
+        → steps.new ≤ steps.old + 2 }
+{
+    let hint = hint_at(hints, moment.closings().len(), moment.share(), top);
+    let mut moment = risen::<V, Brand, L>(moment, top, hint, steps);
+    if moment.share() < top {
+        moment.step()?;
+    }
+    Ok(moment)
+}
+
+// The share to look at first in the search for the closing at this place.
+fn hint_at(hints: &[Closing], place: usize, low: u64, top: u64) -> u64
+    ensures { result ≡ hint_of hints.now place low top }
+{
+    match hints.get(place) {
+        Some(hint) => top.min(low.max(hint.share)),
+        None => top,
+    }
+}

@@ -1,0 +1,13 @@
+//! The filling of a network by jumps: one search for each closing.
+//!
+//! `solve` answers what `fill_by_steps` of `mpfa_fill` answers, for every top share, and from any hints. The table of
+//! limits and the tiers are filled with it. It counts its tests on a `Steps`: a test is whether every link fits at one
+//! share. Hints that are the closings of the answer, as those of the last table mostly are, make two tests a closing.
+//! Nothing is promised of the time that a test takes.
+#![tactic(auto)]
+
+mod jumps;
+mod rise;
+
+pub use jumps::solve;
+pub use mpfa_fill::{Closing, Filling};
