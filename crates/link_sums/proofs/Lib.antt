@@ -1,0 +1,5 @@
+pub mod Rows
+pub mod Totals
+pub mod MovedLoads
+pub mod Changes
+pub mod Opened

@@ -1,0 +1,44 @@
+-- Amounts by group and place, and the loads that they put on links.
+use Rattle.std.specs.Prelude.{◌≡◌, ℕ, ◌+◌, ◌<◌, ◌≤◌, List, [], length, map, slice_index, slice_index_or, nat_lt, true, Option, Vec}
+use Rattle.std.proofs.Common.{Global}
+use Rattle.bwe_specs.specs.Bounded.{sum_below, lowest_below}
+use Rattle.path_groups.specs.Plan.{IsPlan}
+use Rattle.bwe_specs.specs.Paths.{PathGroups, path_group_at, path_group_count, uses, link_load}
+
+abbrev pub rows_in : List (Vec ℕ Global) → List (List ℕ)
+rows_in rows = map (λ row. row.items) rows
+
+-- the amount of a group at a place, of all rows; 0 where there is none
+abbrev pub amount_at : List (List ℕ) → ℕ → ℕ → ℕ
+amount_at rows group place = slice_index (slice_index_or rows group []) place
+
+-- there is a row for each group, and in it an amount for each place
+pub record AreRowsOf (groups : List PathGroups) (rows : List (List ℕ)) : Type 0 where
+  pub each_group : length rows ≡ length groups
+  pub each_place : (group : ℕ) → group < length groups → length (slice_index_or rows group []) ≡ path_group_count groups group
+
+-- all amounts together
+abbrev pub total_of : List PathGroups → List (List ℕ) → ℕ
+total_of groups rows = sum_below (length groups) (λ group. sum_below (path_group_count groups group) (amount_at rows group))
+
+-- the amount at one place has grown by so much, and each other is as it was
+pub record RaisesAmount (old new : List (List ℕ)) (group place more : ℕ) : Type 0 where
+  pub raised : amount_at new group place ≡ amount_at old group place + more
+  pub others : (group' place' : ℕ) → (group' ≡ group → place' ≡ place → ⊥) → amount_at new group' place' ≡ amount_at old group' place'
+
+-- the amounts in rows, and the load of each link
+pub record Sums : Type 0 where
+  pub amounts : List (List ℕ)
+  pub loads : List ℕ
+
+-- the loads are those of the amounts on the path groups of a plan, which are few enough to be summed
+pub record IsSummedOver (groups : List PathGroups) (sums : Sums) : Type 0 where
+  pub plan : IsPlan groups
+  pub rows : AreRowsOf groups sums.amounts
+  pub total : total_of groups sums.amounts ≤ 20_000_000_000_000_000
+  pub links : (group place link : ℕ) → uses (path_group_at groups group place) link ≡ true → link < length sums.loads
+  pub loads : (link : ℕ) → link < length sums.loads → slice_index sums.loads link ≡ link_load groups (amount_at sums.amounts) link
+
+-- the lowest link whose load exceeds its capacity
+abbrev pub lowest_link_over : List ℕ → List ℕ → Option ℕ
+lowest_link_over capacities loads = lowest_below (length capacities) (λ link. nat_lt (slice_index capacities link) (slice_index loads link))
