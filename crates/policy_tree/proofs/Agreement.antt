@@ -15,13 +15,14 @@ use Rattle.policy_tree.specs.Asked.{HasTop}
 use Rattle.policy_tree.specs.Numbering.{numbered, points_by, numbered_tasks, numbered_job, numbered_jobs, numbered_user, numbered_users, numbered_cluster, job_demands, user_demands, cluster_demands}
 use Rattle.policy_tree.specs.Kept.{HaveJobTop, HaveUserTop, HaveClusterTop}
 use Rattle.policy_tree.proofs.Meanings.{nodes-sum}
-use Rattle.policy_tree.proofs.Numbers.{Agrees, values-agree}
+use Rattle.policy_tree.specs.Nodes.{Agrees}
+use Rattle.policy_tree.proofs.Numbers.{values-agree}
 
 -- there are as many demands as tasks
 pub length-job_demands : (job : JobState) → length (job_demands job) ≡ job_tasks job
 length-job_demands job = length-map job.sum.tasks (λ task. task.demand)
 
-lengths-same : {X : Type 0} (demands : X → List ℕ) (tasks : X → ℕ) → ((x : X) → length (demands x) ≡ tasks x) → (xs : List X) → length (flat_map demands xs) ≡ sum_by tasks xs
+pub lengths-same : {X : Type 0} (demands : X → List ℕ) (tasks : X → ℕ) → ((x : X) → length (demands x) ≡ tasks x) → (xs : List X) → length (flat_map demands xs) ≡ sum_by tasks xs
 lengths-same demands tasks same [] = refl
 lengths-same demands tasks same (x ∷ xs) =
     omega (arith, length-flat_map demands (x ∷ xs), length-flat_map demands xs, sum_by-cons (λ y. length (demands y)) x xs, sum_by-cons tasks x xs, same x, lengths-same demands tasks same xs)
@@ -43,7 +44,7 @@ node-agrees top (Some function) sum sum' has same =
     ap₂ {C = ℕ → ℕ} (λ t s share. s (inner_share t function.points s share)) (sym has) same
 
 -- the values of a job's tasks
-tasks-agree : (points : List Point) (demand : ℕ → ℕ) (first : ℕ) (tasks : List Task) → Agrees demand first (map (λ task. task.demand) tasks)
+pub tasks-agree : (points : List Point) (demand : ℕ → ℕ) (first : ℕ) (tasks : List Task) → Agrees demand first (map (λ task. task.demand) tasks)
     → map (λ task. task_value points task.weight (demand task.number)) (numbered_tasks first tasks) ≡ map (λ (task : Task). task_value points task.weight task.demand) tasks
 unfolding numbered
 tasks-agree points demand first [] agrees = refl

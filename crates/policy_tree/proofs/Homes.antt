@@ -8,11 +8,11 @@ use Rattle.std.proofs.lemmas.List.Sums.{sum_by-cons}
 use Rattle.capped_sum.specs.declared.task.Task.{Task}
 use Rattle.capped_sum.specs.CappedSum.{task_at}
 use Rattle.policy_tree.specs.declared.home.Home.{Home}
-use Rattle.policy_tree.specs.States.{JobState, UserState, ClusterState, job_tasks}
+use Rattle.policy_tree.specs.States.{JobState, UserState, ClusterState, job_tasks, cluster_tasks}
 use Rattle.policy_tree.specs.Changes.{job_at, user_at, cluster_at, cluster_with}
 use Rattle.policy_tree.specs.Numbering.{job_demands, user_demands, cluster_demands, demands_of}
 use Rattle.policy_tree.specs.Kept.{user_counts, cluster_counts, counts_of, users_count, clusters_count, IsHome}
-use Rattle.policy_tree.proofs.Agreement.{length-job_demands}
+use Rattle.policy_tree.proofs.Agreement.{length-job_demands, length-cluster_demands, lengths-same}
 
 -- one list among many changes at a place
 set-append_add : (xs ys : List ℕ) (place value : ℕ) → set (xs ++ ys) (length xs + place) value ≡ xs ++ set ys place value
@@ -51,6 +51,12 @@ counts_of-length clusters = counts-lengths cluster_counts users_count cluster_de
 before-length : {X C : Type 0} (count : X → C) (size : C → ℕ) (f : X → List ℕ) → ((x : X) → size (count x) ≡ length (f x)) → (xs : List X) (place : ℕ)
     → sum_by size (take place (map count xs)) ≡ length (flat_map f (take place xs))
 before-length count size f same xs place = ap (sum_by size) (take-map count place xs) ∙ counts-lengths count size f same (take place xs)
+
+-- so many tasks come before a cluster
+pub counts-before : (clusters : List ClusterState) (place : ℕ) → clusters_count (take place (counts_of clusters)) ≡ sum_by cluster_tasks (take place clusters)
+counts-before clusters place =
+    before-length cluster_counts users_count cluster_demands cluster_counts-length clusters place
+    ∙ lengths-same cluster_demands cluster_tasks length-cluster_demands (take place clusters)
 
 -- a task at home, seen in the nodes
 pub record IsAt (clusters : List ClusterState) (number : ℕ) (home : Home) : Type 0 where

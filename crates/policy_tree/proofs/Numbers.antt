@@ -4,6 +4,7 @@ use Rattle.std.proofs.lemmas.List.{length-append, get_or_append_left, get_or-app
 use Rattle.std.proofs.lemmas.List.Sums.{sum_by-cons}
 use Rattle.std.proofs.lemmas.List.Elements.{All-head, All-tail}
 use Rattle.policy_tree.specs.Numbering.{numbered}
+use Rattle.policy_tree.specs.Nodes.{Agrees}
 
 pub length-numbered : {X Y : Type 0} (tasks : X → ℕ) (item : ℕ → X → Y) (first : ℕ) (xs : List X) → length (numbered tasks item first xs) ≡ length xs
 unfolding numbered
@@ -31,10 +32,7 @@ numbered-set_same tasks item first (y ∷ ys) zero x d size same =
 numbered-set_same tasks item first (y ∷ ys) (suc place) x d size same =
     ap (λ rest. item first y ∷ rest) (numbered-set_same tasks item (first + tasks y) ys place x d size same)
 
--- from a number on, the demands are these
-pub record Agrees (demand : ℕ → ℕ) (first : ℕ) (demands : List ℕ) : Type 0 where
-  pub at : (place : ℕ) → place < length demands → demand (first + place) ≡ get_or demands place 0
-
+-- demands of two lists one after the other
 pub agrees-left : (demand : ℕ → ℕ) (first : ℕ) (left right : List ℕ) → Agrees demand first (left ++ right) → Agrees demand first left
 agrees-left demand first left right agrees =
     record { at = λ place lt. agrees.at place (omega (arith, length-append left right)) ∙ get_or_append_left left right 0 place lt }
@@ -59,3 +57,21 @@ values-agree tasks item demands value meaning P demand size same first (x ∷ xs
     (same first x (All-head P x xs all) (agrees-left demand first (demands x) (flat_map demands xs) agrees))
     (values-agree tasks item demands value meaning P demand size same (first + tasks x) xs (All-tail P x xs all)
     (subst (λ n. Agrees demand (first + n) (flat_map demands xs)) (size x) (agrees-right demand first (demands x) (flat_map demands xs) agrees)))
+
+-- the first items are numbered alike
+pub take-numbered : {X Y : Type 0} (tasks : X → ℕ) (item : ℕ → X → Y) (first : ℕ) (xs : List X) (place : ℕ) → take place (numbered tasks item first xs) ≡ numbered tasks item first (take place xs)
+unfolding numbered
+take-numbered tasks item first xs zero = refl
+take-numbered tasks item first [] (suc place) = refl
+take-numbered tasks item first (x ∷ xs) (suc place) = ap (λ rest. item first x ∷ rest) (take-numbered tasks item (first + tasks x) xs place)
+
+-- and the demands of an item agree from its first number on
+pub agrees-at : {X : Type 0} (tasks : X → ℕ) (demands : X → List ℕ) (demand : ℕ → ℕ) → ((x : X) → length (demands x) ≡ tasks x)
+    → (first : ℕ) (xs : List X) (place : ℕ) (d : X) → place < length xs → Agrees demand first (flat_map demands xs) → Agrees demand (first + sum_by tasks (take place xs)) (demands (get_or xs place d))
+agrees-at tasks demands demand size first [] place d lt agrees = absurd (omega arith)
+agrees-at tasks demands demand size first (x ∷ xs) zero d lt agrees =
+    subst (λ n. Agrees demand n (demands x)) (sym (add-zero first)) (agrees-left demand first (demands x) (flat_map demands xs) agrees)
+agrees-at tasks demands demand size first (x ∷ xs) (suc place) d lt agrees =
+    let e : first + length (demands x) + sum_by tasks (take place xs) ≡ first + sum_by tasks (x ∷ take place xs) = omega (arith, size x, sum_by-cons tasks x (take place xs)) in
+    subst (λ n. Agrees demand n (demands (get_or xs place d))) e
+    (agrees-at tasks demands demand size (first + length (demands x)) xs place d (omega arith) (agrees-right demand first (demands x) (flat_map demands xs) agrees))

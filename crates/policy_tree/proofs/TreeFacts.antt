@@ -1,7 +1,8 @@
 -- What is true of every tree.
-use Rattle.std.proofs.Common.{◌≡◌, ℕ, zero, suc, ◌+◌, ◌<◌, ◌≤◌, List, [], ◌∷◌, ◌++◌, length, get_or, set, map, flat_map, Option, Some, None, sum_by, slice_index_or, All, refl, sym, ◌∙◌, ap, ap₂, arith, subst}
+use Rattle.std.proofs.Common.{◌≡◌, ℕ, zero, suc, ◌+◌, ◌<◌, ◌≤◌, List, [], ◌∷◌, ◌++◌, length, get_or, set, take, map, flat_map, Option, Some, None, sum_by, slice_index_or, All, refl, sym, ◌∙◌, ap, ap₂, arith, subst}
 use Rattle.std.specs.List.{range_with_len}
-use Rattle.std.proofs.lemmas.List.{length-set, get_or-map}
+use Rattle.std.proofs.lemmas.List.FromFn.{length-range_with_len}
+use Rattle.std.proofs.lemmas.List.{get_or-map, length-map, length-set, take-map}
 use Rattle.std.proofs.lemmas.List.Sums.{sum_by-cons}
 use Rattle.std.proofs.lemmas.List.Elements.{All-head, All-tail, All-append, All-nil, All-map, All-set, All-get_or, All-weaker}
 use Rattle.bwe_specs.specs.declared.limits.TheConstants.{MAX_AMOUNT}
@@ -21,12 +22,19 @@ use Rattle.policy_tree.specs.Asked.{HasTop}
 use Rattle.policy_tree.specs.Changes.{job_at, user_at, cluster_at, job_with, user_with, cluster_with}
 use Rattle.policy_tree.specs.Numbering.{numbered, points_by, numbered_task, numbered_tasks, numbered_job, numbered_jobs, numbered_user, numbered_users, numbered_cluster, numbered_clusters, job_demands, user_demands, cluster_demands, demands_of}
 use Rattle.policy_tree.specs.Trees.{Tree, demand_in, value_in, job_numbers, user_numbers, cluster_numbers, task_numbers, IsTree, tree_of}
-use Rattle.policy_tree.specs.Kept.{HaveJobTop, HaveUserTop, HaveClusterTop, IsHome, IsKeptTree, AreHomes, counts_of}
+use Rattle.policy_tree.specs.Kept.{HaveJobTop, HaveUserTop, HaveClusterTop, IsHome, IsKeptTree, AreFirsts, AreHomes, counts_of, cluster_counts}
 use Rattle.policy_tree.proofs.Meanings.{cluster-most, nodes-most, nodes-sum}
-use Rattle.policy_tree.proofs.Numbers.{Agrees, numbered-set_same, length-numbered}
-use Rattle.policy_tree.proofs.Agreement.{clusters-agree, length-demands}
+use Rattle.policy_tree.proofs.Numbers.{agrees-at, get_or-numbered, length-numbered, numbered-set_same, take-numbered}
+use Rattle.std.specs.Prelude.{Vec}
+use Rattle.std.specs.Global.{Global}
+use Rattle.policy_tree.specs.declared.spec.ClusterSpec.{ClusterSpec}
+use Rattle.policy_tree.specs.Asked.{idle_cluster}
+use Rattle.policy_tree.specs.Childless.{AreFirstsOf}
+use Rattle.policy_tree.proofs.Idle.{idle_clusters-tasks}
+use Rattle.policy_tree.specs.Nodes.{Agrees, first_in, IsClusterOf}
+use Rattle.policy_tree.proofs.Agreement.{clusters-agree, length-demands, length-cluster_demands}
 use Rattle.policy_tree.proofs.Updates.{job_tasks-with, user_tasks-with, cluster_tasks-with, cluster_with-is, sum_by-set_same}
-use Rattle.policy_tree.proofs.Homes.{IsAt, home-at, counts_of-length, counts-with}
+use Rattle.policy_tree.proofs.Homes.{IsAt, counts-before, counts-with, counts_of-length, home-at}
 
 -- functions of the nodes are functions up to the top
 configured-is : (top : ℕ) (configured : Option Function) → IsKeptFunction configured → HasTop top configured → IsConfigured (points_by configured) top
@@ -96,7 +104,7 @@ job-numbers first job = tasks-numbers first job.sum.tasks
 user-numbers : (first : ℕ) (user : UserState) → user_numbers (numbered_user first user) ≡ range_with_len first (user_tasks user)
 user-numbers first user = numbers-of job_tasks numbered_job job_numbers job-numbers first user.jobs
 
-cluster-numbers : (first : ℕ) (cluster : ClusterState) → cluster_numbers (numbered_cluster first cluster) ≡ range_with_len first (cluster_tasks cluster)
+pub cluster-numbers : (first : ℕ) (cluster : ClusterState) → cluster_numbers (numbered_cluster first cluster) ≡ range_with_len first (cluster_tasks cluster)
 cluster-numbers first cluster = numbers-of user_tasks numbered_user user_numbers user-numbers first cluster.users
 
 pub clusters-numbers : (clusters : List ClusterState) → task_numbers (numbered_clusters clusters) ≡ range_with_len 0 (sum_by cluster_tasks clusters)
@@ -118,8 +126,8 @@ user-demands-few user is = demands-few job_demands IsJobState job-demands-few us
 cluster-demands-few : (cluster : ClusterState) → IsClusterState cluster → All (λ demand. demand ≤ MAX_AMOUNT) (cluster_demands cluster)
 cluster-demands-few cluster is = demands-few user_demands IsUserState user-demands-few cluster.users is.users
 
-pub tree-is : (top : ℕ) (clusters : List ClusterState) (homes : List Home) → IsKeptTree top clusters homes → IsTree (tree_of top clusters)
-tree-is top clusters homes kept = record {
+pub tree-is : (top : ℕ) (clusters : List ClusterState) (homes : List Home) (firsts : List ℕ) → IsKeptTree top clusters homes firsts → IsTree (tree_of top clusters)
+tree-is top clusters homes firsts kept = record {
   low = kept.low;
   high = kept.high;
   functions = clusters-are top 0 clusters kept.are kept.tops;
@@ -129,7 +137,7 @@ tree-is top clusters homes kept = record {
 }
 
 -- the values of the groups
-cluster-is : (top : ℕ) (clusters : List Cluster) → AreClusters top clusters → (group : ℕ) → IsCluster top (slice_index_or clusters group (record { configured = None; users = [] }))
+pub cluster-is : (top : ℕ) (clusters : List Cluster) → AreClusters top clusters → (group : ℕ) → IsCluster top (slice_index_or clusters group (record { configured = None; users = [] }))
 cluster-is top [] are group = (tt, tt)
 cluster-is top (cluster ∷ clusters) are zero = are.0
 cluster-is top (cluster ∷ clusters) are (suc group) = cluster-is top clusters are.1 group
@@ -166,10 +174,10 @@ unfolding sum_below
 sum_below-same zero f g same = refl
 sum_below-same (suc n) f g same = ap₂ (λ a b. a + b) (sum_below-same n f g (λ i lt. same i (omega arith))) (same n (omega arith))
 
-pub values-are : (top : ℕ) (clusters : List ClusterState) (homes : List Home) → IsKeptTree top clusters homes → AreValues (length (numbered_clusters clusters)) top (value_in (tree_of top clusters))
-values-are top clusters homes kept =
+pub values-are : (top : ℕ) (clusters : List ClusterState) (homes : List Home) (firsts : List ℕ) → IsKeptTree top clusters homes firsts → AreValues (length (numbered_clusters clusters)) top (value_in (tree_of top clusters))
+values-are top clusters homes firsts kept =
     let tree = tree_of top clusters in
-    let share_function = value-share_function tree (tree-is top clusters homes kept).functions in
+    let share_function = value-share_function tree (tree-is top clusters homes firsts kept).functions in
     let size = length-numbered cluster_tasks numbered_cluster 0 clusters in
     let all : sum_below (length clusters) (λ group. value_in tree group top) ≡ children_sum (map cluster_meaning clusters) top =
     sum_below-same (length clusters) (λ group. value_in tree group top) (λ group. cluster_meaning (cluster_at clusters group) top) (λ group lt. value-agrees top clusters kept.tops group top lt)
@@ -229,9 +237,9 @@ tops-with top clusters cluster user job task demand have within within_user with
     }) have
 
 -- what is kept, with another demand
-pub kept-with : (top : ℕ) (clusters : List ClusterState) (homes : List Home) (number : ℕ) (home : Home) (demand : ℕ) → IsKeptTree top clusters homes → IsAt clusters number home → demand ≤ 1_000_000_000_000
-    → IsKeptTree top (set clusters home.cluster (cluster_with (cluster_at clusters home.cluster) home.user home.job home.task demand)) homes
-kept-with top clusters homes number home demand kept is few =
+pub kept-with : (top : ℕ) (clusters : List ClusterState) (homes : List Home) (firsts : List ℕ) (number : ℕ) (home : Home) (demand : ℕ) → IsKeptTree top clusters homes firsts → IsAt clusters number home → demand ≤ 1_000_000_000_000
+    → IsKeptTree top (set clusters home.cluster (cluster_with (cluster_at clusters home.cluster) home.user home.job home.task demand)) homes firsts
+kept-with top clusters homes firsts number home demand kept is few =
     let held = cluster_at clusters home.cluster in
     record {
       low = kept.low;
@@ -241,20 +249,56 @@ kept-with top clusters homes number home demand kept is few =
       are = All-set IsClusterState clusters home.cluster _ (cluster_with-is held home.user home.job home.task demand (All-get_or IsClusterState clusters home.cluster _ is.cluster kept.are) is.user is.job is.task few) kept.are;
       few = omega (arith, kept.few, sum_by-set_same cluster_tasks clusters home.cluster (cluster_with held home.user home.job home.task demand) _ (cluster_tasks-with held home.user home.job home.task demand));
       tasks = subst (λ (counts : List (List (List ℕ))). AreHomes counts homes) (sym (counts-with clusters home.cluster home.user home.job home.task demand)) kept.tasks;
+      starts = subst (λ (counts : List (List (List ℕ))). AreFirsts counts firsts) (sym (counts-with clusters home.cluster home.user home.job home.task demand)) kept.starts;
     }
 
 -- each task is at home
-pub length-homes : (top : ℕ) (clusters : List ClusterState) (homes : List Home) → IsKeptTree top clusters homes → length (demands_of clusters) ≡ length homes
-length-homes top clusters homes kept = sym (kept.tasks.size ∙ counts_of-length clusters)
+pub length-homes : (top : ℕ) (clusters : List ClusterState) (homes : List Home) (firsts : List ℕ) → IsKeptTree top clusters homes firsts → length (demands_of clusters) ≡ length homes
+length-homes top clusters homes firsts kept = sym (kept.tasks.size ∙ counts_of-length clusters)
 
-pub home-known : (top : ℕ) (clusters : List ClusterState) (homes : List Home) (tree : Tree) → IsKeptTree top clusters homes → tree_of top clusters ≡ tree
+pub home-known : (top : ℕ) (clusters : List ClusterState) (homes : List Home) (firsts : List ℕ) (tree : Tree) → IsKeptTree top clusters homes firsts → tree_of top clusters ≡ tree
     → (task : ℕ) → task < length tree.demands → task < length homes
-home-known top clusters homes tree kept same task lt =
-    let e : length tree.demands ≡ length homes = ap (λ (t : Tree). length t.demands) (sym same) ∙ length-homes top clusters homes kept in
+home-known top clusters homes firsts tree kept same task lt =
+    let e : length tree.demands ≡ length homes = ap (λ (t : Tree). length t.demands) (sym same) ∙ length-homes top clusters homes firsts kept in
     omega arith
 
-pub home-is : (top : ℕ) (clusters : List ClusterState) (homes : List Home) → IsKeptTree top clusters homes → (task : ℕ) (home : Home) → task < length homes → home ≡ get_or homes task home → IsAt clusters task home
-home-is top clusters homes kept task home lt read = home-at clusters task home (subst (IsHome (counts_of clusters) task) (sym read) (kept.tasks.each task home lt))
+pub home-is : (top : ℕ) (clusters : List ClusterState) (homes : List Home) (firsts : List ℕ) → IsKeptTree top clusters homes firsts → (task : ℕ) (home : Home) → task < length homes → home ≡ get_or homes task home → IsAt clusters task home
+home-is top clusters homes firsts kept task home lt read = home-at clusters task home (subst (IsHome (counts_of clusters) task) (sym read) (kept.tasks.each task home lt))
 
 pub length-clusters : (top : ℕ) (clusters : List ClusterState) (tree : Tree) → tree_of top clusters ≡ tree → length tree.clusters ≡ length clusters
 length-clusters top clusters tree same = ap (λ (t : Tree). length t.clusters) (sym same) ∙ length-numbered cluster_tasks numbered_cluster 0 clusters
+
+-- the group's cluster, with its numbers and its demands
+pub first-numbered : (top : ℕ) (clusters : List ClusterState) (group : ℕ) → first_in (tree_of top clusters) group ≡ sum_by cluster_tasks (take group clusters)
+first-numbered top clusters group =
+    ap (λ (numbered : List Cluster). length (task_numbers numbered)) (take-numbered cluster_tasks numbered_cluster 0 clusters group)
+    ∙ ap (λ (numbers : List ℕ). length numbers) (clusters-numbers (take group clusters))
+    ∙ length-range_with_len 0 (sum_by cluster_tasks (take group clusters))
+
+pub first-kept : (top : ℕ) (clusters : List ClusterState) (homes : List Home) (firsts : List ℕ) → IsKeptTree top clusters homes firsts → (group : ℕ) → group < length clusters
+    → get_or firsts group 0 ≡ first_in (tree_of top clusters) group
+first-kept top clusters homes firsts kept group lt =
+    kept.starts.each group (omega (arith, length-map clusters cluster_counts, lt)) ∙ counts-before clusters group ∙ sym (first-numbered top clusters group)
+
+pub cluster-of : (top : ℕ) (clusters : List ClusterState) → All (HaveClusterTop top) clusters → (group : ℕ) → group < length clusters → IsClusterOf (tree_of top clusters) group (cluster_at clusters group)
+cluster-of top clusters have group lt =
+    let demand = demand_in (tree_of top clusters) in
+    let agrees : Agrees demand 0 (demands_of clusters) = record { at = λ place within. let e : 0 + place ≡ place = omega arith in ap demand e } in
+    let first : first_in (tree_of top clusters) group ≡ 0 + sum_by cluster_tasks (take group clusters) = omega (arith, first-numbered top clusters group) in
+    record {
+      cluster = get_or-numbered cluster_tasks numbered_cluster 0 clusters group _ _ lt ∙ ap (λ n. numbered_cluster n (cluster_at clusters group)) (sym first);
+      demands = subst (λ n. Agrees demand n (cluster_demands (cluster_at clusters group))) (sym first) (agrees-at cluster_tasks cluster_demands demand length-cluster_demands 0 clusters group _ lt agrees);
+      tops = All-get_or (HaveClusterTop top) clusters group _ lt have;
+    }
+
+-- what a spec says of the first tasks is kept
+pub idle-firsts : (specs : List ClusterSpec) (firsts : Vec ℕ Global) → AreFirstsOf specs firsts → AreFirsts (counts_of (map idle_cluster specs)) firsts.items
+idle-firsts specs firsts are =
+    let size = length-map (map idle_cluster specs) cluster_counts in
+    let size_specs = length-map specs idle_cluster in
+    record {
+      size = are.size ∙ sym (size ∙ size_specs);
+      each = λ group lt.
+          are.each group (omega (arith, lt, size, size_specs))
+          ∙ sym (counts-before (map idle_cluster specs) group ∙ ap (λ (states : List ClusterState). sum_by cluster_tasks states) (take-map idle_cluster group specs) ∙ idle_clusters-tasks (take group specs));
+    }

@@ -1,5 +1,6 @@
 -- The nodes of a spec in the order of their numbers: which have no child, and how many tasks there are.
-use Rattle.std.specs.Prelude.{◌≡◌, ℕ, ◌+◌, Bool, List, [], ◌∷◌, length, flat_map, map, ◌==◌, Result, Ok, Err, Some, None, replicate}
+use Rattle.std.specs.Prelude.{◌≡◌, ℕ, ◌+◌, Bool, List, [], ◌∷◌, length, flat_map, map, ◌==◌, Result, Ok, Err, Some, None, replicate, ◌<◌, sum_by, slice_index, take, Vec}
+use Rattle.std.specs.Global.{Global}
 use Rattle.std.specs.List.{position_from}
 use Rattle.bwe_specs.specs.Tree.{Cluster}
 use Rattle.policy_tree.specs.declared.fault.TreeFault.{TreeFault}
@@ -8,7 +9,7 @@ use Rattle.policy_tree.specs.declared.spec.JobSpec.{JobSpec}
 use Rattle.policy_tree.specs.declared.spec.UserSpec.{UserSpec}
 use Rattle.policy_tree.specs.declared.spec.ClusterSpec.{ClusterSpec}
 use Rattle.policy_tree.specs.declared.spec.TreeSpec.{TreeSpec}
-use Rattle.policy_tree.specs.Asked.{idle_cluster}
+use Rattle.policy_tree.specs.Asked.{idle_cluster, cluster_weights}
 use Rattle.policy_tree.specs.Numbering.{numbered_clusters}
 use Rattle.policy_tree.specs.Trees.{Tree, task_numbers}
 
@@ -30,6 +31,11 @@ IsCounted (Err fault) node childless = (empty : ℕ) × (fault ≡ EmptyNode emp
 -- the clusters of specs: tasks are numbered from 0 in one walk
 abbrev pub clusters_of : List ClusterSpec → List Cluster
 clusters_of specs = numbered_clusters (map idle_cluster specs)
+
+-- for each cluster how many tasks come before its first
+pub record AreFirstsOf (clusters : List ClusterSpec) (firsts : Vec ℕ Global) : Type 0 where
+  pub size : length firsts.items ≡ length clusters
+  pub each : (group : ℕ) → group < length clusters → slice_index firsts.items group ≡ sum_by cluster_weights (take group clusters)
 
 -- the tree of a spec, of which nobody has asked anything
 abbrev pub idle_tree : TreeSpec → Tree

@@ -36,6 +36,11 @@ pub record AreHomes (clusters : List (List (List ℕ))) (homes : List Home) : Ty
   pub size : length homes ≡ clusters_count clusters
   pub each : (number : ℕ) (d : Home) → number < length homes → IsHome clusters number (slice_index_or homes number d)
 
+-- for each cluster how many tasks come before its first
+pub record AreFirsts (clusters : List (List (List ℕ))) (firsts : List ℕ) : Type 0 where
+  pub size : length firsts ≡ length clusters
+  pub each : (group : ℕ) → group < length clusters → slice_index firsts group ≡ clusters_count (take group clusters)
+
 -- all functions of a node have the top
 pub record HaveJobTop (top : ℕ) (job : JobState) : Type 0 where
   pub configured : HasTop top job.configured
@@ -50,7 +55,7 @@ pub record HaveClusterTop (top : ℕ) (cluster : ClusterState) : Type 0 where
   pub users : All (HaveUserTop top) cluster.users
 
 -- the nodes of a tree, and the homes of its tasks
-pub record IsKeptTree (top : ℕ) (clusters : List ClusterState) (homes : List Home) : Type 0 where
+pub record IsKeptTree (top : ℕ) (clusters : List ClusterState) (homes : List Home) (firsts : List ℕ) : Type 0 where
   pub low : 1 ≤ top
   pub high : top ≤ MAX_SHARE
   pub groups : length clusters < 4_294_967_296
@@ -58,3 +63,4 @@ pub record IsKeptTree (top : ℕ) (clusters : List ClusterState) (homes : List H
   pub are : All IsClusterState clusters
   pub few : sum_by cluster_tasks clusters ≤ 20_000
   pub tasks : AreHomes (counts_of clusters) homes
+  pub starts : AreFirsts (counts_of clusters) firsts

@@ -4,5 +4,6 @@ pub mod Changes
 pub mod Numbering
 pub mod Trees
 pub mod Kept
+pub mod Nodes
 pub mod Walk
 pub mod Childless

@@ -1,14 +1,15 @@
 //! The first fault of what a tree is to be built of.
 
-ghost use Rattle.std.specs.Prelude.{◌≡◌, ℕ, ◌+◌, ◌^◌, ◌<◌, ◌≤◌, Bool, List, ◌∷◌, [], length, flat_map, sum_by};
+ghost use Rattle.std.specs.Prelude.{◌≡◌, ℕ, ◌+◌, ◌^◌, ◌<◌, ◌≤◌, Bool, List, ◌∷◌, [], length, flat_map, sum_by, IfOk};
 ghost use Rattle.policy_tree.specs.Asked.{job_weights, user_weights, cluster_weights};
-ghost use Rattle.policy_tree.specs.Childless.{job_childless, user_childless, cluster_childless, clusters_of, IsCounted};
+ghost use Rattle.policy_tree.specs.Childless.{job_childless, user_childless, cluster_childless, clusters_of, AreFirstsOf, IsCounted};
 ghost use Rattle.policy_tree.specs.Trees.{task_numbers};
 ghost use Rattle.policy_tree.specs.Walk.{walk, tree_fault};
 
 use crate::fault::TreeFault;
 use crate::spec::{ClusterSpec, JobSpec, UserSpec};
-use bwe_specs::MAX_TASKS;
+use bwe_specs::{MAX_TASKS, OutOfMemory};
+use std::alloc::Global;
 
 /// The first fault of a tree of these clusters.
 pub(crate) fn fault_of(clusters: &[ClusterSpec]) -> Option<TreeFault>
@@ -85,6 +86,20 @@ impl Counted for ClusterSpec {
     fn tasks(&self) -> u64 {
         tasks_of(self.users.as_slice())
     }
+}
+
+/// For each cluster how many tasks come before its first.
+pub(crate) fn firsts_of(alloc: Global, clusters: &[ClusterSpec]) -> Result<Vec<u32>, OutOfMemory>
+    requires { sum_by cluster_weights clusters.now ≤ MAX_TASKS }
+    ensures { IfOk result (AreFirstsOf clusters.now) }
+{
+    let mut firsts = Vec::new(alloc);
+    let mut first = 0;
+    for cluster in clusters {
+        firsts.push(first as u32)?;
+        first += cluster.tasks();
+    }
+    Ok(firsts)
 }
 
 // The number after a node, or the node's fault.

@@ -1,8 +1,9 @@
 //! A cluster of the tree.
 
 ghost use Rattle.std.specs.Prelude.{◌≡◌, ℕ, ◌<◌, ◌≤◌, length, map, sum_by, All, IfOk, OnOk, OnErr};
+ghost use Rattle.function_sum.specs.Meaning.{IsMeaning};
 ghost use Rattle.capped_sum.specs.CappedSum.{task_at};
-ghost use Rattle.policy_tree.specs.States.{cluster_meaning, job_tasks, IsUserState, IsClusterState};
+ghost use Rattle.policy_tree.specs.States.{cluster_meaning, users_meaning, job_tasks, IsUserState, IsClusterState};
 ghost use Rattle.policy_tree.specs.Asked.{HasUserWeights, HasClusterWeights, user_weights, cluster_weights, idle_user, idle_cluster};
 ghost use Rattle.policy_tree.specs.Changes.{job_at, user_at, cluster_with};
 
@@ -19,7 +20,7 @@ use std::marker::Model;
 
 /// A cluster: its users, and its configured function's transformation.
 #[derive(Drop)]
-pub(crate) struct ClusterNode {
+pub struct ClusterNode {
     transform: Option<Transform>,
     users: Vec<UserNode>,
 }
@@ -51,9 +52,10 @@ impl ClusterNode {
         Ok(ClusterNode { transform, users })
     }
 
-    /// The users.
-    pub(crate) fn users(&self) -> &[UserNode]
-        ensures { result.now ≡ self.now.users }
+    /// The users, in the order of their numbers.
+    pub fn users(&self) -> &[UserNode]
+        ensures users { result.now ≡ self.now.users }
+        ensures meaning { IsMeaning (users_meaning self.now.users) }
     {
         self.users.as_slice()
     }

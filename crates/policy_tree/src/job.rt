@@ -1,6 +1,7 @@
 //! A job of the tree.
 
 ghost use Rattle.std.specs.Prelude.{◌≡◌, ℕ, ◌<◌, ◌≤◌, length, IfOk, OnOk, OnErr};
+ghost use Rattle.capped_sum.specs.Index.{AreInRange};
 ghost use Rattle.capped_sum.specs.CappedSum.{task_at};
 ghost use Rattle.policy_tree.specs.States.{job_meaning, job_tasks, configured_by, IsKeptFunction, IsJobState};
 ghost use Rattle.policy_tree.specs.Asked.{AreWeights, idle_job};
@@ -18,7 +19,7 @@ use std::marker::Model;
 
 /// A job: the sum of its tasks, and its configured function's transformation.
 #[derive(Drop)]
-pub(crate) struct JobNode {
+pub struct JobNode {
     transform: Option<Transform>,
     sum: CappedSum,
 }
@@ -52,6 +53,14 @@ impl JobNode {
         let transform = transform_of(alloc, function)?;
         let sum = CappedSum::new(alloc, task, weights.as_slice())?;
         Ok(JobNode { transform, sum })
+    }
+
+    /// The sum of the tasks' values, with their weights and demands.
+    pub fn sum(&self) -> &CappedSum
+        ensures sum { result.now ≡ self.now.sum }
+        ensures in_range { AreInRange result.now.tasks }
+    {
+        &self.sum
     }
 
     /// How many tasks there are.

@@ -24,6 +24,9 @@ mod tree;
 mod user;
 mod value;
 
+pub use cluster::ClusterNode;
 pub use fault::{TreeError, TreeFault};
+pub use job::JobNode;
 pub use spec::{ClusterSpec, JobSpec, TreeSpec, UserSpec};
 pub use tree::PolicyTree;
+pub use user::UserNode;

@@ -5,9 +5,10 @@ ghost use Rattle.bwe_specs.specs.Values.{AreValues};
 ghost use Rattle.policy_tree.specs.Trees.{asking, demand_in, value_in, task_numbers, IsTree};
 ghost use Rattle.policy_tree.specs.Asked.{HasClusterTop, HasClusterWeights};
 ghost use Rattle.policy_tree.specs.Childless.{clusters_of, idle_tree};
+ghost use Rattle.policy_tree.specs.Nodes.{first_in, IsClusterOf};
 ghost use Rattle.policy_tree.specs.Walk.{walk, tree_fault, TellsFault};
 
-use crate::childless::fault_of;
+use crate::childless::{fault_of, firsts_of};
 use crate::cluster::{ClusterNode, cluster_nodes, rematch_all};
 use crate::fault::TreeError;
 use crate::home::{Home, homes_of};
@@ -23,6 +24,7 @@ pub struct PolicyTree {
     top: u64,
     clusters: Vec<ClusterNode>,
     homes: Vec<Home>,
+    firsts: Vec<u32>,
 }
 
 impl Model for PolicyTree {
@@ -34,7 +36,7 @@ impl Model for PolicyTree {
 
     ghost view = { λ tree. tree_of tree.top tree.clusters.items };
 
-    ghost invariant = { λ tree. IsKeptTree tree.top tree.clusters.items tree.homes.items };
+    ghost invariant = { λ tree. IsKeptTree tree.top tree.clusters.items tree.homes.items tree.firsts.items };
 }
 
 impl PolicyTree {
@@ -58,12 +60,14 @@ impl PolicyTree {
         if let Some(fault) = fault_of(clusters.as_slice()) {
             return Err(TreeError::Refused { fault });
         }
+        let firsts = firsts_of(alloc, clusters.as_slice())?;
         let clusters = cluster_nodes(alloc, clusters)?;
         let homes = homes_of(alloc, clusters.as_slice())?;
         Ok(PolicyTree {
             top,
             clusters,
             homes,
+            firsts,
         })
     }
 
@@ -116,6 +120,22 @@ impl PolicyTree {
         ensures values { AreValues (length self.now.clusters) self.now.top (value_in self.now) }
     {
         self.top
+    }
+
+    /// The cluster of a group, for those who go down its nodes.
+    pub fn cluster(&self, group: u32) -> &ClusterNode
+        requires { group < length self.now.clusters }
+        ensures { IsClusterOf self.now group result.now }
+    {
+        &self.clusters[group as usize]
+    }
+
+    /// The number of a group's first task. The numbers of its tasks go on from there.
+    pub fn first_task(&self, group: u32) -> u32
+        requires { group < length self.now.clusters }
+        ensures { result ≡ first_in self.now group }
+    {
+        self.firsts[group as usize]
     }
 
     /// What a group may have at a share, in kilobits per second.

@@ -1,8 +1,9 @@
 //! A user of the tree.
 
 ghost use Rattle.std.specs.Prelude.{◌≡◌, ℕ, ◌<◌, ◌≤◌, length, map, sum_by, All, IfOk, OnOk, OnErr};
+ghost use Rattle.function_sum.specs.Meaning.{IsMeaning};
 ghost use Rattle.capped_sum.specs.CappedSum.{task_at};
-ghost use Rattle.policy_tree.specs.States.{user_meaning, job_tasks, IsJobState, IsUserState};
+ghost use Rattle.policy_tree.specs.States.{user_meaning, jobs_meaning, job_tasks, IsJobState, IsUserState};
 ghost use Rattle.policy_tree.specs.Asked.{HasJobWeights, HasUserWeights, job_weights, user_weights, idle_job, idle_user};
 ghost use Rattle.policy_tree.specs.Changes.{job_at, user_with};
 
@@ -18,7 +19,7 @@ use std::marker::Model;
 
 /// A user: its jobs, and its configured function's transformation.
 #[derive(Drop)]
-pub(crate) struct UserNode {
+pub struct UserNode {
     transform: Option<Transform>,
     jobs: Vec<JobNode>,
 }
@@ -49,9 +50,10 @@ impl UserNode {
         Ok(UserNode { transform, jobs })
     }
 
-    /// The jobs.
-    pub(crate) fn jobs(&self) -> &[JobNode]
-        ensures { result.now ≡ self.now.jobs }
+    /// The jobs, in the order of their numbers.
+    pub fn jobs(&self) -> &[JobNode]
+        ensures jobs { result.now ≡ self.now.jobs }
+        ensures meaning { IsMeaning (jobs_meaning self.now.jobs) }
     {
         self.jobs.as_slice()
     }

@@ -11,13 +11,13 @@ use Rattle.policy_tree.proofs.home.homes_of.Goals.{After-tasks-task-end}
 cluster_read : (c : After-tasks-task-end) → get_or (counts_of c.args.clusters.now) c.loop-cluster.cluster [] ≡ map user_counts c.users-user_node-items.result.now
 cluster_read c =
     counts-cluster c.args.clusters.now c.loop-cluster.cluster c.index-clusters-cluster.result c.loop-cluster-test.true c.index-clusters-cluster.is
-    ∙ ap (λ (users : List UserState). map user_counts users) (sym c.users-user_node-items.ensures)
+    ∙ ap (λ (users : List UserState). map user_counts users) (sym c.users-user_node-items.ensures.users)
 
 user_read : (c : After-tasks-task-end) → get_or (get_or (counts_of c.args.clusters.now) c.loop-cluster.cluster []) c.loop-user.user [] ≡ map job_tasks c.jobs-job_node-items.result.now
 user_read c =
     ap (λ (users : List (List ℕ)). get_or users c.loop-user.user []) (cluster_read c)
     ∙ counts-user c.users-user_node-items.result.now c.loop-user.user c.user_node-item.result c.loop-user-test.true c.user_node-item.is
-    ∙ ap (λ (jobs : List JobState). map job_tasks jobs) (sym c.jobs-job_node-items.ensures)
+    ∙ ap (λ (jobs : List JobState). map job_tasks jobs) (sym c.jobs-job_node-items.ensures.jobs)
 
 job_read : (c : After-tasks-task-end) → get_or (get_or (get_or (counts_of c.args.clusters.now) c.loop-cluster.cluster []) c.loop-user.user []) c.loop-job.job 0 ≡ c.tasks-task-end.result
 job_read c =

@@ -3,8 +3,9 @@ use Rattle.std.proofs.lemmas.List.{length-map}
 use Rattle.policy_tree.specs.declared.spec.ClusterSpec.{ClusterSpec}
 use Rattle.policy_tree.specs.States.{ClusterState, cluster_tasks}
 use Rattle.policy_tree.specs.Asked.{idle_cluster, cluster_weights}
-use Rattle.policy_tree.specs.Childless.{clusters_of}
-use Rattle.policy_tree.specs.Kept.{HaveClusterTop, AreHomes, counts_of}
+use Rattle.policy_tree.specs.Childless.{AreFirstsOf, clusters_of}
+use Rattle.policy_tree.proofs.TreeFacts.{idle-firsts}
+use Rattle.policy_tree.specs.Kept.{HaveClusterTop, AreFirsts, AreHomes, counts_of}
 use Rattle.policy_tree.specs.Trees.{Tree, tree_of}
 use Rattle.policy_tree.specs.Walk.{tree_fault}
 use Rattle.policy_tree.proofs.Counting.{weights-few, clusters-few, length-walk, length-task_numbers}
@@ -20,6 +21,9 @@ few c =
 pub cluster_nodes-requires-clause-few : goal.cluster_nodes-requires-clause-few
 cluster_nodes-requires-clause-few c = few (goal.at.cluster_nodes-requires-clause-few c).In_default
 
+pub firsts_of-requires : goal.firsts_of-requires
+firsts_of-requires c = subst (λ (specs : List ClusterSpec). sum_by cluster_weights specs ≤ 20_000) (sym c.as_slice-2.ensures.value) (few (goal.at.firsts_of-requires c).In_default)
+
 pub invariant_of-result : goal.invariant_of-result
 invariant_of-result c =
     let specs = c.args.spec.clusters.items in
@@ -34,7 +38,8 @@ invariant_of-result c =
       tops = subst (All (HaveClusterTop c.args.spec.top)) (sym idle) (idle_clusters-top c.args.spec.top specs c.requires.tops);
       are = c.in_ok-clusters.ensures.are;
       few = omega (arith, count, few (goal.at.invariant_of-result c).In_default);
-      tasks = subst (λ (states : List ClusterState). AreHomes (counts_of states) c.in_ok-homes.homes.items) c.as_slice-2.ensures.value c.in_ok-homes.ensures;
+      tasks = subst (λ (states : List ClusterState). AreHomes (counts_of states) c.in_ok-homes.homes.items) c.as_slice-3.ensures.value c.in_ok-homes.ensures;
+      starts = subst (λ (states : List ClusterState). AreFirsts (counts_of states) c.in_ok-firsts.firsts.items) (sym idle) (idle-firsts specs c.in_ok-firsts.firsts (subst (λ (list : List ClusterSpec). AreFirstsOf list c.in_ok-firsts.firsts) c.as_slice-2.ensures.value c.in_ok-firsts.ensures));
     }
 
 pub returns-clause-built : goal.returns-clause-built

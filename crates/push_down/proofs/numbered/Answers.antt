@@ -1,0 +1,34 @@
+use Rattle.std.proofs.Common.{refl, ◌≡◌, ℕ, ◌+◌, ◌<◌, ◌++◌, ◌∷◌, [], List, length, get_or, ap, ap₂, sym, ◌∙◌, arith}
+use Rattle.std.specs.List.{range_with_len}
+use Rattle.std.proofs.lemmas.List.{map_push, map-id, take_more}
+use Rattle.std.proofs.lemmas.List.FromFn.{map-range_with_len_more}
+use Rattle.push_down.specs.declared.TaskLimit.{TaskLimit}
+use Rattle.push_down.specs.Limits.{tasks_in, limits_in}
+use Rattle.push_down.proofs.numbered.Goals as goal
+
+-- the numbers go on
+range-more : (first count : ℕ) → range_with_len first (count + 1) ≡ range_with_len first count ++ (first + count) ∷ []
+range-more first count =
+    sym (map-id (range_with_len first (count + 1)))
+    ∙ map-range_with_len_more (λ n. n) first count (first + count) refl
+    ∙ ap (λ (list : List ℕ). list ++ (first + count) ∷ []) (map-id (range_with_len first count))
+
+pub loop-limit-preserved : goal.loop-limit-preserved
+loop-limit-preserved c =
+    let kept = c.loop-limit.invariant in
+    let place = c.loop-limit.limit-index in
+    let limits = c.args.limits.now in
+    let entry : TaskLimit = record { task = c.loop-limit.task; limit = get_or limits place 0 } in
+    let entries = c.loop-limit.entries.items in
+    let lt : place < length limits = c.loop-limit-test.true in
+    record {
+      task = omega (arith, kept.task);
+      limits = ap limits_in c.in_ok-push.ensures.items
+          ∙ map_push (λ (e : TaskLimit). e.limit) entries entry
+          ∙ ap (λ (list : List ℕ). list ++ get_or limits place 0 ∷ []) kept.limits
+          ∙ sym (take_more limits place 0 lt);
+      tasks = ap tasks_in c.in_ok-push.ensures.items
+          ∙ map_push (λ (e : TaskLimit). e.task) entries entry
+          ∙ ap₂ (λ (list : List ℕ) (task : ℕ). list ++ task ∷ []) kept.tasks kept.task
+          ∙ sym (range-more c.args.first place);
+    }
