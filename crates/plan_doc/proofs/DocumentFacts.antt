@@ -1,0 +1,152 @@
+-- A document that has passed every refusal is the definition's, and meets the conditions of the calls that take its parts.
+use Rattle.std.proofs.Common.{◌≡◌, ℕ, ◌<◌, ◌≤◌, List, length, map, replicate, Option, Some, None, Result, Ok, Err, refl, sym, ap, subst, ◌∙◌, arith}
+use Rattle.std.specs.Prelude.{All, ⊤}
+use Rattle.std.proofs.lemmas.List.{length-map, length-replicate}
+use Rattle.std.proofs.lemmas.List.Elements.{All-same, All-weaker}
+use Rattle.bwe_specs.specs.declared.report.Report.{Report}
+use Rattle.wan_topology.specs.Network.{Network, network_of}
+use Rattle.wan_topology.specs.Faults.{topology_fault}
+use Rattle.path_groups.specs.Given.{Group, path_groups_of}
+use Rattle.path_groups.specs.Plan.{IsBuiltOn}
+use Rattle.path_groups.specs.Faults.{plan_fault}
+use Rattle.bwe_specs.specs.Paths.{PathGroups}
+use Rattle.policy_tree.specs.declared.spec.TreeSpec.{TreeSpec}
+use Rattle.policy_tree.specs.States.{cluster_tasks}
+use Rattle.policy_tree.specs.Asked.{idle_cluster}
+use Rattle.policy_tree.specs.Numbering.{numbered_cluster, numbered_clusters}
+use Rattle.policy_tree.specs.Trees.{Tree, task_numbers}
+use Rattle.policy_tree.specs.Childless.{idle_tree}
+use Rattle.policy_tree.specs.Walk.{tree_fault}
+use Rattle.doc_names.specs.declared.Names.{Names}
+use Rattle.raw_document.specs.Raw as raw
+use Rattle.plan_doc.specs.declared.numbers.DocumentNumbers.{DocumentNumbers}
+use Rattle.plan_doc.specs.declared.document.Document as code
+use Rattle.plan_doc.specs.Counts.{task_count}
+use Rattle.plan_doc.specs.Limits.{overrun}
+use Rattle.plan_doc.specs.Ranges.{ranges}
+use Rattle.plan_doc.specs.Names.{NameLists, name_lists}
+use Rattle.plan_doc.specs.Numbers.{Numbers, numbers}
+use Rattle.plan_doc.specs.NumbersView.{numbers_view}
+use Rattle.plan_doc.specs.Links.{names_view}
+use Rattle.plan_doc.specs.Functions.{refused_in_groups}
+use Rattle.plan_doc.specs.TreeParts.{cluster_part}
+use Rattle.plan_doc.specs.Owners.{not_owned, owner_of}
+use Rattle.plan_doc.specs.Refusals.{Refusal, refused_function, refused_links, refused_paths, refused_tree, not_owner}
+use Rattle.plan_doc.specs.Document as documents
+use Rattle.plan_doc.specs.Document.{Accepted, accepted, unless, links_of, clusters_of, document_by}
+use Rattle.plan_doc.specs.Accepted.{tree_of, IsDocumentOf}
+use Rattle.plan_doc.specs.Passed.{HasOwnerBelow, IsReport, IsClosing, AreNamesOf, AreNumbersOf, HasPassed}
+use Rattle.plan_doc.specs.Conditions.{link_count, tasks_in, reporter_count, IsByOwner, IsUsable}
+use Rattle.plan_doc.proofs.LimitFacts.{are_few}
+use Rattle.plan_doc.proofs.RangeFacts.{in_range}
+use Rattle.plan_doc.proofs.NameFacts.{names_of}
+use Rattle.plan_doc.proofs.NumberFacts.{numbers_of}
+use Rattle.plan_doc.proofs.NodeFacts.{length-numbered, length-task_numbers}
+use Rattle.plan_doc.proofs.PlanFacts.{length-capacities}
+use Rattle.plan_doc.proofs.OwnerFacts.{IsOwned, by_owners}
+
+-- ---- the passes on names and numbers
+
+pub passed_of : (raw : raw.Raw) (lists names : NameLists) (found : Numbers) (u : ⊤) → overrun raw ≡ None → ranges raw ≡ Ok u → name_lists raw ≡ Ok lists → names ≡ lists → numbers lists.links lists.tasks lists.reporters raw ≡ Ok found → HasPassed raw names found
+passed_of raw lists names found u few range listed same known =
+    let within = in_range raw u range in
+    let named : AreNamesOf raw lists = names_of raw lists listed in
+    let numbered : AreNumbersOf (length lists.links) (length lists.tasks) (length lists.reporters) raw found = numbers_of lists.links lists.tasks lists.reporters raw found within.amounts within.shares known in
+    let by_links : AreNumbersOf (length raw.links) (length lists.tasks) (length lists.reporters) raw found = subst (λ n. AreNumbersOf n (length lists.tasks) (length lists.reporters) raw found) named.links numbered in
+    let by_tasks : AreNumbersOf (length raw.links) (task_count raw.groups) (length lists.reporters) raw found = subst (λ n. AreNumbersOf (length raw.links) n (length lists.reporters) raw found) named.tasks by_links in
+    record {
+      few = are_few raw few;
+      range = within;
+      each_named = subst (AreNamesOf raw) (sym same) named;
+      each_numbered = subst (λ n. AreNumbersOf (length raw.links) (task_count raw.groups) n raw found) named.reporters by_tasks;
+    }
+
+-- ---- no refusal of a builder
+
+then : {C : Type 0} (number : C → Refusal) (fault : Option C) (next : ⊤ → Result Accepted Refusal) (r : Result Accepted Refusal) → fault ≡ None → next tt ≡ r → documents.◌>>=◌ (unless number fault) next ≡ r
+then number None next r e same = same
+then number (Some cause) next r e same = absurd cc
+
+module _ (raw : raw.Raw) (names : NameLists) (numbers : Numbers) where
+  abbrev after_tree : Result Accepted Refusal
+  after_tree = documents.◌>>=◌ (unless not_owner (not_owned numbers.task_owners numbers.link_owners 0 numbers.script)) (λ _. Ok (accepted raw names numbers))
+
+  abbrev after_paths : Result Accepted Refusal
+  after_paths = documents.◌>>=◌ (unless refused_tree (tree_fault (clusters_of raw))) (λ _. after_tree)
+
+  abbrev after_links : Result Accepted Refusal
+  after_links = documents.◌>>=◌ (unless refused_paths (plan_fault (network_of (links_of raw)) numbers.groups)) (λ _. after_paths)
+
+  abbrev after_functions : Result Accepted Refusal
+  after_functions = documents.◌>>=◌ (unless refused_links (topology_fault (links_of raw))) (λ _. after_links)
+
+  pub document_is : (network : Network) → refused_in_groups raw.top raw.groups ≡ None → topology_fault (links_of raw) ≡ None → network ≡ network_of (links_of raw) → plan_fault network numbers.groups ≡ None → tree_fault (clusters_of raw) ≡ None
+      → not_owned numbers.task_owners numbers.link_owners 0 numbers.script ≡ None → document_by raw names numbers ≡ Ok (accepted raw names numbers)
+  unfolding document_by
+  document_is network functions links topology paths tree owners =
+      let ok : Result Accepted Refusal = Ok (accepted raw names numbers) in
+      let owned : after_tree ≡ Ok (accepted raw names numbers) = then not_owner (not_owned numbers.task_owners numbers.link_owners 0 numbers.script) (λ _. Ok (accepted raw names numbers)) (Ok (accepted raw names numbers)) owners refl in
+      let built : after_paths ≡ Ok (accepted raw names numbers) = then refused_tree (tree_fault (clusters_of raw)) (λ _. after_tree) (Ok (accepted raw names numbers)) tree owned in
+      let planned : after_links ≡ Ok (accepted raw names numbers) = then refused_paths (plan_fault (network_of (links_of raw)) numbers.groups) (λ _. after_paths) (Ok (accepted raw names numbers)) (ap (λ n. plan_fault n numbers.groups) (sym topology) ∙ paths) built in
+      let linked : after_functions ≡ Ok (accepted raw names numbers) = then refused_links (topology_fault (links_of raw)) (λ _. after_links) (Ok (accepted raw names numbers)) links planned in
+      then refused_function (refused_in_groups raw.top raw.groups) (λ _. after_functions) (Ok (accepted raw names numbers)) functions linked
+
+-- the tree of specs that were built of the groups
+pub idle_tree_is : (spec : TreeSpec) (groups : List raw.Group) → map idle_cluster spec.clusters.items ≡ map (cluster_part spec.top) groups
+    → idle_tree spec ≡ record { top = spec.top; clusters = numbered_clusters (map (cluster_part spec.top) groups); demands = replicate (length (task_numbers (numbered_clusters (map (cluster_part spec.top) groups)))) 0 }
+idle_tree_is spec groups e = ap (λ states. record { top = spec.top; clusters = numbered_clusters states; demands = replicate (length (task_numbers (numbered_clusters states))) 0 }) e
+
+pub is_document : (raw : raw.Raw) (names : Names) (numbers : DocumentNumbers) (tree : Tree) (topology : Network) (plan : List PathGroups)
+    → tree ≡ tree_of (accepted raw (names_view names) (numbers_view numbers)) → topology ≡ network_of (links_of raw) → plan ≡ path_groups_of (numbers_view numbers).groups
+    → IsDocumentOf (accepted raw (names_view names) (numbers_view numbers)) (record { tree = tree; topology = topology; plan = plan; script = numbers.script; closings = numbers.closings; names = names; task_owners = numbers.task_owners; link_owners = numbers.link_owners })
+is_document raw names numbers tree topology plan tree_is topology_is plan_is = record {
+  tree = tree_is;
+  topology = topology_is;
+  plan = plan_is;
+  script = refl;
+  closings = refl;
+  names = refl;
+  task_owners = refl;
+  link_owners = refl;
+}
+
+-- ---- conditions
+
+pub usable : (document : code.Document) (raw : raw.Raw) (numbers : Numbers) → HasPassed raw (names_view document.names) numbers → IsDocumentOf (accepted raw (names_view document.names) numbers) document
+    → IsBuiltOn document.topology document.plan → not_owned numbers.task_owners numbers.link_owners 0 numbers.script ≡ None → IsUsable document
+usable document raw numbers passed is built_on owned =
+    let known = passed.each_numbered in
+    let named = passed.each_named in
+    let links_are : length raw.links ≡ link_count document = sym (ap (λ (t : Network). length t.capacities) is.topology ∙ length-capacities raw.links) in
+    let numbered_tasks : ℕ = length (task_numbers (clusters_of raw)) in
+    let demands_are : length document.tree.demands ≡ numbered_tasks = ap (λ (t : Tree). length t.demands) is.tree ∙ length-replicate numbered_tasks 0 in
+    let tasks_are : task_count raw.groups ≡ tasks_in document = sym (demands_are ∙ length-task_numbers raw.top raw.groups) in
+    let reporters_are : length raw.reporters ≡ reporter_count document = sym named.reporters in
+    let plan_is : length document.plan ≡ length raw.groups = ap length is.plan ∙ length-map numbers.groups (λ (group : Group). group.path_groups) ∙ known.groups in
+    let clusters_are : length document.tree.clusters ≡ length raw.groups = ap (λ (t : Tree). length t.clusters) is.tree ∙ length-numbered cluster_tasks numbered_cluster 0 (map (cluster_part raw.top) raw.groups) ∙ length-map raw.groups (cluster_part raw.top) in
+    let owners_below : All (λ owner. owner < reporter_count document) numbers.task_owners = subst (λ n. All (λ owner. owner < n) numbers.task_owners) reporters_are known.task_owners_below in
+    let links_below : All (HasOwnerBelow (reporter_count document)) numbers.link_owners = subst (λ n. All (HasOwnerBelow n) numbers.link_owners) reporters_are known.link_owners_below in
+    let reports_by_links : All (IsReport (link_count document) (task_count raw.groups) (length raw.reporters)) numbers.script = subst (λ n. All (IsReport n (task_count raw.groups) (length raw.reporters)) numbers.script) links_are known.reports in
+    let reports_by_tasks : All (IsReport (link_count document) (tasks_in document) (length raw.reporters)) numbers.script = subst (λ n. All (IsReport (link_count document) n (length raw.reporters)) numbers.script) tasks_are reports_by_links in
+    let reports_fit : All (IsReport (link_count document) (tasks_in document) (reporter_count document)) numbers.script = subst (λ n. All (IsReport (link_count document) (tasks_in document) n) numbers.script) reporters_are reports_by_tasks in
+    let closings_fit : All (IsClosing (link_count document)) numbers.closings = subst (λ n. All (IsClosing n) numbers.closings) links_are known.closings in
+    let by_task_owners : All (IsOwned document.task_owners.items numbers.link_owners) numbers.script = subst (λ owners. All (IsOwned owners numbers.link_owners) numbers.script) (sym is.task_owners) (by_owners numbers.task_owners numbers.link_owners 0 numbers.script owned) in
+    let by_all_owners : All (IsByOwner document) numbers.script = subst (λ owners. All (IsOwned document.task_owners.items owners) numbers.script) (sym is.link_owners) by_task_owners in
+    let script_length : length document.script.items ≡ length raw.script = ap length is.script ∙ known.script in
+    record {
+      built_on = built_on;
+      groups = clusters_are ∙ sym plan_is;
+      idle = ap (λ (t : Tree). t.demands) is.tree ∙ ap (λ n. replicate n 0) (sym demands_are);
+      link_names = named.links ∙ links_are;
+      group_names = named.groups ∙ sym plan_is;
+      task_names = named.tasks ∙ tasks_are;
+      few_reporters = let few = passed.few.reporters in omega arith;
+      task_owners = ap length is.task_owners ∙ known.task_owners ∙ tasks_are;
+      task_owners_below = All-same (λ owner. owner < reporter_count document) document.task_owners.items numbers.task_owners is.task_owners owners_below;
+      link_owners = ap length is.link_owners ∙ known.link_owners ∙ links_are;
+      link_owners_below = All-same (HasOwnerBelow (reporter_count document)) document.link_owners.items numbers.link_owners is.link_owners links_below;
+      few_reports = let few = passed.few.script in omega arith;
+      reports = All-same (IsReport (link_count document) (tasks_in document) (reporter_count document)) document.script.items numbers.script is.script reports_fit;
+      by_owners = All-same (IsByOwner document) document.script.items numbers.script is.script by_all_owners;
+      closings = All-same (IsClosing (link_count document)) document.closings.items numbers.closings is.closings closings_fit;
+    }

@@ -1,0 +1,8 @@
+use Rattle.std.proofs.Common.{◌≡◌, ◌+◌, drop, map}
+use Rattle.raw_document.specs.Raw.{group_view}
+use Rattle.plan_doc.specs.Limits.{sum_of}
+use Rattle.plan_doc.specs.Counts.{group_nodes}
+use Rattle.plan_doc.proofs.nodes.count_nodes.Given as goal
+
+abbrev pub invariant-loop-group : goal.invariant-loop-group
+invariant-loop-group l = l.total + sum_of group_nodes (map group_view (drop l.group-index l.groups)) ≡ 0 + sum_of group_nodes (map group_view l.groups)

@@ -1,0 +1,258 @@
+//! The reading of a document, pass by pass.
+
+ghost use Rattle.std.specs.Prelude.{◌≡◌, ◌≤◌, ◌<◌, ◌^◌, map, length, IfOk};
+ghost use Rattle.serde_json.specs.View.{view};
+ghost use Rattle.wan_topology.specs.Network.{network_of};
+ghost use Rattle.wan_topology.specs.Faults.{topology_fault};
+ghost use Rattle.path_groups.specs.Given.{AreInRange, groups_of, path_groups_of};
+ghost use Rattle.path_groups.specs.Plan.{IsBuiltOn};
+ghost use Rattle.path_groups.specs.Faults.{plan_fault};
+ghost use Rattle.policy_tree.specs.Walk.{tree_fault};
+ghost use Rattle.policy_tree.specs.Asked.{idle_cluster};
+ghost use Rattle.policy_tree.specs.Childless.{idle_tree};
+ghost use Rattle.raw_document.specs.Reading.{each_view};
+ghost use Rattle.raw_document.specs.Raw.{link_view, group_view, raw_view};
+ghost use Rattle.plan_doc.specs.Document.{document, document_of_value, document_of_raw, document_by, clusters_of};
+ghost use Rattle.plan_doc.specs.Functions.{refused_in_groups};
+ghost use Rattle.plan_doc.specs.TreeParts.{cluster_part};
+ghost use Rattle.plan_doc.specs.InRange.{IsInRange};
+ghost use Rattle.plan_doc.specs.Counts.{task_count};
+ghost use Rattle.plan_doc.specs.Links.{link_part, names_view};
+ghost use Rattle.plan_doc.specs.NumbersView.{numbers_view};
+ghost use Rattle.plan_doc.specs.Owners.{not_owned};
+ghost use Rattle.plan_doc.specs.Refusals.{refused_function, refused_links, refused_paths, refused_tree, not_owner};
+ghost use Rattle.plan_doc.specs.Accepted.{Answers, Makes};
+ghost use Rattle.plan_doc.specs.Passed.{HasPassed};
+ghost use Rattle.plan_doc.specs.Conditions.{IsUsable};
+
+use crate::doc_error::DocError;
+use crate::functions::cluster_specs;
+use crate::limit::find_overrun;
+use crate::name_table::NameTable;
+use crate::names::{link_specs, names_of};
+use crate::nodes::has_node_numbers;
+use crate::numbers::{DocumentNumbers, document_numbers};
+use crate::owner::find_not_owned;
+use crate::range::check_ranges;
+use crate::repeats::fill_tables;
+use bwe_specs::{Closing, MAX_GROUPS, MAX_SHARE, Report};
+use doc_names::Names;
+use path_groups::{GroupSpec, PathError, PathPlan};
+use policy_tree::{ClusterSpec, PolicyTree, TreeError, TreeSpec};
+use raw_document::{JsonError, RawDocument, RawGroup, RawLink, read_json, read_shape};
+use serde_json::Value;
+use std::alloc::Global;
+use wan_topology::{Topology, TopologyError};
+
+/// An accepted document. Links, groups, tasks and reporters are numbers, whose names are in `names`.
+///
+/// `task_owners` and `link_owners` have the number of the reporter who owns each task and link; a link may have none.
+#[derive(Drop)]
+pub struct Document {
+    pub tree: PolicyTree,
+    pub topology: Topology,
+    pub plan: PathPlan,
+    pub script: Vec<Report>,
+    pub closings: Vec<Closing>,
+    pub names: Names,
+    pub task_owners: Vec<u32>,
+    pub link_owners: Vec<Option<u32>>,
+}
+
+fn build_clusters(
+    alloc: Global,
+    groups: &[RawGroup],
+    top: u64,
+) -> Result<Vec<ClusterSpec>, DocError>
+    requires some_top { 1 ≤ top }
+    requires top { top ≤ MAX_SHARE }
+    ensures { Makes result refused_function (refused_in_groups top (map group_view groups.now))
+        (λ clusters. each_view idle_cluster clusters ≡ map (cluster_part top) (map group_view groups.now)) }
+{
+    match cluster_specs(alloc, groups, top) {
+        Ok(clusters) => Ok(clusters),
+        Err(error) => Err(DocError::function(error)),
+    }
+}
+
+fn build_topology(alloc: Global, links: &[RawLink]) -> Result<Topology, DocError>
+    ensures { Makes result refused_links (topology_fault (map link_part (map link_view links.now)))
+        (λ topology. topology ≡ network_of (map link_part (map link_view links.now))) }
+{
+    let specs = match link_specs(alloc, links) {
+        Ok(specs) => specs,
+        Err(_) => return Err(DocError::OutOfMemory),
+    };
+    match Topology::build(alloc, specs) {
+        Ok(topology) => Ok(topology),
+        Err(TopologyError::Refused { fault }) => Err(DocError::Topology { cause: fault }),
+        Err(TopologyError::OutOfMemory) => Err(DocError::OutOfMemory),
+    }
+}
+
+fn build_plan(
+    alloc: Global,
+    topology: &Topology,
+    groups: Vec<GroupSpec>,
+) -> Result<PathPlan, DocError>
+    requires few { length groups.items ≤ MAX_GROUPS }
+    requires in_range { AreInRange (length topology.now.capacities) (groups_of groups.items) }
+    ensures { Makes result refused_paths (plan_fault topology.now (groups_of groups.items))
+        (λ plan. (plan ≡ path_groups_of (groups_of groups.items)) × IsBuiltOn topology.now plan) }
+{
+    match PathPlan::build(alloc, topology, groups) {
+        Ok(plan) => Ok(plan),
+        Err(PathError::Refused { fault }) => Err(DocError::Path { cause: fault }),
+        Err(PathError::OutOfMemory) => Err(DocError::OutOfMemory),
+    }
+}
+
+fn build_tree(
+    alloc: Global,
+    raw: &RawDocument,
+    clusters: Vec<ClusterSpec>,
+) -> Result<PolicyTree, DocError>
+    requires range { IsInRange (raw_view raw.now) }
+    requires tasks { task_count (raw_view raw.now).groups < 2 ^ 64 }
+    requires clusters { each_view idle_cluster clusters ≡ map (cluster_part raw.now.top) (raw_view raw.now).groups }
+    ensures { Makes result refused_tree (tree_fault (clusters_of (raw_view raw.now)))
+        (λ tree. tree ≡ idle_tree (record { top = raw.now.top; clusters = clusters })) }
+{
+    if !has_node_numbers(&raw.groups) {
+        return Err(DocError::OutOfMemory);
+    }
+    match PolicyTree::build(
+        alloc,
+        TreeSpec {
+            top: raw.top,
+            clusters,
+        },
+    ) {
+        Ok(tree) => Ok(tree),
+        Err(TreeError::Refused { fault }) => Err(DocError::Tree { cause: fault }),
+        Err(TreeError::OutOfMemory) => Err(DocError::OutOfMemory),
+    }
+}
+
+fn check_owners(
+    task_owners: &[u32],
+    link_owners: &[Option<u32>],
+    script: &[Report],
+) -> Result<(), DocError>
+    ensures { Makes result not_owner (not_owned task_owners.now link_owners.now 0 script.now) (λ _. Unit) }
+{
+    match find_not_owned(task_owners, link_owners, script) {
+        Some(entry) => Err(DocError::NotOwner { entry }),
+        None => Ok(()),
+    }
+}
+
+/// The document that has passed the refusals 3 to 6, or the first of the refusals 7 to 11.
+#[tactic(auto, unfolding(crate::specs::Document::document_by))]
+fn build_document(
+    alloc: Global,
+    raw: &RawDocument,
+    names: Names,
+    numbers: DocumentNumbers,
+) -> Result<Document, DocError>
+    requires passed { HasPassed (raw_view raw.now) (names_view names) (numbers_view numbers) }
+    ensures exact { Answers result
+        (document_by (raw_view raw.now) (names_view names) (numbers_view numbers)) }
+    ensures usable { IfOk result IsUsable }
+{
+    let DocumentNumbers {
+        link_owners,
+        groups,
+        task_owners,
+        script,
+        closings,
+    } = numbers;
+    let clusters = build_clusters(alloc, &raw.groups, raw.top)?;
+    let topology = build_topology(alloc, &raw.links)?;
+    let plan = build_plan(alloc, &topology, groups)?;
+    let tree = build_tree(alloc, raw, clusters)?;
+    check_owners(&task_owners, &link_owners, &script)?;
+    Ok(Document {
+        tree,
+        topology,
+        plan,
+        script,
+        closings,
+        names,
+        task_owners,
+        link_owners,
+    })
+}
+
+/// The document of the raw one, or the first of the refusals 3 to 11.
+#[tactic(auto, unfolding(crate::specs::Document::document_of_raw))]
+fn document_from_raw(alloc: Global, raw: &RawDocument) -> Result<Document, DocError>
+    ensures exact { Answers result (document_of_raw (raw_view raw.now)) }
+    ensures usable { IfOk result IsUsable }
+{
+    match find_overrun(raw) {
+        Ok(None) => (),
+        Ok(Some(overrun)) => {
+            return Err(DocError::Limit {
+                what: overrun.what,
+                count: overrun.count,
+            });
+        }
+        Err(_) => return Err(DocError::OutOfMemory),
+    }
+    if let Err(fault) = check_ranges(alloc, raw) {
+        return Err(DocError::range(fault));
+    }
+    let mut links = NameTable::new(alloc);
+    let mut groups = NameTable::new(alloc);
+    let mut tasks = NameTable::new(alloc);
+    let mut reporters = NameTable::new(alloc);
+    if let Err(fault) = fill_tables(
+        alloc,
+        raw,
+        &mut links,
+        &mut groups,
+        &mut tasks,
+        &mut reporters,
+    ) {
+        return Err(DocError::repeated_name(fault));
+    }
+    let numbers = match document_numbers(alloc, raw, &links, &tasks, &reporters) {
+        Ok(numbers) => numbers,
+        Err(fault) => return Err(DocError::unknown_name(fault)),
+    };
+    match names_of(alloc, &links, &groups, &tasks, &reporters) {
+        Ok(names) => build_document(alloc, raw, names, numbers),
+        Err(_) => Err(DocError::OutOfMemory),
+    }
+}
+
+/// The document of the JSON value, or the first of the refusals 2 to 11.
+#[tactic(auto, unfolding(crate::specs::Document::document_of_value))]
+fn document_from_value(alloc: Global, value: &Value) -> Result<Document, DocError>
+    ensures exact { Answers result (document_of_value (view value.now)) }
+    ensures usable { IfOk result IsUsable }
+{
+    match read_shape(alloc, value) {
+        Ok(raw) => document_from_raw(alloc, &raw),
+        Err(fault) => Err(DocError::shape(fault)),
+    }
+}
+
+/// The document of the bytes ("The document" and "Refusals", docs/FORMAT.md), or its refusal of the lowest number.
+///
+/// Names are lent by the JSON value until the document is accepted. Each name is hashed once where it stands and once
+/// where it is referred to; nothing else is looked up. The value of the JSON is gone when this returns.
+#[tactic(auto, unfolding(crate::specs::Document::document))]
+pub fn read_document(alloc: Global, bytes: &[u8]) -> Result<Document, DocError>
+    // The answer is the definition's, unless memory ran out.
+    ensures exact { Answers result (document bytes.now) }
+    // An accepted document meets the conditions of the calls that take its parts.
+    ensures usable { IfOk result IsUsable }
+{
+    match read_json(alloc, bytes) {
+        Ok(value) => document_from_value(alloc, &value),
+        Err(JsonError::NotJson) => Err(DocError::NotJson),
+        Err(JsonError::OutOfMemory) => Err(DocError::OutOfMemory),
+    }
+}
