@@ -12,6 +12,8 @@ mod allocating;
 mod log;
 mod reading;
 mod reporting;
+#[cfg(test)]
+mod tests;
 
 pub use actor::{Actor, Gate, OpenGate};
 pub use allocating::make_rounds;
