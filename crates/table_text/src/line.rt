@@ -1,6 +1,6 @@
 //! Pieces of a line.
 
-ghost use Rattle.std.specs.Prelude.{◌≡◌, ◌++◌, ◌<◌, OnOk, codes, decimal, length, string_bytes};
+ghost use Rattle.std.specs.Prelude.{◌≡◌, ◌++◌, OnOk, decimal, map, string_bytes};
 ghost use Rattle.table_text.specs.TableText.{name_at};
 
 use std::alloc::{AllocError, Global};
@@ -34,10 +34,20 @@ pub(crate) fn push_word_and_name(
     names: &[String],
     number: u32,
 ) -> Result<(), AllocError>
-    requires { number < length names.now }
     ensures { OnOk result
-        (string_bytes text.new ≡ string_bytes text.old ++ word.now ++ name_at names.now number) }
+        (string_bytes text.new ≡ string_bytes text.old ++ word.now ++ name_at (map string_bytes names.now) number) }
 {
     text.push_str(word)?;
-    text.push_str(names[number as usize].as_str())
+    text.push_str(name_of(names, number))
+}
+
+// The name of the number, an empty text where it has none.
+fn name_of(names: &[String], number: u32) -> &str
+    ensures { result.now ≡ name_at (map string_bytes names.now) number }
+{
+    let number = number as usize;
+    if number < names.len() {
+        return names[number].as_str();
+    }
+    ""
 }

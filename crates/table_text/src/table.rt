@@ -3,7 +3,7 @@
 ghost use Rattle.std.specs.Prelude.{◌≡◌, ◌++◌, ◌<◌, ◌≤◌, ◌^◌, ℕ, All, IfOk, OnOk, codes, decimal, flat_map, length, string_bytes, sum_by};
 ghost use Rattle.bwe_specs.specs.Reports.{numbers};
 ghost use Rattle.bwe_specs.specs.declared.limits.TheConstants.{MAX_TOTAL};
-ghost use Rattle.table_text.specs.TableText.{ClosedHasName, HasNames, closed_text, closing_line, group_lines, link_line, place_line, task_line, text_of};
+ghost use Rattle.table_text.specs.TableText.{closed_text, closing_line, group_lines, link_line, place_line, task_line, text_of, texts_of};
 
 use crate::line::{push_number, push_word_and_name, push_word_and_number};
 use bwe_specs::{Closing, OutOfMemory};
@@ -13,9 +13,10 @@ use std::alloc::{AllocError, Global};
 
 #[tactic(auto, unfolding(crate::specs::TableText::text_of))]
 /// The text of the table, with the names of its links, groups and tasks.
+///
+/// A number that has no name is printed as an empty text; the names of a document have one for each number of its tables.
 pub fn table_text(alloc: Global, table: &LimitTable, names: &Names) -> Result<Vec<u8>, OutOfMemory>
-    requires { HasNames names.now table.now }
-    ensures { IfOk result (λ text. text.items ≡ text_of names.now table.now) }
+    ensures { IfOk result (λ text. text.items ≡ text_of (texts_of names.now) table.now) }
 {
     let mut text = String::new(alloc);
     push_word_and_number(alloc, &mut text, "table ", table.prefix)?;
@@ -47,9 +48,8 @@ fn push_closing(
     names: &Names,
     closing: Closing,
 ) -> Result<(), AllocError>
-    requires { closing.link < length names.now.links.items }
     ensures { OnOk result
-        (string_bytes text.new ≡ string_bytes text.old ++ closing_line names.now closing) }
+        (string_bytes text.new ≡ string_bytes text.old ++ closing_line (texts_of names.now) closing) }
 {
     push_word_and_name(text, "closing ", &names.links, closing.link)?;
     push_word_and_number(alloc, text, " at ", closing.share)?;
@@ -62,9 +62,8 @@ fn push_closings(
     names: &Names,
     closings: &[Closing],
 ) -> Result<(), AllocError>
-    requires { All (λ closing. closing.link < length names.now.links.items) closings.now }
     ensures { OnOk result
-        (string_bytes text.new ≡ string_bytes text.old ++ flat_map (closing_line names.now) closings.now) }
+        (string_bytes text.new ≡ string_bytes text.old ++ flat_map (closing_line (texts_of names.now)) closings.now) }
 {
     for closing in closings {
         push_closing(alloc, text, names, *closing)?;
@@ -80,10 +79,9 @@ fn push_link(
     link: usize,
 ) -> Result<(), AllocError>
     requires load { link < length loads.now }
-    requires named { length loads.now ≤ length names.now.links.items }
     requires few { length loads.now < 2 ^ 32 }
     ensures { OnOk result
-        (string_bytes text.new ≡ string_bytes text.old ++ link_line names.now loads.now link) }
+        (string_bytes text.new ≡ string_bytes text.old ++ link_line (texts_of names.now) loads.now link) }
 {
     push_word_and_name(text, "link ", &names.links, link as u32)?;
     push_word_and_number(alloc, text, " load ", loads[link])?;
@@ -97,10 +95,9 @@ fn push_links(
     names: &Names,
     loads: &[u64],
 ) -> Result<(), AllocError>
-    requires named { length loads.now ≤ length names.now.links.items }
     requires few { length loads.now < 2 ^ 32 }
     ensures { OnOk result
-        (string_bytes text.new ≡ string_bytes text.old ++ flat_map (link_line names.now loads.now) (numbers (length loads.now))) }
+        (string_bytes text.new ≡ string_bytes text.old ++ flat_map (link_line (texts_of names.now) loads.now) (numbers (length loads.now))) }
 {
     for link in 0..loads.len() {
         push_link(alloc, text, names, loads, link)?;
@@ -110,9 +107,8 @@ fn push_links(
 
 #[tactic(auto, unfolding(crate::specs::TableText::closed_text))]
 fn push_closed(text: &mut String, names: &Names, closed: Option<u32>) -> Result<(), AllocError>
-    requires { (link : ℕ) → closed ≡ Some link → link < length names.now.links.items }
     ensures { OnOk result
-        (string_bytes text.new ≡ string_bytes text.old ++ closed_text names.now closed) }
+        (string_bytes text.new ≡ string_bytes text.old ++ closed_text (texts_of names.now) closed) }
 {
     match closed {
         Some(link) => {
@@ -131,9 +127,8 @@ fn push_place(
     place: usize,
 ) -> Result<(), AllocError>
     requires place { place < length lines.now }
-    requires named { All (ClosedHasName (length names.now.links.items)) lines.now }
     ensures { OnOk result
-        (string_bytes text.new ≡ string_bytes text.old ++ place_line names.now lines.now place) }
+        (string_bytes text.new ≡ string_bytes text.old ++ place_line (texts_of names.now) lines.now place) }
 {
     let line = lines[place];
     push_word_and_number(alloc, text, "place ", place as u64)?;
@@ -148,9 +143,8 @@ fn push_places(
     names: &Names,
     lines: &[PlaceLine],
 ) -> Result<(), AllocError>
-    requires { All (ClosedHasName (length names.now.links.items)) lines.now }
     ensures { OnOk result
-        (string_bytes text.new ≡ string_bytes text.old ++ flat_map (place_line names.now lines.now) (numbers (length lines.now))) }
+        (string_bytes text.new ≡ string_bytes text.old ++ flat_map (place_line (texts_of names.now) lines.now) (numbers (length lines.now))) }
 {
     for place in 0..lines.len() {
         push_place(alloc, text, names, lines, place)?;
@@ -166,11 +160,9 @@ fn push_group(
     group: usize,
 ) -> Result<(), AllocError>
     requires group { group < length lines.now }
-    requires named { length lines.now ≤ length names.now.groups.items }
     requires few { length lines.now < 2 ^ 32 }
-    requires places { All (λ line. All (ClosedHasName (length names.now.links.items)) line.places) lines.now }
     ensures { OnOk result
-        (string_bytes text.new ≡ string_bytes text.old ++ group_lines names.now lines.now group) }
+        (string_bytes text.new ≡ string_bytes text.old ++ group_lines (texts_of names.now) lines.now group) }
 {
     let line = &lines[group];
     push_word_and_name(text, "group ", &names.groups, group as u32)?;
@@ -187,11 +179,9 @@ fn push_groups(
     names: &Names,
     lines: &[GroupLine],
 ) -> Result<(), AllocError>
-    requires named { length lines.now ≤ length names.now.groups.items }
     requires few { length lines.now < 2 ^ 32 }
-    requires places { All (λ line. All (ClosedHasName (length names.now.links.items)) line.places) lines.now }
     ensures { OnOk result
-        (string_bytes text.new ≡ string_bytes text.old ++ flat_map (group_lines names.now lines.now) (numbers (length lines.now))) }
+        (string_bytes text.new ≡ string_bytes text.old ++ flat_map (group_lines (texts_of names.now) lines.now) (numbers (length lines.now))) }
 {
     for group in 0..lines.len() {
         push_group(alloc, text, names, lines, group)?;
@@ -207,10 +197,9 @@ fn push_task(
     task: usize,
 ) -> Result<(), AllocError>
     requires task { task < length limits.now }
-    requires named { length limits.now ≤ length names.now.tasks.items }
     requires few { length limits.now < 2 ^ 32 }
     ensures { OnOk result
-        (string_bytes text.new ≡ string_bytes text.old ++ task_line names.now limits.now task) }
+        (string_bytes text.new ≡ string_bytes text.old ++ task_line (texts_of names.now) limits.now task) }
 {
     push_word_and_name(text, "task ", &names.tasks, task as u32)?;
     push_word_and_number(alloc, text, " limit ", limits[task])?;
@@ -224,10 +213,9 @@ fn push_tasks(
     names: &Names,
     limits: &[u64],
 ) -> Result<(), AllocError>
-    requires named { length limits.now ≤ length names.now.tasks.items }
     requires few { length limits.now < 2 ^ 32 }
     ensures { OnOk result
-        (string_bytes text.new ≡ string_bytes text.old ++ flat_map (task_line names.now limits.now) (numbers (length limits.now))) }
+        (string_bytes text.new ≡ string_bytes text.old ++ flat_map (task_line (texts_of names.now) limits.now) (numbers (length limits.now))) }
 {
     for task in 0..limits.len() {
         push_task(alloc, text, names, limits, task)?;

@@ -1,13 +1,9 @@
-ghost use Rattle.std.specs.Prelude.{◌≡◌, IfOk, length};
-
 use super::table_text;
 use bwe_specs::{Closing, OutOfMemory};
 use doc_names::Names;
 use limit_table::{GroupLine, LimitTable, PlaceLine};
 
-fn named(rt: &HostRuntime, texts: &[&str]) -> Result<Vec<String>, OutOfMemory>
-    ensures { IfOk result (λ names. length names.items ≡ length texts.now) }
-{
+fn named(rt: &HostRuntime, texts: &[&str]) -> Result<Vec<String>, OutOfMemory> {
     let mut names = Vec::new(rt.alloc());
     for text in texts {
         names.push(String::from_str(rt.alloc(), text)?)?;
