@@ -2,9 +2,9 @@
 
 ghost use Rattle.std.specs.Prelude.{◌≡◌, ℕ, ◌+◌, ◌-◌, ◌<◌, ◌≤◌, ◌∷◌, [], length, map, reverse, IfOk, OnOk, OnErr, None};
 ghost use Rattle.bwe_specs.specs.Reports.{numbers};
-ghost use Rattle.bwe_specs.specs.Paths.{path_group_count};
+ghost use Rattle.bwe_specs.specs.Paths.{path_group_count, is_over as is_link_over};
 ghost use Rattle.bwe_specs.specs.Filling.{filling_step, IsReached};
-ghost use Rattle.bwe_specs.specs.RightClosings.{last_share, over_at, IsRightAfter};
+ghost use Rattle.bwe_specs.specs.RightClosings.{last_share, amounts_at, over_at, IsRightAfter};
 ghost use Rattle.path_groups.specs.Plan.{IsBuiltOn};
 ghost use Rattle.mpfa_fill.specs.Rows.{amount_at, AreRowsOf, total_of, rows_in, RaisesAmount};
 ghost use Rattle.mpfa_fill.specs.GroupValues.{Values, AreGroupValues, wan_of};
@@ -97,6 +97,17 @@ impl<'a, V: GroupValues> Moment<'a, V> {
             }
         }
         self.share = share;
+    }
+
+    /// Whether the link is over.
+    pub fn is_over(&self, link: u32) -> bool
+        requires moment { IsMoment V.meaning self.now }
+        requires link { link < length self.now.topology.now.capacities }
+        ensures { let wan = wan_in V.meaning self.now in
+            result ≡ is_link_over wan.groups wan.capacities
+            (amounts_at wan (state_of self.now).closings (state_of self.now).share) link }
+    {
+        self.sums.load(self.plan, link) > self.topology.capacity(link)
     }
 
     /// The lowest link that is over.

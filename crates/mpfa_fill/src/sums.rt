@@ -76,6 +76,15 @@ impl LinkSums {
         self.amounts[group as usize][place as usize]
     }
 
+    /// The load of the link.
+    pub(crate) fn load(&self, plan: &PathPlan, link: u32) -> u64
+        requires rows { AreRowsOf plan.now self.now }
+        requires total { total_of plan.now self.now ≤ 20_000_000_000_000_000 }
+        ensures { result ≡ load_of_link plan.now (amount_at self.now) link }
+    {
+        link_load(plan, self.amounts.as_slice(), link)
+    }
+
     /// The lowest link that is over.
     pub(crate) fn first_over(&self, topology: &Topology, plan: &PathPlan) -> Option<u32>
         requires rows { AreRowsOf plan.now self.now }
