@@ -35,3 +35,6 @@ pub use profile::Profile;
 pub use reader::{ReaderPass, View};
 pub use refusal::ReportError;
 pub use reporter::ReporterPass;
+
+#[cfg(test)]
+mod tests;
