@@ -1,0 +1,163 @@
+//! A tree and a network as they stand after reports.
+
+ghost use Rattle.std.specs.Prelude.{◌≡◌, ◌+◌, ◌<◌, ◌≤◌, ◌++◌, ◌∷◌, [], ℕ, List, length, IfOk, OnOk, OnErr, Some, unwrap_or};
+ghost use Rattle.bwe_specs.specs.declared.report.Report.{Report};
+ghost use Rattle.demand_book.specs.Fit.{IsFit};
+ghost use Rattle.policy_tree.specs.Trees.{asking};
+ghost use Rattle.allocator.specs.Reported.{Reported as ReportedView, IsAfter, kept, with_capacity, with_report};
+
+use bwe_specs::{MAX_AMOUNT, MAX_REPORTS, OutOfMemory, Report, Target};
+use policy_tree::PolicyTree;
+use std::alloc::Global;
+use std::marker::Model;
+use wan_topology::Topology;
+
+/// A tree and a network that take in reports one by one.
+///
+/// A report of a demand sets its task's demand, one of a capacity its link's capacity. The capacities that the network
+/// was given are kept from the first report that changes one.
+#[derive(Drop)]
+pub struct Reported {
+    tree: PolicyTree,
+    topology: Topology,
+    given: Option<Vec<u64>>,
+    prefix: u64,
+}
+
+impl Model for Reported {
+    ghost use Rattle.std.specs.Prelude.{unwrap_or};
+    ghost use Rattle.allocator.specs.Reported.{Reported as ReportedView, kept};
+
+    ghost Value = { ReportedView };
+
+    ghost view = { λ reported. record {
+      tree = reported.tree;
+      network = reported.topology;
+      given = unwrap_or (kept reported.given) reported.topology.capacities;
+      prefix = reported.prefix;
+    } };
+}
+
+impl Reported {
+    /// Before any report.
+    pub fn new(tree: PolicyTree, topology: Topology) -> Reported
+        ensures { result ≡ record {
+          tree = tree;
+          network = topology;
+          given = topology.capacities;
+          prefix = 0;
+        } }
+    {
+        Reported {
+            tree,
+            topology,
+            given: None,
+            prefix: 0,
+        }
+    }
+
+    /// The tree, with the demands that were reported.
+    pub fn tree(&self) -> &PolicyTree
+        ensures { result.now ≡ self.now.tree }
+    {
+        &self.tree
+    }
+
+    /// The network, with the capacities that were reported.
+    pub fn topology(&self) -> &Topology
+        ensures { result.now ≡ self.now.network }
+    {
+        &self.topology
+    }
+
+    /// How many reports were taken in.
+    pub fn prefix(&self) -> u64
+        ensures { result ≡ self.now.prefix }
+    {
+        self.prefix
+    }
+
+    /// Makes the tree's values cheap again after demands were reported. Nothing changes.
+    pub fn rematch(&mut self)
+        ensures { self.new ≡ self.old }
+    {
+        self.tree.rematch();
+    }
+
+    /// Takes in a report. After a refusal it stands as before.
+    pub fn absorb(&mut self, alloc: Global, report: Report) -> Result<(), OutOfMemory>
+        requires fit { IsFit (length self.old.tree.demands) (length self.old.network.capacities) report }
+        requires room { self.old.prefix < MAX_REPORTS }
+        ensures ok { OnOk result (self.new ≡ with_report self.old report) }
+        ensures after { OnOk result ((reports : List Report)
+            → IsAfter self.old reports → IsAfter self.new (reports ++ report ∷ [])) }
+        ensures refused { OnErr result (self.new ≡ self.old) }
+    {
+        match report.target {
+            Target::Task { number } => self.absorb_demand(number, report.amount),
+            Target::Link { number } => self.absorb_capacity(alloc, number, report.amount),
+        }
+    }
+
+    fn absorb_demand(&mut self, task: u32, demand: u64) -> Result<(), OutOfMemory>
+        requires task { task < length self.old.tree.demands }
+        requires demand { demand ≤ MAX_AMOUNT }
+        requires room { self.old.prefix < MAX_REPORTS }
+        ensures ok { OnOk result (self.new ≡ record self.old {
+          tree = asking self.old.tree task demand;
+          prefix = self.old.prefix + 1;
+        }) }
+        ensures refused { OnErr result (self.new ≡ self.old) }
+    {
+        self.tree.set_demand(task, demand)?;
+        self.prefix += 1;
+        Ok(())
+    }
+
+    fn absorb_capacity(
+        &mut self,
+        alloc: Global,
+        link: u32,
+        capacity: u64,
+    ) -> Result<(), OutOfMemory>
+        requires link { link < length self.old.network.capacities }
+        requires capacity { capacity ≤ MAX_AMOUNT }
+        requires room { self.old.prefix < MAX_REPORTS }
+        ensures ok { OnOk result (self.new ≡ record self.old {
+          network = with_capacity self.old.network link capacity;
+          prefix = self.old.prefix + 1;
+        }) }
+        ensures refused { OnErr result (self.new ≡ self.old) }
+    {
+        keep_given(alloc, &mut self.given, &self.topology)?;
+        self.topology.set_capacity(link, capacity);
+        self.prefix += 1;
+        Ok(())
+    }
+}
+
+// Keeps the capacities that the network was given, where they are not kept yet.
+fn keep_given(
+    alloc: Global,
+    given: &mut Option<Vec<u64>>,
+    topology: &Topology,
+) -> Result<(), OutOfMemory>
+    ensures ok { OnOk result (kept given.new ≡ Some (unwrap_or (kept given.old) topology.now.capacities)) }
+    ensures refused { OnErr result (given.new ≡ given.old) }
+{
+    if given.is_none() {
+        *given = Some(capacities_of(alloc, topology)?);
+    }
+    Ok(())
+}
+
+// Each link's capacity.
+fn capacities_of(alloc: Global, topology: &Topology) -> Result<Vec<u64>, OutOfMemory>
+    ensures { IfOk result (λ capacities. capacities.items ≡ topology.now.capacities) }
+{
+    let mut capacities = Vec::new(alloc);
+    for link in 0..topology.links() {
+        capacities.push(topology.capacity(link))?;
+    }
+    Ok(capacities)
+}
