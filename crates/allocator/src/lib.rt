@@ -9,6 +9,6 @@ mod line;
 mod reported;
 mod values;
 
-pub use line::group_line;
+pub use line::{group_line, group_lines};
 pub use reported::Reported;
 pub use values::TreeValues;

@@ -4,12 +4,33 @@ ghost use Rattle.std.specs.Prelude.{◌≡◌, ◌<◌, ◌^◌, length, map, re
 ghost use Rattle.bwe_specs.specs.Paths.{path_group_at, path_group_count};
 ghost use Rattle.bwe_specs.specs.Filling.{closed_by};
 ghost use Rattle.bwe_specs.specs.Reports.{numbers};
-ghost use Rattle.allocator.specs.Lines.{line_of_group, line_of_place};
+ghost use Rattle.allocator.specs.Lines.{HasRows, line_in, line_of_group, line_of_place};
 
 use bwe_specs::{Closing, OutOfMemory};
 use limit_table::{GroupLine, PlaceLine};
+use mpfa_fill::Filling;
 use path_groups::PathPlan;
 use std::alloc::Global;
+
+/// The lines of all groups of a filling.
+pub fn group_lines(
+    alloc: Global,
+    plan: &PathPlan,
+    filling: &Filling,
+) -> Result<Vec<GroupLine>, OutOfMemory>
+    requires { HasRows plan.now filling.now }
+    ensures { IfOk result (λ lines.
+        lines.items ≡ map (line_in plan.now filling.now) (numbers (length plan.now))) }
+{
+    let mut lines = Vec::new(alloc);
+    for group in 0..plan.groups() {
+        let at = group as usize;
+        let amounts = &filling.amounts[at];
+        let share = filling.shares[at];
+        lines.push(group_line(alloc, plan, &filling.closings, group, amounts, share)?)?;
+    }
+    Ok(lines)
+}
 
 /// The line of a group that has so much on each of its path groups, in kilobits per second, and stopped at the share.
 ///
