@@ -1,9 +1,8 @@
-use Rattle.std.proofs.Common.{◌≡◌, ℕ, suc, ◌+◌, Bool, true, false, ◌∙◌, sym, ap₂, arith, List, length, reverse, Option, Some, None, le-leb, le-ltb, lt-ltb, add-one, nat_eq, nat_le, nat_lt}
+use Rattle.std.proofs.Common.{◌≡◌, ℕ, suc, Bool, ◌∙◌, sym, ap₂, arith, List, reverse, Option, le-leb, le-ltb, lt-ltb, add-one}
 use Rattle.std.proofs.lemmas.Bool.{lt-leb}
-use Rattle.std.specs.List.{list_any}
 use Rattle.bwe_specs.specs.declared.network.Closing.{Closing}
-use Rattle.bwe_specs.specs.Filling.{Wan, closed_links}
-use Rattle.bwe_specs.specs.RightClosings.{last_share, over_at, next_cause}
+use Rattle.bwe_specs.specs.Filling.{Wan}
+use Rattle.bwe_specs.specs.RightClosings.{next_cause}
 use Rattle.mpfa_fill.specs.Moment.{wan_in}
 use Rattle.mpfa_fill.proofs.MomentLemmas.{over-along}
 use Rattle.bottleneck_cert.proofs.Causes.{closed-found, named-along, cause-no_link, cause-reclosed, cause-falls, cause-at_top, cause-over_before, cause-next}

@@ -1,8 +1,8 @@
-use Rattle.std.proofs.Common.{◌≡◌, ℕ, ◌+◌, ◌≤◌, ◌∙◌, sym, ap, ap₂, arith, List, [], ◌∷◌, length, reverse, drop, slice_index_or}
+use Rattle.std.proofs.Common.{◌≡◌, ℕ, ◌+◌, ◌∙◌, sym, ap, ap₂, arith, List, ◌∷◌, length, reverse, drop, slice_index_or}
 use Rattle.bwe_specs.specs.declared.network.Closing.{Closing}
 use Rattle.bwe_specs.specs.declared.network.Verdict.TheVariants.{Wrong}
 use Rattle.bwe_specs.specs.Filling.{Wan}
-use Rattle.bwe_specs.specs.RightClosings.{last_share, over_at, cause_after, top_verdict, verdict_after, verdict, IsRightAfter}
+use Rattle.bwe_specs.specs.RightClosings.{last_share, cause_after, top_verdict, verdict_after, verdict, IsRightAfter}
 use Rattle.bwe_specs.proofs.Verdicts.{cause-none}
 use Rattle.mpfa_fill.specs.GroupValues.{wan_of}
 use Rattle.mpfa_fill.proofs.MomentLemmas.{never_falls, over-along, right-along}

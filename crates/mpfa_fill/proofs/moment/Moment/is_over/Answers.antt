@@ -1,4 +1,4 @@
-use Rattle.std.proofs.Common.{◌≡◌, ℕ, ◌∙◌, ap, ap₂, arith, reverse, nat_lt}
+use Rattle.std.proofs.Common.{◌∙◌, ap, ap₂, arith, reverse, nat_lt}
 use Rattle.bwe_specs.specs.Filling.{Wan}
 use Rattle.bwe_specs.specs.Paths.{link_load}
 use Rattle.bwe_specs.proofs.Totals.{total, total-le}
