@@ -19,8 +19,6 @@ pub const USAGE: &str =
 pub enum Line {
     /// Reads a document and writes its table of limits.
     Solve,
-    /// Reads a document and writes the verdict on its closings.
-    Check,
 }
 
 /// The line that the words are, `None` where they are none. `words` are those after the program's name.
@@ -41,9 +39,6 @@ fn line_of_word(word: &str) -> Option<Line>
 {
     if word == "solve" {
         return Some(Line::Solve);
-    }
-    if word == "check" {
-        return Some(Line::Check);
     }
     None
 }
