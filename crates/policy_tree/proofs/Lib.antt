@@ -7,3 +7,4 @@ pub mod Agreement
 pub mod Homes
 pub mod TreeFacts
 pub mod Counting
+pub mod TestTrees

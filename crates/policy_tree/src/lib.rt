@@ -20,6 +20,8 @@ mod home;
 mod job;
 mod siblings;
 mod spec;
+#[cfg(test)]
+mod tests;
 mod tree;
 mod user;
 mod value;

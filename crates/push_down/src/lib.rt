@@ -17,6 +17,8 @@ ghost use Rattle.push_down.specs.Limits.{limits_of_job, limits_of_user, limits_o
 
 mod children;
 mod share;
+#[cfg(test)]
+mod tests;
 
 use bwe_specs::{MAX_SHARE, MAX_TASKS, OutOfMemory};
 use children::{Nodes, Tasks};
