@@ -1,3 +1,4 @@
 pub mod First
 pub mod After
 pub mod Rows
+pub mod Frames

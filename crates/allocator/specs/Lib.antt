@@ -1,3 +1,4 @@
 pub mod Lines
 pub mod Reported
 pub mod Values
+pub mod Frames
