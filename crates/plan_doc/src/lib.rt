@@ -26,3 +26,6 @@ pub use document::{Document, read_document};
 pub use limit::What;
 pub use raw_document::{DocKey, DocPath, PathStep};
 pub use refusal_text::refusal_line;
+
+#[cfg(test)]
+mod tests;
