@@ -11,6 +11,7 @@ use Rattle.bwe_specs.proofs.Steps.{reached-sound, next_amounts-is, step-below, c
 use Rattle.bwe_specs.specs.Values.{NeverFalls}
 use Rattle.mpfa_fill.specs.GroupValues.{Values, AreGroupValues, wan_of}
 use Rattle.mpfa_fill.specs.Moment.{IsMomentOf}
+use Rattle.link_sums.specs.Sums.{Sums}
 use Rattle.mpfa_fill.specs.declared.standing.Standing.{Standing}
 
 pub never_falls : (values : Values) (groups : List PathGroups) (capacities : List ℕ) → AreGroupValues values → NeverFalls (wan_of values groups capacities)
@@ -21,14 +22,14 @@ pub together : (values : Values) (groups : List PathGroups) → AreGroupValues v
 together values groups known count = subst (λ n. sum_below n (λ group. values.value group values.top) ≤ 20_000_000_000_000_000) count known.together
 
 -- a moment of equal parts
-pub moment-along : (values values' : Values) (groups groups' : List PathGroups) (capacities capacities' : List ℕ) (share : ℕ) (closings closings' : List Closing) (standings : List Standing) (rows : List (List ℕ))
+pub moment-along : (values values' : Values) (groups groups' : List PathGroups) (capacities capacities' : List ℕ) (share : ℕ) (closings closings' : List Closing) (standings : List Standing) (sums : Sums)
     → values ≡ values' → groups ≡ groups' → capacities ≡ capacities' → closings ≡ closings'
-    → IsMomentOf values' (wan_of values' groups' capacities') share closings' standings rows → IsMomentOf values (wan_of values groups capacities) share closings standings rows
-moment-along values values' groups groups' capacities capacities' share closings closings' standings rows e f h k is =
-    subst (λ v. IsMomentOf v (wan_of v groups capacities) share closings standings rows) (sym e)
-    (subst (λ gs. IsMomentOf values' (wan_of values' gs capacities) share closings standings rows) (sym f)
-    (subst (λ cs. IsMomentOf values' (wan_of values' groups' cs) share closings standings rows) (sym h)
-    (subst (λ cs. IsMomentOf values' (wan_of values' groups' capacities') share cs standings rows) (sym k) is)))
+    → IsMomentOf values' (wan_of values' groups' capacities') share closings' standings sums → IsMomentOf values (wan_of values groups capacities) share closings standings sums
+moment-along values values' groups groups' capacities capacities' share closings closings' standings sums e f h k is =
+    subst (λ v. IsMomentOf v (wan_of v groups capacities) share closings standings sums) (sym e)
+    (subst (λ gs. IsMomentOf values' (wan_of values' gs capacities) share closings standings sums) (sym f)
+    (subst (λ cs. IsMomentOf values' (wan_of values' groups' cs) share closings standings sums) (sym h)
+    (subst (λ cs. IsMomentOf values' (wan_of values' groups' capacities') share cs standings sums) (sym k) is)))
 
 pub reverse_push : (closings : List Closing) (closing : Closing) → reverse (closings ++ closing ∷ []) ≡ closing ∷ reverse closings
 reverse_push closings closing = reverse-append closings (closing ∷ [])

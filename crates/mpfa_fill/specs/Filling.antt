@@ -3,7 +3,7 @@ use Rattle.std.specs.Prelude.{◌≡◌, length, map, reverse}
 use Rattle.bwe_specs.specs.Reports.{numbers}
 use Rattle.bwe_specs.specs.Paths.{path_group_count}
 use Rattle.bwe_specs.specs.Filling.{Wan, filling, group_stop}
-use Rattle.mpfa_fill.specs.Rows.{rows_in}
+use Rattle.link_sums.specs.Sums.{rows_in}
 use Rattle.mpfa_fill.specs.declared.steps.Filling.{Filling}
 
 -- the closings in their order, the amounts by group and place, and the stop shares are those of the filling

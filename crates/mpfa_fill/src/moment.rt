@@ -6,16 +6,16 @@ ghost use Rattle.bwe_specs.specs.Paths.{path_group_count, is_over as is_link_ove
 ghost use Rattle.bwe_specs.specs.Filling.{filling_step, IsReached};
 ghost use Rattle.bwe_specs.specs.RightClosings.{last_share, amounts_at, over_at, IsRightAfter};
 ghost use Rattle.path_groups.specs.Plan.{IsBuiltOn};
-ghost use Rattle.mpfa_fill.specs.Rows.{amount_at, AreRowsOf, total_of, rows_in, RaisesAmount};
+ghost use Rattle.link_sums.specs.Sums.{amount_at, IsSummedOver, total_of, rows_in};
 ghost use Rattle.mpfa_fill.specs.GroupValues.{Values, AreGroupValues, wan_of};
 ghost use Rattle.mpfa_fill.specs.Moment.{state_of, wan_in, IsMoment};
 ghost use Rattle.mpfa_fill.specs.Filling.{IsFilling};
 
 use crate::standing::{Standing, first_standings, standing_after, stop_shares};
 use crate::steps::Filling;
-use crate::sums::LinkSums;
 use crate::values::GroupValues;
 use bwe_specs::{Closing, OutOfMemory};
+use link_sums::LinkSums;
 use path_groups::PathPlan;
 use std::alloc::Global;
 use wan_topology::Topology;
@@ -49,7 +49,7 @@ impl<'a, V: GroupValues> Moment<'a, V> {
         ensures share { IfOk result (λ moment. (state_of moment).share ≡ 0) }
         ensures closings { IfOk result (λ moment. (state_of moment).closings ≡ []) }
     {
-        let sums = LinkSums::open(alloc, plan)?;
+        let sums = LinkSums::open(alloc, topology, plan)?;
         let standings = first_standings(alloc, plan)?;
         Ok(Moment {
             values,
@@ -107,7 +107,7 @@ impl<'a, V: GroupValues> Moment<'a, V> {
             result ≡ is_link_over wan.groups wan.capacities
             (amounts_at wan (state_of self.now).closings (state_of self.now).share) link }
     {
-        self.sums.load(self.plan, link) > self.topology.capacity(link)
+        self.sums.load(link) > self.topology.capacity(link)
     }
 
     /// The lowest link that is over.
@@ -116,7 +116,7 @@ impl<'a, V: GroupValues> Moment<'a, V> {
         ensures { result ≡
             over_at (wan_in V.meaning self.now) (state_of self.now).closings (state_of self.now).share }
     {
-        self.sums.first_over(self.topology, self.plan)
+        self.sums.first_over(self.topology)
     }
 
     /// Closes the link at the share. A group that grew over it goes on with its next open path group.
@@ -188,15 +188,16 @@ impl<'a, V: GroupValues> Moment<'a, V> {
 
 // Raises or lowers an amount as a value has changed.
 fn change(sums: &mut LinkSums, plan: &PathPlan, group: u32, place: u32, from: u64, to: u64)
-    requires rows { AreRowsOf plan.now sums.old }
+    requires summed { IsSummedOver plan.now sums.old }
     requires group { group < length plan.now }
     requires place { place < path_group_count plan.now group }
-    requires total { total_of plan.now sums.old + (to - from) ≤ 20_000_000_000_000_000 }
-    requires amount { from - to ≤ amount_at sums.old group place }
-    ensures rows { AreRowsOf plan.now sums.new }
-    ensures amount { amount_at sums.new group place + from ≡ amount_at sums.old group place + to }
+    requires total { total_of plan.now sums.old.amounts + (to - from) ≤ 20_000_000_000_000_000 }
+    requires amount { from - to ≤ amount_at sums.old.amounts group place }
+    ensures summed { IsSummedOver plan.now sums.new }
+    ensures links { length sums.new.loads ≡ length sums.old.loads }
+    ensures amount { amount_at sums.new.amounts group place + from ≡ amount_at sums.old.amounts group place + to }
     ensures others { (group' place' : ℕ) → (group' ≡ group → place' ≡ place → ⊥)
-        → amount_at sums.new group' place' ≡ amount_at sums.old group' place' }
+        → amount_at sums.new.amounts group' place' ≡ amount_at sums.old.amounts group' place' }
 {
     if from <= to {
         sums.raise(plan, group, place, to - from);
@@ -207,9 +208,9 @@ fn change(sums: &mut LinkSums, plan: &PathPlan, group: u32, place: u32, from: u6
 
 // The amounts in rows.
 fn amounts_of(alloc: Global, plan: &PathPlan, sums: &LinkSums) -> Result<Vec<Vec<u64>>, OutOfMemory>
-    requires { AreRowsOf plan.now sums.now }
+    requires { IsSummedOver plan.now sums.now }
     ensures { IfOk result (λ rows. rows_in rows.items
-        ≡ map (λ group. map (amount_at sums.now group) (numbers (path_group_count plan.now group))) (numbers (length plan.now))) }
+        ≡ map (λ group. map (amount_at sums.now.amounts group) (numbers (path_group_count plan.now group))) (numbers (length plan.now))) }
 {
     let mut rows = Vec::new(alloc);
     for group in 0..plan.groups() {
@@ -225,9 +226,9 @@ fn row_of(
     sums: &LinkSums,
     group: u32,
 ) -> Result<Vec<u64>, OutOfMemory>
-    requires rows { AreRowsOf plan.now sums.now }
+    requires rows { IsSummedOver plan.now sums.now }
     requires group { group < length plan.now }
-    ensures { IfOk result (λ row. row.items ≡ map (amount_at sums.now group) (numbers (path_group_count plan.now group))) }
+    ensures { IfOk result (λ row. row.items ≡ map (amount_at sums.now.amounts group) (numbers (path_group_count plan.now group))) }
 {
     let mut row = Vec::new(alloc);
     for place in 0..plan.places(group) {

@@ -8,7 +8,7 @@ use Rattle.bwe_specs.proofs.Totals.{total}
 use Rattle.mpfa_fill.specs.declared.moment.Moment.{Moment}
 use Rattle.mpfa_fill.specs.declared.standing.Standing.{Standing}
 use Rattle.mpfa_fill.specs.declared.standing.Standing.TheVariants.{Grows, Stopped}
-use Rattle.mpfa_fill.specs.Rows.{amount_at, AreRowsOf}
+use Rattle.link_sums.specs.Sums.{Sums, amount_at, IsSummedOver}
 use Rattle.mpfa_fill.specs.Standing.{IsStanding}
 use Rattle.mpfa_fill.specs.Moment.{wan_in}
 use Rattle.mpfa_fill.proofs.Moves.{part-none, part-all, part-next, part-stopped, part-total, part-left, total-next, amounts_at-current}
@@ -27,7 +27,8 @@ loop-group-init g c =
       topology = refl;
       share = refl;
       closings = refl;
-      rows = m.rows;
+      summed = m.summed;
+      links = m.links;
       amounts = m.amounts ∙ sym (part-none wan (reverse c.args.self.now.closings.items) c.args.self.now.share c.args.share);
       each_group = m.each_group;
       gone = λ group lt. absurd (omega arith);
@@ -98,7 +99,7 @@ loop-group-preserved g c =
           let sums : c.match-index.self.sums ≡ w.change.new.sums = ap (λ (n : Moment g.row.V.Denot). n.sums) w.self-is in
           let stands = standing-read (IsStanding wan closings from c.loop-group.group) c.loop-group.self.standings.items c.loop-group.group _ c.index.result.now (Grows w.in-Grows.place w.in-Grows.value)
           in_items c.index.ensures w.in-Grows.is (i.left c.loop-group.group (omega arith) lt) in
-          let changed : amount_at w.change.new.sums c.loop-group.group w.in-Grows.place + wan.value c.loop-group.group from ≡ amount_at c.loop-group.self.sums c.loop-group.group w.in-Grows.place + wan.value c.loop-group.group c.args.share =
+          let changed : amount_at w.change.new.sums.amounts c.loop-group.group w.in-Grows.place + wan.value c.loop-group.group from ≡ amount_at c.loop-group.self.sums.amounts c.loop-group.group w.in-Grows.place + wan.value c.loop-group.group c.args.share =
           omega (arith, w.change.ensures.amount, stands.1, w.value-now.ensures) in
           record {
             values = ap (λ (n : Moment g.row.V.Denot). n.values.now) w.self-is ∙ i.values;
@@ -106,9 +107,10 @@ loop-group-preserved g c =
             topology = ap (λ (n : Moment g.row.V.Denot). n.topology.now) w.self-is ∙ i.topology;
             share = ap (λ (n : Moment g.row.V.Denot). n.share) w.self-is ∙ i.share;
             closings = ap (λ (n : Moment g.row.V.Denot). n.closings) w.self-is ∙ i.closings;
-            rows = subst (AreRowsOf c.args.self.now.plan.now) (sym sums) w.change.ensures.rows;
-            amounts = ap amount_at sums
-                ∙ part-next wan never closings from c.args.share m.last c.requires.last m.within c.requires.within c.loop-group.group w.in-Grows.place stands.0 (amount_at c.loop-group.self.sums) (amount_at w.change.new.sums) i.amounts changed w.change.ensures.others;
+            summed = subst (IsSummedOver c.args.self.now.plan.now) (sym sums) w.change.ensures.summed;
+            links = ap (λ (s : Sums). length s.loads) sums ∙ w.change.ensures.links ∙ i.links;
+            amounts = ap (λ (s : Sums). amount_at s.amounts) sums
+                ∙ part-next wan never closings from c.args.share m.last c.requires.last m.within c.requires.within c.loop-group.group w.in-Grows.place stands.0 (amount_at c.loop-group.self.sums.amounts) (amount_at w.change.new.sums.amounts) i.amounts changed w.change.ensures.others;
             each_group = ap length standings ∙ length-set c.loop-group.self.standings.items c.loop-group.group new ∙ i.each_group;
             gone = subst (λ (items : List Standing). (k : ℕ) → k < c.loop-group.group + 1 → IsStanding wan closings c.args.share k (get_or items k (Stopped 0))) (sym standings)
                 (gone-written (IsStanding wan closings c.args.share) c.loop-group.self.standings.items c.loop-group.group new in_items i.gone (stands.0, w.value-now.ensures));
@@ -129,8 +131,9 @@ loop-group-preserved g c =
             topology = ap (λ (n : Moment g.row.V.Denot). n.topology.now) w.self-is ∙ i.topology;
             share = ap (λ (n : Moment g.row.V.Denot). n.share) w.self-is ∙ i.share;
             closings = ap (λ (n : Moment g.row.V.Denot). n.closings) w.self-is ∙ i.closings;
-            rows = subst (AreRowsOf c.args.self.now.plan.now) (sym sums) i.rows;
-            amounts = ap amount_at sums ∙ i.amounts
+            summed = subst (IsSummedOver c.args.self.now.plan.now) (sym sums) i.summed;
+            links = ap (λ (s : Sums). length s.loads) sums ∙ i.links;
+            amounts = ap (λ (s : Sums). amount_at s.amounts) sums ∙ i.amounts
                 ∙ sym (part-stopped wan never closings from c.args.share m.last c.requires.last m.within c.requires.within c.loop-group.group stands.0);
             each_group = ap length standings ∙ i.each_group;
             gone = subst (λ (items : List Standing). (k : ℕ) → k < c.loop-group.group + 1 → IsStanding wan closings c.args.share k (get_or items k (Stopped 0))) (sym standings)
@@ -155,7 +158,8 @@ returns-clause-moment g c =
       right = m.right;
       last = c.requires.last;
       within = c.requires.within;
-      rows = i.rows;
+      summed = i.summed;
+      links = i.links;
       amounts = i.amounts ∙ part-all wan never closings c.args.self.now.share c.args.share m.last c.requires.last m.within c.requires.within c.loop-group.group end;
       each_group = i.each_group;
       each = λ group lt. i.gone group (omega (arith, end));
