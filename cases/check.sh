@@ -7,7 +7,7 @@ here=$(cd "$(dirname "${BASH_SOURCE[0]}")" && pwd)
 program=${1:-$here/../crates/bwe/out/bwe}
 shift
 if [ ! -x "$program" ]; then
-    echo "cases/check.sh: no program at $program; build it by 'rt run' in crates/bwe, or call ./bwe once" >&2
+    echo "cases/check.sh: no program at $program" >&2
     exit 2
 fi
 [ $# -gt 0 ] || set -- $(cd "$here" && ls -d */ | tr -d /)
