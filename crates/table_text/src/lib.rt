@@ -1,12 +1,15 @@
-//! The text of a table of limits: the bytes that `bwe solve` writes.
+//! The text of a table of limits and of a verdict on closings: the bytes that `bwe solve` and `bwe check` write.
 //!
-//! The top call uses `table_text`, whose clause is the whole text ("Table text", docs/FORMAT.md).
+//! The top call uses `table_text` and `check_text`, whose clauses are the whole texts ("Table text" and "Check text",
+//! docs/FORMAT.md).
 //! Texts are made whole before anything is written, so a want of memory is met before the first byte goes out.
 #![tactic(auto)]
 
+mod check;
 mod line;
 mod table;
 #[cfg(test)]
 mod tests;
 
+pub use check::check_text;
 pub use table::table_text;
