@@ -1,0 +1,2 @@
+pub mod SlopesAre
+pub mod InRange
