@@ -19,6 +19,8 @@ pub const USAGE: &str =
 pub enum Line {
     /// Reads a document and writes its table of limits.
     Solve,
+    /// Reads a document and writes whether its closings are right.
+    Check,
 }
 
 /// The line that the words are, `None` where they are none. `words` are those after the program's name.
@@ -39,6 +41,9 @@ fn line_of_word(word: &str) -> Option<Line>
 {
     if word == "solve" {
         return Some(Line::Solve);
+    }
+    if word == "check" {
+        return Some(Line::Check);
     }
     None
 }

@@ -12,7 +12,8 @@ fn words(rt: &HostRuntime, texts: &[&str]) -> Result<Vec<String>, AllocError> {
 #[test]
 fn only_the_words_of_a_line_are_one(rt: HostRuntime) -> Result<(), AllocError> {
     assert_eq!(rt; line_of_words(&words(&rt, &["solve"])?), Some(Line::Solve));
-    for wrong in ["", "--", "solve ", "Solve", "help", "sol", "check"] {
+    assert_eq!(rt; line_of_words(&words(&rt, &["check"])?), Some(Line::Check));
+    for wrong in ["", "--", "solve ", "Solve", "help", "sol", "Check"] {
         assert_eq!(rt; line_of_words(&words(&rt, &[wrong])?), None);
     }
     assert_eq!(rt; line_of_words(&words(&rt, &["solve", "x"])?), None);
