@@ -1,10 +1,9 @@
 -- The sums after one amount has changed.
-use Rattle.std.proofs.Common.{◌≡◌, ℕ, ◌+◌, ◌<◌, ◌≤◌, List, length, sym, ◌∙◌, ap, arith, get_or, slice_index, nat_lt, Vec, Global, take, drop, ◌++◌}
+use Rattle.std.proofs.Common.{◌≡◌, ℕ, ◌+◌, ◌<◌, ◌≤◌, List, length, sym, ◌∙◌, ap, arith, get_or, Vec, Global, take, drop, ◌++◌}
 use Rattle.std.specs.Vec.{with_items}
 use Rattle.std.proofs.Math.Seq.{take-append_seam}
-use Rattle.bwe_specs.specs.Paths.{PathGroups, path_group_at, path_group_count, load_on, link_load, is_over, lowest_over}
-use Rattle.bwe_specs.proofs.Bounds.{lowest-same}
-use Rattle.link_sums.specs.Sums.{amount_at, AreRowsOf, total_of, Sums, IsSummedOver, lowest_link_over}
+use Rattle.bwe_specs.specs.Paths.{PathGroups, path_group_at, path_group_count, load_on, link_load}
+use Rattle.link_sums.specs.Sums.{amount_at, AreRowsOf, total_of, Sums, IsSummedOver}
 use Rattle.link_sums.proofs.Totals.{link_load-le, amount-le, load_on-le_link_load}
 
 module _ (groups : List PathGroups) (old : Sums) (summed : IsSummedOver groups old) (group place : ℕ) (lt : group < length groups) (within : place < path_group_count groups group)
@@ -42,14 +41,6 @@ module _ (groups : List PathGroups) (old : Sums) (summed : IsSummedOver groups o
         let inside : link < length loads = omega (arith, below, count) in
         omega (arith, moved link inside, load-is link inside, term-is link, ap (load_on (path_group_at groups group place) link) after_is, changes link);
   }
-
--- the lowest link over, by the loads that are kept, is that of the amounts
-pub lowest_link_over-summed : (groups : List PathGroups) (capacities : List ℕ) (sums : Sums) → length sums.loads ≡ length capacities → IsSummedOver groups sums
-    → lowest_link_over capacities sums.loads ≡ lowest_over groups capacities (amount_at sums.amounts)
-unfolding lowest_over
-lowest_link_over-summed groups capacities sums same summed =
-    lowest-same (length capacities) (λ link. nat_lt (slice_index capacities link) (slice_index sums.loads link)) (is_over groups capacities (amount_at sums.amounts))
-    (λ link lt. ap (nat_lt (slice_index capacities link)) (summed.loads link (omega (arith, lt, same))))
 
 -- a vector written over by a list of its own length
 pub with_items-same : (vector : Vec ℕ Global) (items : List ℕ) → length items ≡ length vector.items → (with_items vector items).items ≡ items

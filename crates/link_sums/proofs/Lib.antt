@@ -3,3 +3,4 @@ pub mod Totals
 pub mod MovedLoads
 pub mod Changes
 pub mod Opened
+pub mod Over

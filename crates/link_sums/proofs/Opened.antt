@@ -1,14 +1,13 @@
--- Sums in which every amount is 0, and the links over.
-use Rattle.std.proofs.Common.{◌≡◌, ℕ, suc, ◌<◌, true, false, ◌==◌, List, [], ◌∷◌, length, sym, ◌∙◌, ap, arith, get_or, slice_index, nat_lt, lt-ltb, Some, None, eqb-true, subst, inl, inr}
+-- Sums in which every amount is 0.
+use Rattle.std.proofs.Common.{◌≡◌, ℕ, suc, ◌<◌, true, ◌==◌, List, [], ◌∷◌, length, sym, ◌∙◌, ap, arith, get_or, eqb-true, subst, inl, inr}
 use Rattle.std.specs.Prelude.{All}
 use Rattle.std.specs.List.{list_any}
-use Rattle.std.proofs.lemmas.Grind.{get_or_default_zero}
 use Rattle.bwe_specs.specs.Paths.{PathGroup, PathGroups, path_group_at, path_group_count, goes_over, uses, load_on}
-use Rattle.bwe_specs.proofs.Bounds.{some-lowest, none-lowest, sum_below-zero}
+use Rattle.bwe_specs.proofs.Bounds.{sum_below-zero}
 use Rattle.bwe_specs.proofs.Loads.{or-true, link_load-same, link_load-zero}
 use Rattle.wan_topology.specs.Network.{Network}
 use Rattle.path_groups.specs.Plan.{IsPlan, IsPathOf, IsBuiltOn}
-use Rattle.link_sums.specs.Sums.{amount_at, AreRowsOf, total_of, IsSummedOver, lowest_link_over}
+use Rattle.link_sums.specs.Sums.{amount_at, AreRowsOf, total_of, IsSummedOver}
 
 -- a link that a path goes over is one of its links
 goes_over-in : (links : List ℕ) (bound link : ℕ) → All (λ other. other < bound) links → list_any (λ other. other == link) links ≡ true → link < bound
@@ -42,15 +41,3 @@ IsSummedOver-open network groups plan built amounts loads rows none count empty 
   loads = λ link below.
       empty link ∙ sym (link_load-same groups (amount_at amounts) (λ group place. 0) link (λ group place. ap (load_on (path_group_at groups group place) link) (none group place)) ∙ link_load-zero groups link);
 }
-
--- a link that is over, below which every link fits
-pub lowest_link_over-found : (capacities loads : List ℕ) (link capacity load : ℕ) → link < length capacities → length loads ≡ length capacities → capacity ≡ get_or capacities link 0 → load ≡ get_or loads link load → capacity < load
-    → ((lower : ℕ) → lower < link → nat_lt (slice_index capacities lower) (slice_index loads lower) ≡ false) → lowest_link_over capacities loads ≡ Some link
-lowest_link_over-found capacities loads link capacity load lt count capacity_is load_is over fit =
-    let read : load ≡ get_or loads link 0 = load_is ∙ get_or_default_zero loads link load (omega (arith, lt, count)) in
-    some-lowest (length capacities) (λ l. nat_lt (slice_index capacities l) (slice_index loads l)) link
-    (record { below = lt; passes = lt-ltb (slice_index capacities link) (slice_index loads link) (omega (arith, over, read, capacity_is)); none_lower = fit })
-
--- every link fits
-pub lowest_link_over-none : (capacities loads : List ℕ) → ((link : ℕ) → link < length capacities → nat_lt (slice_index capacities link) (slice_index loads link) ≡ false) → lowest_link_over capacities loads ≡ None
-lowest_link_over-none capacities loads fit = none-lowest (length capacities) (λ l. nat_lt (slice_index capacities l) (slice_index loads l)) fit

@@ -1,7 +1,7 @@
 -- Amounts by group and place, and the loads that they put on links.
-use Rattle.std.specs.Prelude.{◌≡◌, ℕ, ◌+◌, ◌<◌, ◌≤◌, List, [], length, map, slice_index, slice_index_or, nat_lt, true, Option, Vec}
+use Rattle.std.specs.Prelude.{◌≡◌, ℕ, ◌+◌, ◌<◌, ◌≤◌, List, [], length, map, slice_index, slice_index_or, true, Vec}
 use Rattle.std.proofs.Common.{Global}
-use Rattle.bwe_specs.specs.Bounded.{sum_below, lowest_below}
+use Rattle.bwe_specs.specs.Bounded.{sum_below}
 use Rattle.path_groups.specs.Plan.{IsPlan}
 use Rattle.bwe_specs.specs.Paths.{PathGroups, path_group_at, path_group_count, uses, link_load}
 
@@ -39,6 +39,16 @@ pub record IsSummedOver (groups : List PathGroups) (sums : Sums) : Type 0 where
   pub links : (group place link : ℕ) → uses (path_group_at groups group place) link ≡ true → link < length sums.loads
   pub loads : (link : ℕ) → link < length sums.loads → slice_index sums.loads link ≡ link_load groups (amount_at sums.amounts) link
 
--- the lowest link whose load exceeds its capacity
-abbrev pub lowest_link_over : List ℕ → List ℕ → Option ℕ
-lowest_link_over capacities loads = lowest_below (length capacities) (λ link. nat_lt (slice_index capacities link) (slice_index loads link))
+-- each link below a number fits: its load is within its capacity
+abbrev pub EachLinkBelowFits : List ℕ → List ℕ → ℕ → Type 0
+EachLinkBelowFits capacities loads link = (lower : ℕ) → lower < link → slice_index loads lower ≤ slice_index capacities lower
+
+-- every link fits
+abbrev pub EachLinkFits : List ℕ → List ℕ → Type 0
+EachLinkFits capacities loads = EachLinkBelowFits capacities loads (length capacities)
+
+-- the link is over, and each lower one fits
+pub record IsLowestOver (capacities loads : List ℕ) (link : ℕ) : Type 0 where
+  pub in_range : link < length capacities
+  pub over : slice_index capacities link < slice_index loads link
+  pub lower_fit : EachLinkBelowFits capacities loads link

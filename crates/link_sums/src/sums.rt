@@ -1,9 +1,9 @@
 //! Amounts and loads together.
 
-ghost use Rattle.std.specs.Prelude.{◌≡◌, ℕ, ◌+◌, ◌<◌, ◌≤◌, List, length, slice_index, IfOk};
+ghost use Rattle.std.specs.Prelude.{◌≡◌, ◌↔◌, ℕ, ◌+◌, ◌<◌, ◌≤◌, List, length, slice_index, IfOk, IfSome, IsNone};
 ghost use Rattle.bwe_specs.specs.Paths.{PathGroups, path_group_count, lowest_over};
 ghost use Rattle.path_groups.specs.Plan.{IsBuiltOn};
-ghost use Rattle.link_sums.specs.Sums.{amount_at, IsSummedOver, RaisesAmount, total_of, lowest_link_over};
+ghost use Rattle.link_sums.specs.Sums.{amount_at, IsSummedOver, RaisesAmount, total_of, EachLinkFits, IsLowestOver};
 
 use crate::amounts::{Amounts, zeros};
 use crate::loads::move_loads;
@@ -68,7 +68,10 @@ impl LinkSums {
     /// `topology` has the links that `open` was given. Its capacities may have changed since.
     pub fn first_over(&self, topology: &Topology) -> Option<u32>
         requires same_links { length self.now.loads ≡ length topology.now.capacities }
-        ensures lowest { result ≡ lowest_link_over topology.now.capacities self.now.loads }
+        ensures none { IsNone result ↔ EachLinkFits topology.now.capacities self.now.loads }
+        ensures lowest { IfSome result (IsLowestOver topology.now.capacities self.now.loads) }
+
+        // The same in the words of the Load rule.
         ensures of_plan { (groups : List PathGroups) → IsSummedOver groups self.now
             → result ≡ lowest_over groups topology.now.capacities (amount_at self.now.amounts) }
     {
