@@ -31,7 +31,9 @@ fn a_path_against_its_link_is_refused(rt: HostRuntime) -> Result<(), Fail> {
     let alloc = rt.alloc();
     let topology = topology_of(alloc, &[line("l0", "b", "a", 100)])?;
     let groups = vec![in alloc; group(alloc, vec![in alloc; path(alloc, 1, &[0])?]?)?]?;
-    let refused = plan_over(alloc, &topology, groups).expect(&rt, "in range").err();
+    let refused = plan_over(alloc, &topology, groups)
+        .expect(&rt, "in range")
+        .err();
     let fault = PathFault::BrokenPath {
         group: 0,
         place: 0,

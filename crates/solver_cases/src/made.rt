@@ -35,7 +35,11 @@ pub fn made_topology(
 ) -> Result<Topology, TopologyError> {
     let mut links = Vec::new(alloc);
     for number in 0..2 * size.side {
-        let (from, to) = if number < size.side { ("a", "m") } else { ("m", "b") };
+        let (from, to) = if number < size.side {
+            ("a", "m")
+        } else {
+            ("m", "b")
+        };
         links.push(LinkSpec {
             name: format!(in alloc; "l{number}")?,
             from: String::from_str(alloc, from)?,
@@ -72,11 +76,7 @@ pub fn made_groups(
 }
 
 /// How the groups rise. The last rises by one a share.
-pub fn made_slopes(
-    alloc: Global,
-    size: Size,
-    numbers: &mut Numbers,
-) -> Result<Slopes, AllocError> {
+pub fn made_slopes(alloc: Global, size: Size, numbers: &mut Numbers) -> Result<Slopes, AllocError> {
     let mut slopes = Vec::new(alloc);
     for group in 0..size.groups {
         slopes.push(Slope {
