@@ -1,4 +1,7 @@
 pub mod First
 pub mod After
 pub mod Rows
-pub mod Frames
+pub mod Filled
+pub mod Fitted
+pub mod Put
+pub mod Made

@@ -1,9 +1,13 @@
 //! A tree and a network as they stand after reports.
 
-ghost use Rattle.std.specs.Prelude.{◌≡◌, ◌+◌, ◌<◌, ◌≤◌, ◌++◌, ◌∷◌, [], ℕ, List, length, IfOk, OnOk, OnErr, Some, unwrap_or};
+ghost use Rattle.std.specs.Prelude.{◌≡◌, ◌+◌, ◌<◌, ◌≤◌, ◌++◌, ◌∷◌, [], ℕ, List, length, All, IfOk, OnOk, OnErr, Some, unwrap_or};
 ghost use Rattle.bwe_specs.specs.declared.report.Report.{Report};
 ghost use Rattle.demand_book.specs.Fit.{IsFit};
-ghost use Rattle.policy_tree.specs.Trees.{asking};
+ghost use Rattle.policy_tree.specs.Trees.{asking, value_in, IsTree};
+ghost use Rattle.bwe_specs.specs.Paths.{PathGroups};
+ghost use Rattle.bwe_specs.specs.Values.{AreValues};
+ghost use Rattle.wan_topology.specs.Network.{IsNetwork};
+ghost use Rattle.allocator.specs.Allocators.{IsFitted, plan_by};
 ghost use Rattle.allocator.specs.Reported.{Reported as ReportedView, IsAfter, kept, with_capacity, with_report};
 
 use bwe_specs::{MAX_AMOUNT, MAX_REPORTS, OutOfMemory, Report, Target};
@@ -58,15 +62,22 @@ impl Reported {
 
     /// The tree, with the demands that were reported.
     pub fn tree(&self) -> &PolicyTree
-        ensures { result.now ≡ self.now.tree }
+        ensures same { result.now ≡ self.now.tree }
+        ensures tree { IsTree result.now }
+        ensures values { AreValues (length result.now.clusters) result.now.top (value_in result.now) }
     {
+        // Who asks a tree for its top learns what is true of every tree.
+        let _top = self.tree.top();
         &self.tree
     }
 
     /// The network, with the capacities that were reported.
     pub fn topology(&self) -> &Topology
-        ensures { result.now ≡ self.now.network }
+        ensures same { result.now ≡ self.now.network }
+        ensures network { IsNetwork result.now }
     {
+        // Who asks a network for its number of links learns what is true of every network.
+        let _links = self.topology.links();
         &self.topology
     }
 
@@ -97,6 +108,21 @@ impl Reported {
             Target::Task { number } => self.absorb_demand(number, report.amount),
             Target::Link { number } => self.absorb_capacity(alloc, number, report.amount),
         }
+    }
+
+    /// Takes in all reports of a script, in their order. After a refusal it may have taken in some of them.
+    pub fn absorb_all(&mut self, alloc: Global, script: &[Report]) -> Result<(), OutOfMemory>
+        requires fit { All (IsFit (length self.old.tree.demands) (length self.old.network.capacities)) script.now }
+        requires room { self.old.prefix + length script.now ≤ MAX_REPORTS }
+        ensures after { OnOk result ((reports : List Report)
+            → IsAfter self.old reports → IsAfter self.new (reports ++ script.now)) }
+        ensures plan { OnOk result ((groups : List PathGroups)
+            → IsFitted self.old groups → IsFitted self.new groups × (plan_by self.new groups ≡ plan_by self.old groups)) }
+    {
+        for report in script {
+            self.absorb(alloc, *report)?;
+        }
+        Ok(())
     }
 
     fn absorb_demand(&mut self, task: u32, demand: u64) -> Result<(), OutOfMemory>

@@ -1,4 +1,4 @@
--- All tables of a plan have one frame.
+-- All tables of a plan have one frame, cover their reports and have the tasks of the plan: the laws of a maker.
 use Rattle.std.proofs.Common.{◌≡◌, ℕ, suc, ◌+◌, ◌-◌, List, [], ◌∷◌, ◌++◌, flat_map, length, map, min, zip, sum_by, refl, sym, ◌∙◌, ap, ap₂, arith}
 use Rattle.std.proofs.lemmas.List.{length-append, length-map}
 use Rattle.std.proofs.lemmas.List.Concat.{flat_map-cons, length-flat_map}
@@ -53,7 +53,8 @@ length-cluster_limits top demand cluster amount =
     (length-distribution top (user_values top demand cluster) amount ∙ length-map cluster.users _)
     ∙ sym (length-flat_map user_numbers cluster.users)
 
-length-limits_of : (plan : Plan) (demand : ℕ → ℕ) (wan : Wan) (final : State) → length (limits_of plan demand wan final) ≡ task_count plan
+-- there is a limit for each task
+pub length-limits_of : (plan : Plan) (demand : ℕ → ℕ) (wan : Wan) (final : State) → length (limits_of plan demand wan final) ≡ task_count plan
 length-limits_of plan demand wan final =
     length-pieces (λ given. cluster_limits plan.top demand given.0 given.1) (λ cluster. length (cluster_numbers cluster)) (length-cluster_limits plan.top demand) plan.clusters
     (map (group_amount wan final.amounts) (numbers (length plan.clusters)))
@@ -84,3 +85,16 @@ frame_of-allocation plan reports =
     let loads : length (allocation plan reports).loads ≡ length plan.capacities =
     length-map-range_with_len _ 0 (length wan.capacities) ∙ length-capacities_after plan.capacities reports in
     equal-frames _ _ _ _ _ _ tasks (places-of-lines wan final) loads
+
+-- a table covers the reports that it belongs to
+pub covers-allocation : (plan : Plan) (reports : List Report) → (allocation plan reports).prefix ≡ length reports
+unfolding allocation
+covers-allocation plan reports = refl
+
+-- all tables of a plan have one frame
+pub one_frame-allocation : (plan : Plan) (reports others : List Report) → frame_of (allocation plan reports) ≡ frame_of (allocation plan others)
+one_frame-allocation plan reports others = frame_of-allocation plan reports ∙ sym (frame_of-allocation plan others)
+
+-- all tables of a plan have its number of tasks
+pub same_tasks-allocation : (plan : Plan) (reports : List Report) → (frame_of (allocation plan reports)).tasks ≡ task_count plan
+same_tasks-allocation plan reports = ap (λ frame. frame.tasks) (frame_of-allocation plan reports)

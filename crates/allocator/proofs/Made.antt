@@ -1,0 +1,104 @@
+-- What a filling of what stands makes: the table.
+use Rattle.std.proofs.Common.{◌≡◌, ℕ, ◌<◌, ◌≤◌, ◌^◌, List, length, map, flat_map, zip, reverse, get_or, slice_index, sum_by, ap₂, refl, sym, ap, ◌∙◌, subst, arith, zero-add}
+use Rattle.std.proofs.lemmas.List.{length-map, get_or-map}
+use Rattle.std.proofs.lemmas.List.FromFn.{fill_by_all, length-map-range_with_len, get_or-map-range_with_len}
+use Rattle.bwe_specs.specs.declared.network.Closing.{Closing}
+use Rattle.bwe_specs.specs.Bounded.{sum_below}
+use Rattle.bwe_specs.specs.Paths.{PathGroups, link_load}
+use Rattle.bwe_specs.specs.Filling.{Wan, filling, group_amount}
+use Rattle.bwe_specs.specs.Reports.{numbers}
+use Rattle.bwe_specs.specs.Tree.{cluster_limits}
+use Rattle.bwe_specs.specs.Values.{AreValues, NeverFalls}
+use Rattle.bwe_specs.specs.Allocation.{GroupLine, Table, group_line, limits_of}
+use Rattle.link_sums.specs.Sums.{AreRowsOf, amount_at, rows_in, total_of}
+use Rattle.limit_table.specs.Tables.{IsTable}
+use Rattle.mpfa_fill.specs.declared.steps.Filling.{Filling}
+use Rattle.mpfa_fill.specs.Filling.{IsFilling}
+use Rattle.policy_tree.specs.Trees.{IsTree, demand_in, value_in}
+use Rattle.wan_topology.specs.Network.{IsNetwork}
+use Rattle.allocator.specs.FrameLaws.{length-limits_of}
+use Rattle.allocator.specs.Lines.{HasRows, line_in}
+use Rattle.allocator.specs.Reported.{Reported}
+use Rattle.allocator.specs.Allocators.{IsFitted, plan_by, table_by}
+use Rattle.allocator.specs.Tables.{wan_by}
+use Rattle.allocator.proofs.Filled.{sum_by-numbers, amounts-total, amount-at_most, shaped, total-is, loads-are, lines-are, has_rows}
+
+abbrev table_parts : ℕ → List ℕ → List GroupLine → List ℕ → List Closing → Table
+table_parts prefix limits groups loads closings = record { prefix = prefix; limits = limits; groups = groups; loads = loads; closings = closings }
+
+module _ (reported : Reported) (groups : List PathGroups) (fitted : IsFitted reported groups) (values : AreValues (length reported.tree.clusters) reported.tree.top (value_in reported.tree)) where
+  abbrev wan : Wan
+  wan = wan_by reported groups
+
+  pub never : NeverFalls (wan_by reported groups)
+  never = record { next = values.never_falls }
+
+  bound : sum_below (length groups) (λ group. wan.value group wan.top) ≤ 20_000_000_000_000_000
+  bound = subst (λ count. sum_below count (λ group. wan.value group wan.top) ≤ 20_000_000_000_000_000) fitted.clusters values.together
+
+  module _ (filled : Filling) (is : IsFilling (wan_by reported groups) filled) where
+    pub made-rows : HasRows groups filled
+    made-rows = has_rows wan filled is never bound
+
+    pub made-shaped : AreRowsOf groups (rows_in filled.amounts.items)
+    made-shaped = shaped wan filled is
+
+    pub made-total : total_of groups (rows_in filled.amounts.items) ≤ 20_000_000_000_000_000
+    made-total = subst (λ n. n ≤ 20_000_000_000_000_000) (sym (total-is wan filled is)) (amounts-total wan never bound)
+
+    module _ (lines : List GroupLine) (are : lines ≡ map (line_in groups filled) (numbers (length groups))) where
+      made-lines : lines ≡ map (group_line wan (filling wan)) (numbers (length groups))
+      made-lines = are ∙ lines-are wan filled is
+
+      made-amounts : map (λ line. line.amount) lines ≡ map (group_amount wan (filling wan).amounts) (numbers (length reported.tree.clusters))
+      made-amounts =
+          let amount_of : ℕ → ℕ = group_amount wan (filling wan).amounts in
+          ap (map (λ line. line.amount)) made-lines
+          ∙ fill_by_all amount_of (map (λ line. line.amount) (map (group_line wan (filling wan)) (numbers (length groups)))) (length reported.tree.clusters) 0
+          (length-map (map (group_line wan (filling wan)) (numbers (length groups))) (λ line. line.amount) ∙ length-map-range_with_len (group_line wan (filling wan)) 0 (length groups) ∙ sym fitted.clusters)
+          (λ k lt. at k (omega (arith, fitted.clusters)))
+          where
+            at : (k : ℕ) → k < length groups → get_or (map (λ line. line.amount) (map (group_line wan (filling wan)) (numbers (length groups)))) k 0 ≡ group_amount wan (filling wan).amounts k
+            at k lt =
+                get_or-map (λ line. line.amount) (map (group_line wan (filling wan)) (numbers (length groups))) k (group_line wan (filling wan) k) 0
+                (omega (arith, length-map-range_with_len (group_line wan (filling wan)) 0 (length groups)))
+                ∙ ap (λ line. line.amount) (get_or-map-range_with_len (group_line wan (filling wan)) 0 (length groups) k k (group_line wan (filling wan) k) lt (zero-add k))
+
+      pub made-count : length lines ≡ length reported.tree.clusters
+      made-count = ap length are ∙ length-map-range_with_len (line_in groups filled) 0 (length groups) ∙ sym fitted.clusters
+
+      pub made-within : (group : ℕ) → group < length reported.tree.clusters → slice_index (map (λ line. line.amount) lines) group ≤ value_in reported.tree group reported.tree.top
+      made-within group lt =
+          subst (λ n. n ≤ value_in reported.tree group reported.tree.top)
+          (sym (ap (λ amounts. slice_index amounts group) made-amounts ∙ get_or-map-range_with_len (group_amount wan (filling wan).amounts) 0 (length reported.tree.clusters) group group 0 lt (zero-add group)))
+          (amount-at_most wan never bound group)
+
+      module _ (limits loads : List ℕ) (closings : List Closing)
+          (limits-are : limits ≡ flat_map (λ given. cluster_limits reported.tree.top (demand_in reported.tree) given.0 given.1) (zip reported.tree.clusters (map (λ line. line.amount) lines)))
+          (loads-is : loads ≡ map (link_load groups (amount_at (rows_in filled.amounts.items))) (numbers (length reported.network.capacities)))
+          (closings-are : closings ≡ filled.closings.items) where
+        made-limits : limits ≡ limits_of (plan_by reported groups) (demand_in reported.tree) wan (filling wan)
+        made-limits =
+            limits-are
+            ∙ ap (λ amounts. flat_map (λ given. cluster_limits reported.tree.top (demand_in reported.tree) given.0 given.1) (zip reported.tree.clusters amounts)) made-amounts
+
+        -- the table is that of what stands
+        pub made-table : table_parts reported.prefix limits lines loads closings ≡ table_by reported groups
+        made-table =
+            ap (λ limits. table_parts reported.prefix limits lines loads closings) made-limits
+            ∙ (ap (λ lines. table_parts reported.prefix (limits_of (plan_by reported groups) (demand_in reported.tree) wan (filling wan)) lines loads closings) made-lines
+            ∙ ap₂ (table_parts reported.prefix (limits_of (plan_by reported groups) (demand_in reported.tree) wan (filling wan)) (map (group_line wan (filling wan)) (numbers (length groups))))
+            (loads-is ∙ loads-are wan filled is) (closings-are ∙ is.closings))
+
+        -- and it is a table: its total is bounded, and its numbers fit
+        pub made-is_table : IsTree reported.tree → IsNetwork reported.network → IsTable (table_parts reported.prefix limits lines loads closings)
+        made-is_table tree network = record {
+          total =
+              subst (λ n. n ≤ 20_000_000_000_000_000)
+              (sym (ap (sum_by (λ line. line.amount)) made-lines ∙ sum_by-numbers (λ line. line.amount) (group_line wan (filling wan)) (length groups)))
+              (amounts-total wan never bound);
+          tasks = omega (arith, ap length made-limits, length-limits_of (plan_by reported groups) (demand_in reported.tree) wan (filling wan), fitted.tasks, tree.few);
+          groups = omega (arith, made-count, fitted.clusters, fitted.plan.few_groups);
+          links =
+              omega (arith, ap length loads-is, length-map-range_with_len (link_load groups (amount_at (rows_in filled.amounts.items))) 0 (length reported.network.capacities), network.few_links);
+        }

@@ -1,0 +1,10 @@
+use Rattle.allocator.proofs.Fitted.{after-idle, fitted-idle}
+use Rattle.allocator.proofs.allocator.Allocator.new.Goals as goal
+
+pub invariant_of-result : goal.invariant_of-result
+invariant_of-result c =
+    rw (c.new.ensures)
+    (fitted-idle c.args.tree c.args.topology c.args.plan c.top-top.ensures.tree c.groups-groups.ensures.plan c.requires.built_on c.requires.groups)
+
+pub returns-clause-first : goal.returns-clause-first
+returns-clause-first c = rw (c.new.ensures) (after-idle c.args.tree c.args.topology c.requires.idle)

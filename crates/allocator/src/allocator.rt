@@ -1,0 +1,121 @@
+//! The allocator.
+
+ghost use Rattle.std.specs.Prelude.{◌≡◌, [], length, replicate};
+ghost use Rattle.path_groups.specs.Plan.{IsBuiltOn};
+ghost use Rattle.allocator.specs.Reported.{Reported as ReportedView};
+
+use crate::reported::Reported;
+use crate::table::make_table;
+use bwe_specs::{Closing, OutOfMemory, Report};
+use demand_book::Maker;
+use limit_table::LimitTable;
+use path_groups::PathPlan;
+use policy_tree::PolicyTree;
+use std::alloc::Global;
+use std::marker::Model;
+use wan_topology::Topology;
+
+/// Makes tables of limits from reports.
+///
+/// It keeps the closings of its last table, where the next one looks first: a table after a report that changes
+/// nothing costs about two tests for each closing. They alter no table.
+#[derive(Drop)]
+pub struct Allocator {
+    reported: Reported,
+    plan: PathPlan,
+    closings: Vec<Closing>,
+}
+
+impl Model for Allocator {
+    ghost use Rattle.allocator.specs.Allocators.{Allocating, IsFitted};
+
+    ghost Value = { Allocating };
+
+    ghost view = { λ allocator. record { reported = allocator.reported; groups = allocator.plan } };
+
+    ghost invariant = { λ allocator. IsFitted allocator.reported allocator.plan };
+}
+
+/// A plan of tables. No value of it is made: clauses speak of it.
+pub struct AllocatorPlan;
+
+impl Model for AllocatorPlan {
+    ghost use Rattle.std.specs.Prelude.{[]};
+    ghost use Rattle.bwe_specs.specs.Allocation.{Plan};
+
+    ghost Value = { Plan };
+
+    ghost view = { λ _. record { top = 0; clusters = []; groups = []; capacities = [] } };
+}
+
+impl Allocator {
+    ghost use Rattle.allocator.specs.Reported.{Reported as ReportedView};
+
+    /// The allocator of a tree, of which nobody has asked anything yet, and of path groups over the links of a network.
+    ///
+    /// The capacities of `topology` stand where a link has no report.
+    pub fn new(alloc: Global, tree: PolicyTree, topology: Topology, plan: PathPlan) -> Allocator
+        requires idle { tree.demands ≡ replicate (length tree.demands) 0 }
+        requires built_on { IsBuiltOn topology plan }
+        requires groups { length tree.clusters ≡ length plan }
+        ensures plan { ⟦<Allocator as Maker>⟧.plan result
+            ≡ record { top = tree.top; clusters = tree.clusters; groups = plan; capacities = topology.capacities } }
+        ensures first { ⟦<Allocator as Maker>⟧.absorbed result [] }
+    {
+        // Who asks a plan and a tree for these learns what is true of each: few groups, and tasks numbered in one walk.
+        let (_groups, _top) = (plan.groups(), tree.top());
+        Allocator {
+            reported: Reported::new(tree, topology),
+            plan,
+            closings: Vec::new(alloc),
+        }
+    }
+}
+
+impl Maker for Allocator {
+    ghost use Rattle.std.specs.Prelude.{length};
+    ghost use Rattle.bwe_specs.specs.Allocation.{allocation};
+    ghost use Rattle.allocator.specs.Allocators.{plan_in};
+    ghost use Rattle.allocator.specs.Frames.{task_count};
+    ghost use Rattle.allocator.specs.FrameLaws.{covers-allocation, one_frame-allocation, same_tasks-allocation};
+    ghost use Rattle.allocator.specs.Reported.{IsAfter};
+
+    type Table = LimitTable;
+
+    type Plan = AllocatorPlan;
+
+    ghost plan = { plan_in };
+
+    ghost plan_tasks = { task_count };
+
+    ghost plan_links = { λ plan. length plan.capacities };
+
+    ghost absorbed = { λ allocator reports. IsAfter allocator.reported reports };
+
+    ghost table_of = { allocation };
+
+    ghost covers_all = { covers-allocation };
+
+    ghost one_frame = { one_frame-allocation };
+
+    ghost same_tasks = { same_tasks-allocation };
+
+    fn tasks(&self) -> u32 {
+        self.reported.tree().tasks()
+    }
+
+    fn links(&self) -> u32 {
+        self.reported.topology().links()
+    }
+
+    fn absorb(&mut self, alloc: Global, report: Report) -> Result<(), OutOfMemory> {
+        self.reported.absorb(alloc, report)
+    }
+
+    fn table(&mut self, alloc: Global) -> Result<LimitTable, OutOfMemory> {
+        self.reported.rematch();
+        let table = make_table(alloc, &self.reported, &self.plan, &self.closings)?;
+        self.closings = Vec::from_slice(alloc, &table.closings)?;
+        Ok(table)
+    }
+}
