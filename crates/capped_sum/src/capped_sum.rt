@@ -34,7 +34,7 @@ impl Model for CappedSum {
 }
 
 impl CappedSum {
-    /// One task for each weight, in order, with demand 0.
+    /// One task for each weight, in order, with demand 0. No clause says when memory is wanting.
     pub fn new(
         alloc: Global,
         function: BwFunction,
@@ -58,6 +58,8 @@ impl CappedSum {
     }
 
     /// Sets a task's demand, and answers the one before. It takes a constant time.
+    ///
+    /// This body takes no memory, so it never answers `OutOfMemory`. One that mends an index may.
     pub fn set(&mut self, task: u32, demand: u64) -> Result<u64, OutOfMemory>
         requires task { task < length self.old.tasks }
         requires demand { demand ≤ MAX_AMOUNT }
@@ -75,6 +77,8 @@ impl CappedSum {
     }
 
     /// Makes `value` cheap again after a `set`: it sorts the tasks once. It takes no memory.
+    ///
+    /// Contracts see no change, as a body that does nothing is right too, and slow.
     pub fn refresh(&mut self)
         ensures { self.new ≡ self.old }
     {

@@ -1,8 +1,11 @@
 //! The worked cases of capped sums, over a stale and over a fresh index.
 
+ghost use Rattle.std.specs.Prelude.{◌≤◌};
+
 use crate::CappedSum;
 use bw_function::BwFunction;
 use function_sum::ShareFunction;
+use std::alloc::Global;
 use std::test::Fail;
 
 // The two tasks of the case "Sated group": demands 10 and 200, slope 1.
@@ -41,4 +44,32 @@ fn weights_multiply_the_function(rt: HostRuntime) -> Result<(), Fail> {
     assert_eq!(rt; (sum.weight(0), sum.demand(1), sum.tasks()), (3, 1_000, 2));
     assert_eq!(rt; sum.function().last_value(), 100);
     Ok(())
+}
+
+// The two groups of the case "Two weighted tasks": weights 2 and 1, and a link of 90.
+#[test]
+fn weights_divide_a_link(rt: HostRuntime) -> Result<(), Fail> {
+    let alloc = rt.alloc();
+    let first = one_task(alloc, 2)?;
+    let second = one_task(alloc, 1)?;
+    assert_eq!(rt; (value_at(&first, 30), value_at(&second, 30)), (60, 30));
+    assert_eq!(rt; (value_at(&first, 31), value_at(&second, 31)), (62, 31));
+    Ok(())
+}
+
+// One task of slope 1 that asks for 1,000.
+fn one_task(alloc: Global, weight: u64) -> Result<CappedSum, Fail>
+    requires low { 1 ≤ weight }
+    requires high { weight ≤ 1_000 }
+{
+    let function = BwFunction::new(alloc, &[(0, 0), (100, 100)], 100)?;
+    let mut sum = CappedSum::new(alloc, function, &[weight])?;
+    let _ = sum.set(0, 1_000)?;
+    sum.refresh();
+    Ok(sum)
+}
+
+// The value as the layers above ask for it.
+fn value_at<P: ShareFunction>(part: &P, share: u64) -> u64 {
+    part.value(share)
 }

@@ -7,7 +7,7 @@
 //! Nothing is promised of which amounts groups get: that is `mpfa_solver`.
 #![tactic(auto)]
 
-ghost use Rattle.std.specs.Prelude.{◌≡◌, ℕ, ◌+◌, ◌<◌, ◌≤◌, length, map, sum, IfOk};
+ghost use Rattle.std.specs.Prelude.{◌≡◌, ℕ, ◌+◌, ◌*◌, ◌<◌, ◌≤◌, length, map, sum, IfOk};
 ghost use Rattle.std.specs.List.{range_with_len};
 ghost use Rattle.bwe_specs.specs.Tree.{cluster_limits};
 ghost use Rattle.policy_tree.specs.Nodes.{cluster_in};
@@ -20,7 +20,7 @@ mod share;
 #[cfg(test)]
 mod tests;
 
-use bwe_specs::{MAX_SHARE, MAX_TASKS, OutOfMemory};
+use bwe_specs::{MAX_SHARE, MAX_TASKS, MAX_TOTAL, OutOfMemory};
 use children::{Nodes, Tasks};
 use policy_tree::{ClusterNode, JobNode, PolicyTree, UserNode};
 use share::shared_out;
@@ -66,7 +66,7 @@ fn cluster_limits_of(
     amount: u64,
 ) -> Result<Vec<u64>, OutOfMemory>
     requires top { top ≤ MAX_SHARE }
-    requires amount { amount ≤ 20_000_000_000_000_000 }
+    requires amount { amount ≤ MAX_TOTAL }
     ensures { IfOk result (λ limits. limits.items ≡ limits_of_cluster top cluster.now amount) }
 {
     let users = Nodes {
@@ -81,7 +81,7 @@ fn cluster_limits_of(
     Ok(limits)
 }
 
-// The limits of a user's tasks.
+// The limits of a user's tasks. What is known of an amount grows by `MAX_TOTAL` a level.
 fn user_limits_of(
     alloc: Global,
     user: &UserNode,
@@ -89,7 +89,7 @@ fn user_limits_of(
     amount: u64,
 ) -> Result<Vec<u64>, OutOfMemory>
     requires top { top ≤ MAX_SHARE }
-    requires amount { amount ≤ 40_000_000_000_000_000 }
+    requires amount { amount ≤ 2 * MAX_TOTAL }
     ensures { IfOk result (λ limits. limits.items ≡ limits_of_user top user.now amount) }
 {
     let jobs = Nodes { nodes: user.jobs() };
@@ -110,7 +110,7 @@ fn job_limits_of(
     amount: u64,
 ) -> Result<Vec<u64>, OutOfMemory>
     requires top { top ≤ MAX_SHARE }
-    requires amount { amount ≤ 60_000_000_000_000_000 }
+    requires amount { amount ≤ 3 * MAX_TOTAL }
     ensures { IfOk result (λ limits. limits.items ≡ limits_of_job top job.now amount) }
 {
     let tasks = Tasks { sum: job.sum() };

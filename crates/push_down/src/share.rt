@@ -1,6 +1,6 @@
 //! An amount, shared out to the children of a node.
 
-ghost use Rattle.std.specs.Prelude.{◌≡◌, ℕ, ◌+◌, ◌-◌, ◌<◌, ◌≤◌, nat_le, length, All, IfOk, true, false};
+ghost use Rattle.std.specs.Prelude.{◌≡◌, ℕ, ◌+◌, ◌-◌, ◌*◌, ◌<◌, ◌≤◌, nat_le, length, All, IfOk, true, false};
 ghost use Rattle.bwe_specs.specs.Distribution.{children_sum, common_share, distribution};
 ghost use Rattle.mono_search.specs.Level.{Falls};
 
@@ -20,7 +20,7 @@ pub(crate) fn shared_out<F: Children>(
     amount: u64,
 ) -> Result<Vec<u64>, OutOfMemory>
     requires top { top ≤ MAX_SHARE }
-    requires amount { amount ≤ 60_000_000_000_000_000 }
+    requires amount { amount ≤ 3 * MAX_TOTAL }
     ensures amounts { IfOk result (λ amounts.
         amounts.items ≡ distribution top (F.values children.now) amount) }
     ensures bound { IfOk result (λ amounts. All (λ given. given ≤ amount + MAX_TOTAL) amounts.items) }

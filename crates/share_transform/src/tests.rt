@@ -6,7 +6,9 @@ ghost use Rattle.std.specs.Prelude.{◌≡◌, ◌<◌};
 
 use crate::Transform;
 use bw_function::BwFunction;
+use function_sum::ShareFunction;
 use mono_search::Steps;
+use std::cell::Cell;
 use std::marker::Brand;
 use std::sync::ledger::{Blank, Ledger};
 use std::test::Fail;
@@ -44,13 +46,52 @@ fn matched_shares_are_point_shares_and_sixteenths(rt: HostRuntime) -> Result<(),
     Ok(())
 }
 
+// The case "Matched pair".
+#[test]
+fn a_right_pair_takes_two_looks(rt: HostRuntime) -> Result<(), Fail> {
+    let alloc = rt.alloc();
+    let parent = BwFunction::new(alloc, &[(0, 0), (10, 60)], 10)?;
+    let sum = BwFunction::new(alloc, &[(0, 0), (10, 150)], 10)?;
+    let mut transform = Transform::new(alloc, parent, 10)?;
+    transform.rebuild(&sum);
+    let looks = Cell::new(0);
+    let counted = Counted {
+        sum: &sum,
+        looks: &looks,
+    };
+    let inner = inner_share(&transform, &counted);
+    assert_eq!(rt; inner, 4);
+    assert_eq!(rt; looks.get(), 2);
+    Ok(())
+}
+
+/// A sum that counts the looks at it.
+#[derive(Drop)]
+struct Counted<'a, P: ShareFunction> {
+    sum: &'a P,
+    looks: &'a Cell<u64>,
+}
+
+impl<P: ShareFunction> ShareFunction for Counted<'_, P> {
+    ghost meaning = { λ counted. P.meaning counted.sum.now };
+
+    fn value(&self, share: u64) -> u64 {
+        self.looks.set(self.looks.get().wrapping_add(1));
+        self.sum.value(share)
+    }
+}
+
 // The inner share at 10.
-fn inner_share(transform: &Transform, sum: &BwFunction) -> u64 {
-    counted_inner_share::<Brand>(transform, sum, Blank::new(1))
+fn inner_share<P: ShareFunction>(transform: &Transform, sum: &P) -> u64 {
+    counted_inner_share::<P, Brand>(transform, sum, Blank::new(1))
 }
 
 // The same with a counter made on the spot.
-fn counted_inner_share<L: Ledger>(transform: &Transform, sum: &BwFunction, blank: Blank) -> u64
+fn counted_inner_share<P: ShareFunction, L: Ledger>(
+    transform: &Transform,
+    sum: &P,
+    blank: Blank,
+) -> u64
     requires name { blank.name ≡ L.name }
     requires parts { blank.parts ≡ L.parts }
     requires some { 0 < L.parts }
