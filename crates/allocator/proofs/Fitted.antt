@@ -9,7 +9,9 @@ use Rattle.bwe_specs.specs.declared.report.Target.{Target}
 use Rattle.bwe_specs.specs.declared.report.Target.TheVariants.{Task, Link}
 use Rattle.bwe_specs.specs.Paths.{Path, PathGroups, path_group_at}
 use Rattle.bwe_specs.specs.Reports.{numbers, last_amount, demand_after, capacity_after, capacities_after}
-use Rattle.bwe_specs.specs.Allocation.{allocation, table_under}
+use Rattle.bwe_specs.specs.Allocation.{allocation, table_under, wan_after, wan_under}
+use Rattle.mpfa_fill.specs.GroupValues.{wan_of}
+use Rattle.allocator.specs.Values.{values_of}
 use Rattle.wan_topology.specs.Network.{Network, sites_of}
 use Rattle.path_groups.specs.Plan.{IsBuiltOn, IsPathOf, IsPlan, is_linked}
 use Rattle.policy_tree.specs.Trees.{Tree, IsTree, demand_in, task_numbers}
@@ -72,15 +74,6 @@ zeros-read zero place nothing = refl
 zeros-read (suc count) zero nothing = refl
 zeros-read (suc count) (suc place) nothing = zeros-read count place nothing
 
--- and there are as many tasks and links
-length-demands-told : (reported : Reported) (target : Target) (amount : ℕ) → length (told reported target amount).tree.demands ≡ length reported.tree.demands
-length-demands-told reported (Task number) amount = length-set reported.tree.demands number amount
-length-demands-told reported (Link number) amount = refl
-
-length-capacities-told : (reported : Reported) (target : Target) (amount : ℕ) → length (told reported target amount).network.capacities ≡ length reported.network.capacities
-length-capacities-told reported (Task number) amount = refl
-length-capacities-told reported (Link number) amount = length-capacities reported.network number amount
-
 -- what stands before any report
 abbrev pub idle : Tree → Network → Reported
 idle tree network = record { tree = tree; network = network; given = network.capacities; prefix = 0 }
@@ -102,47 +95,6 @@ after-idle tree network asks_nothing = record {
   capacities = fill_by_all (capacity_after network.capacities []) network.capacities (length network.capacities) 0 refl (λ k lt. refl);
 }
 
--- what is the same after some reports of a script, and that these have been taken in
-pub record HasTakenIn (before : Reported) (script : List Report) (after : Reported) : Type 0 where
-  pub reports : (earlier : List Report) → IsAfter before earlier → IsAfter after (earlier ++ script)
-  pub fitted : (groups : List PathGroups) → IsFitted before groups → IsFitted after groups
-  pub plan : (groups : List PathGroups) → plan_by after groups ≡ plan_by before groups
-  pub tasks : length after.tree.demands ≡ length before.tree.demands
-  pub links : length after.network.capacities ≡ length before.network.capacities
-  pub prefix : after.prefix ≡ before.prefix + length script
-
--- 0 has been taken in yet
-pub taken-0 : (before : Reported) → HasTakenIn before [] before
-taken-0 before = record {
-  reports = λ earlier after. subst (IsAfter before) (sym (append-nil earlier)) after;
-  fitted = λ groups fitted. fitted;
-  plan = λ groups. refl;
-  tasks = refl;
-  links = refl;
-  prefix = omega arith;
-}
-
--- one report more
-pub taken-more : (before after : Reported) (script : List Report) (report : Report)
-    → ((earlier : List Report) → IsAfter after earlier → IsAfter (with_report after report) (earlier ++ report ∷ []))
-    → HasTakenIn before script after → HasTakenIn before (script ++ report ∷ []) (with_report after report)
-taken-more before after script report more taken = record {
-  reports = λ earlier is. subst (IsAfter (with_report after report)) (append_assoc earlier script (report ∷ [])) (more (earlier ++ script) (taken.reports earlier is));
-  fitted = λ groups fitted. fitted-report after groups report (taken.fitted groups fitted);
-  plan = λ groups. plan-report after groups report ∙ taken.plan groups;
-  tasks = length-demands-told after report.target report.amount ∙ taken.tasks;
-  links = length-capacities-told after report.target report.amount ∙ taken.links;
-  prefix = omega (arith, taken.prefix, length_push script report);
-}
-
--- the next report of a script
-pub taken-next : (before after next : Reported) (script : List Report) (at : ℕ) (d : Report) → at < length script → next ≡ with_report after (get_or script at d)
-    → ((earlier : List Report) → IsAfter after earlier → IsAfter next (earlier ++ get_or script at d ∷ []))
-    → HasTakenIn before (take at script) after → HasTakenIn before (take (at + 1) script) next
-taken-next before after next script at d lt is more taken =
-    rw (take_more script at d lt, is)
-    (taken-more before after (take at script) (get_or script at d) (rw (is) at more) taken)
-
 -- the table of what stands is that of the plan and the reports
 pub table-after : (reported : Reported) (groups : List PathGroups) (reports : List Report) → IsAfter reported reports → table_by reported groups ≡ allocation (plan_by reported groups) reports
 unfolding allocation
@@ -150,3 +102,9 @@ table-after reported groups reports after =
     let demands : demand_in reported.tree ≡ demand_after reports = fun_ext after.demands in
     ap (λ prefix. table_under (plan_by reported groups) prefix (demand_in reported.tree) reported.network.capacities) after.prefix
     ∙ ap₂ (table_under (plan_by reported groups) (length reports)) demands after.capacities
+
+-- and so is what is filled
+pub wan-after : (reported : Reported) (groups : List PathGroups) (reports : List Report) → IsAfter reported reports
+    → wan_of (values_of reported.tree) groups reported.network.capacities ≡ wan_after (plan_by reported groups) reports
+wan-after reported groups reports after =
+    ap₂ (wan_under (plan_by reported groups)) (fun_ext after.demands) after.capacities

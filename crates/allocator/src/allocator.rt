@@ -2,10 +2,10 @@
 
 ghost use Rattle.std.specs.Prelude.{◌≡◌, [], length, replicate};
 ghost use Rattle.path_groups.specs.Plan.{IsBuiltOn};
-ghost use Rattle.allocator.specs.Reported.{Reported as ReportedView};
-
+ghost use Rattle.policy_tree.specs.Trees.{task_numbers};
 use crate::reported::Reported;
 use crate::table::make_table;
+use crate::values::TreeValues;
 use bwe_specs::{Closing, OutOfMemory, Report};
 use demand_book::Maker;
 use limit_table::LimitTable;
@@ -49,8 +49,6 @@ impl Model for AllocatorPlan {
 }
 
 impl Allocator {
-    ghost use Rattle.allocator.specs.Reported.{Reported as ReportedView};
-
     /// The allocator of a tree, of which nobody has asked anything yet, and of path groups over the links of a network.
     ///
     /// The capacities of `topology` stand where a link has no report.
@@ -60,6 +58,7 @@ impl Allocator {
         requires groups { length tree.clusters ≡ length plan }
         ensures plan { ⟦<Allocator as Maker>⟧.plan result
             ≡ record { top = tree.top; clusters = tree.clusters; groups = plan; capacities = topology.capacities } }
+        ensures tasks { length (task_numbers tree.clusters) ≡ length tree.demands }
         ensures first { ⟦<Allocator as Maker>⟧.absorbed result [] }
     {
         // Who asks a plan and a tree for these learns what is true of each: few groups, and tasks numbered in one walk.
@@ -69,6 +68,31 @@ impl Allocator {
             plan,
             closings: Vec::new(alloc),
         }
+    }
+
+    /// The groups' values under the demands that were reported.
+    pub fn values(&self) -> TreeValues<'_>
+        ensures { result.tree.now ≡ self.now.reported.tree }
+    {
+        TreeValues {
+            tree: self.reported.tree(),
+        }
+    }
+
+    /// The network, with the capacities that were reported.
+    pub fn topology(&self) -> &Topology
+        ensures { result.now ≡ self.now.reported.network }
+    {
+        self.reported.topology()
+    }
+
+    /// The path groups, which go over the links of the network, for each group of the tree.
+    pub fn plan(&self) -> &PathPlan
+        ensures same { result.now ≡ self.now.groups }
+        ensures built_on { IsBuiltOn self.now.reported.network result.now }
+        ensures groups { length self.now.reported.tree.clusters ≡ length result.now }
+    {
+        &self.plan
     }
 }
 

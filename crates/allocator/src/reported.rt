@@ -1,13 +1,11 @@
 //! A tree and a network as they stand after reports.
 
-ghost use Rattle.std.specs.Prelude.{◌≡◌, ◌+◌, ◌<◌, ◌≤◌, ◌++◌, ◌∷◌, [], ℕ, List, length, All, IfOk, OnOk, OnErr, Some, unwrap_or};
+ghost use Rattle.std.specs.Prelude.{◌≡◌, ◌+◌, ◌<◌, ◌≤◌, ◌++◌, ◌∷◌, [], ℕ, List, length, IfOk, OnOk, OnErr, Some, unwrap_or};
 ghost use Rattle.bwe_specs.specs.declared.report.Report.{Report};
 ghost use Rattle.demand_book.specs.Fit.{IsFit};
 ghost use Rattle.policy_tree.specs.Trees.{asking, value_in, IsTree};
-ghost use Rattle.bwe_specs.specs.Paths.{PathGroups};
 ghost use Rattle.bwe_specs.specs.Values.{AreValues};
 ghost use Rattle.wan_topology.specs.Network.{IsNetwork};
-ghost use Rattle.allocator.specs.Allocators.{IsFitted, plan_by};
 ghost use Rattle.allocator.specs.Reported.{Reported as ReportedView, IsAfter, kept, with_capacity, with_report};
 
 use bwe_specs::{MAX_AMOUNT, MAX_REPORTS, OutOfMemory, Report, Target};
@@ -108,21 +106,6 @@ impl Reported {
             Target::Task { number } => self.absorb_demand(number, report.amount),
             Target::Link { number } => self.absorb_capacity(alloc, number, report.amount),
         }
-    }
-
-    /// Takes in all reports of a script, in their order. After a refusal it may have taken in some of them.
-    pub fn absorb_all(&mut self, alloc: Global, script: &[Report]) -> Result<(), OutOfMemory>
-        requires fit { All (IsFit (length self.old.tree.demands) (length self.old.network.capacities)) script.now }
-        requires room { self.old.prefix + length script.now ≤ MAX_REPORTS }
-        ensures after { OnOk result ((reports : List Report)
-            → IsAfter self.old reports → IsAfter self.new (reports ++ script.now)) }
-        ensures plan { OnOk result ((groups : List PathGroups)
-            → IsFitted self.old groups → IsFitted self.new groups × (plan_by self.new groups ≡ plan_by self.old groups)) }
-    {
-        for report in script {
-            self.absorb(alloc, *report)?;
-        }
-        Ok(())
     }
 
     fn absorb_demand(&mut self, task: u32, demand: u64) -> Result<(), OutOfMemory>

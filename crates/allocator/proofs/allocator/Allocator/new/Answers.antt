@@ -1,3 +1,4 @@
+use Rattle.std.proofs.Common.{sym}
 use Rattle.allocator.proofs.Fitted.{after-idle, fitted-idle}
 use Rattle.allocator.proofs.allocator.Allocator.new.Goals as goal
 
@@ -8,3 +9,8 @@ invariant_of-result c =
 
 pub returns-clause-first : goal.returns-clause-first
 returns-clause-first c = rw (c.new.ensures) (after-idle c.args.tree c.args.topology c.requires.idle)
+
+pub returns-clause-tasks : goal.returns-clause-tasks
+returns-clause-tasks c =
+    let fitted = fitted-idle c.args.tree c.args.topology c.args.plan c.top-top.ensures.tree c.groups-groups.ensures.plan c.requires.built_on c.requires.groups in
+    sym fitted.tasks

@@ -1,0 +1,22 @@
+//! The program `bwe`: its words and the standard streams, handed to the top call.
+#![tactic(auto)]
+
+use bwe_cli::bwe_once;
+use bwe_io::{StdSink, StdSource};
+use std::env;
+use std::io;
+use std::process::ExitCode;
+
+fn main(rt: HostRuntime) -> ExitCode {
+    let Ok(words) = words_of(&rt) else {
+        return ExitCode::from(7);
+    };
+    let mut source = StdSource::new(rt.stdin());
+    let mut sink = StdSink::new(rt.stdout());
+    ExitCode::from(bwe_once(rt.alloc(), &words, &mut source, &mut sink))
+}
+
+// The words after the program's name.
+fn words_of(rt: &HostRuntime) -> io::Result<Vec<String>> {
+    Ok(env::args(rt)?.skip(1).collect(rt.alloc())?)
+}

@@ -1,0 +1,54 @@
+-- What the input of a line gets.
+use Rattle.std.specs.Prelude.{ℕ, List, Result, Ok, Err}
+use Rattle.bwe_specs.specs.declared.network.Closing.{Closing}
+use Rattle.bwe_specs.specs.declared.network.Verdict.{Verdict}
+use Rattle.bwe_specs.specs.declared.network.Verdict.TheVariants.{Right, Wrong}
+use Rattle.bwe_specs.specs.declared.report.Report.{Report}
+use Rattle.bwe_specs.specs.Allocation.{Plan, Table, allocation, wan_after}
+use Rattle.bwe_specs.specs.RightClosings.{verdict}
+use Rattle.command_line.specs.declared.Line.{Line}
+use Rattle.command_line.specs.declared.Line.TheVariants.{Solve, Check}
+use Rattle.one_run.specs.Endings.{Reply}
+use Rattle.table_text.specs.TableText.{NameTexts, text_of}
+use Rattle.table_text.specs.CheckText.{verdict_line}
+use Rattle.plan_doc.specs.Names.{NameLists}
+use Rattle.plan_doc.specs.Document.{Accepted, document}
+use Rattle.plan_doc.specs.Refusals.{Refusal}
+use Rattle.plan_doc.specs.RefusalLines.{refusal_line}
+use Rattle.bwe_cli.specs.Plans.{plan_of}
+
+-- the names that a text prints
+abbrev pub printed : NameLists → NameTexts
+printed names = record { links = names.links; groups = names.groups; tasks = names.tasks }
+
+-- status 0 where the closings are right, else 1
+abbrev pub verdict_status : Verdict → ℕ
+verdict_status Right = 0
+verdict_status (Wrong at cause) = 1
+
+-- `solve`: the table of the allocation of the script
+abbrev pub table_reply : NameTexts → Plan → List Report → Reply
+table_reply names plan script = record { status = 0; text = text_of names (allocation plan script) }
+
+-- `check`: the verdict on the closings, under the demands and capacities after the script
+abbrev pub check_reply : NameTexts → Plan → List Report → List Closing → Reply
+check_reply names plan script closings =
+    let judged = verdict (wan_after plan script) closings in
+    record { status = verdict_status judged; text = verdict_line names judged }
+
+-- what an accepted document gets
+abbrev pub accepted_reply : Line → Accepted → Reply
+accepted_reply Solve accepted = table_reply (printed accepted.names) (plan_of accepted) accepted.script
+accepted_reply Check accepted = check_reply (printed accepted.names) (plan_of accepted) accepted.script accepted.closings
+
+-- a refused document gets the line of its refusal
+abbrev pub refused_reply : Refusal → Reply
+refused_reply refusal = record { status = 3; text = refusal_line refusal }
+
+abbrev pub document_reply : Line → Result Accepted Refusal → Reply
+document_reply line (Ok accepted) = accepted_reply line accepted
+document_reply line (Err refusal) = refused_reply refusal
+
+-- what the input of a line gets
+abbrev pub reply : Line → List ℕ → Reply
+reply line input = document_reply line (document input)

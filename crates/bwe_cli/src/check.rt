@@ -1,0 +1,53 @@
+//! The line `check`.
+
+ghost use Rattle.std.specs.Prelude.{◌≡◌, IfOk};
+ghost use Rattle.bwe_specs.specs.Allocation.{wan_after};
+ghost use Rattle.bwe_specs.specs.RightClosings.{verdict as verdict_of};
+ghost use Rattle.table_text.specs.TableText.{texts_of};
+ghost use Rattle.plan_doc.specs.Conditions.{IsUsable};
+ghost use Rattle.bwe_cli.specs.Plans.{plan_in};
+ghost use Rattle.bwe_cli.specs.Replies.{check_reply, verdict_status};
+
+use crate::history::after_script;
+use allocator::Allocator;
+use bottleneck_cert::Verdict;
+use bwe_specs::OutOfMemory;
+use one_run::Answer;
+use plan_doc::Document;
+use std::alloc::Global;
+use table_text::check_text;
+
+/// The verdict on the document's closings, under the demands and capacities after its script.
+pub(crate) fn check(alloc: Global, document: Document) -> Result<Answer, OutOfMemory>
+    requires { IsUsable document }
+    ensures { IfOk result (λ answer. record { status = answer.status; text = answer.text.items }
+        ≡ check_reply (texts_of document.names) (plan_in document) document.script.items document.closings.items) }
+{
+    let Document {
+        tree,
+        topology,
+        plan,
+        script,
+        closings,
+        names,
+        ..
+    } = document;
+    let allocator = Allocator::new(alloc, tree, topology, plan);
+    let allocator = after_script(alloc, allocator, &script)?;
+    let (values, plan) = (allocator.values(), allocator.plan());
+    let verdict = bottleneck_cert::check(alloc, &values, allocator.topology(), plan, &closings)?;
+    Ok(Answer {
+        status: status_of(verdict),
+        text: check_text(alloc, &verdict, &names)?,
+    })
+}
+
+// The status of a verdict.
+fn status_of(verdict: Verdict) -> u8
+    ensures { result ≡ verdict_status verdict }
+{
+    match verdict {
+        Verdict::Right => 0,
+        Verdict::Wrong { .. } => 1,
+    }
+}

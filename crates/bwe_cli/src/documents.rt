@@ -1,0 +1,41 @@
+//! The lines that read a document.
+
+ghost use Rattle.std.specs.Prelude.{◌≡◌, Some, IfOk};
+ghost use Rattle.plan_doc.specs.RefusalLines.{error_line};
+
+use crate::check::check;
+use crate::solve::solve;
+use bwe_specs::OutOfMemory;
+use command_line::Line;
+use one_run::{Answer, Work};
+use plan_doc::{DocError, read_document, refusal_line};
+use std::alloc::Global;
+
+/// What the lines do with a document.
+pub(crate) struct Documents;
+
+impl Work for Documents {
+    ghost use Rattle.bwe_cli.specs.Replies.{reply};
+
+    ghost reply = { λ _ line input. reply line input };
+
+    fn answer(&self, alloc: Global, line: Line, input: &[u8]) -> Result<Answer, OutOfMemory> {
+        match read_document(alloc, input) {
+            Ok(document) => match line {
+                Line::Solve => solve(alloc, document),
+                Line::Check => check(alloc, document),
+            },
+            Err(error) => refused(alloc, &error),
+        }
+    }
+}
+
+// The one line of a refused document, with status 3.
+fn refused(alloc: Global, error: &DocError) -> Result<Answer, OutOfMemory>
+    ensures { IfOk result (λ answer. (answer.status ≡ 3) × (error_line error.now ≡ Some answer.text.items)) }
+{
+    Ok(Answer {
+        status: 3,
+        text: refusal_line(alloc, error)?,
+    })
+}

@@ -1,0 +1,39 @@
+//! The line `solve`.
+
+ghost use Rattle.std.specs.Prelude.{◌≡◌, IfOk};
+ghost use Rattle.table_text.specs.TableText.{texts_of};
+ghost use Rattle.plan_doc.specs.Conditions.{IsUsable};
+ghost use Rattle.bwe_cli.specs.Plans.{plan_in};
+ghost use Rattle.bwe_cli.specs.Replies.{table_reply};
+
+use crate::history::after_script;
+use allocator::Allocator;
+use bwe_specs::OutOfMemory;
+use demand_book::Maker;
+use one_run::Answer;
+use plan_doc::Document;
+use std::alloc::Global;
+use table_text::table_text;
+
+/// The table of the document's script.
+pub(crate) fn solve(alloc: Global, document: Document) -> Result<Answer, OutOfMemory>
+    requires { IsUsable document }
+    ensures { IfOk result (λ answer. record { status = answer.status; text = answer.text.items }
+        ≡ table_reply (texts_of document.names) (plan_in document) document.script.items) }
+{
+    let Document {
+        tree,
+        topology,
+        plan,
+        script,
+        names,
+        ..
+    } = document;
+    let allocator = Allocator::new(alloc, tree, topology, plan);
+    let mut allocator = after_script(alloc, allocator, &script)?;
+    let table = allocator.table(alloc)?;
+    Ok(Answer {
+        status: 0,
+        text: table_text(alloc, &table, &names)?,
+    })
+}
