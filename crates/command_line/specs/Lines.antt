@@ -1,21 +1,141 @@
 -- Which words are a command line.
-use Rattle.std.specs.Prelude.{ℕ, List, [], ◌∷◌, map, codes, String, Option, Some, None, if◌then◌else◌, string_bytes, bytes_eq}
+use Rattle.std.specs.Prelude.{ℕ, Bool, ◌&&◌, ◌==◌, List, [], ◌∷◌, ◌++◌, map, length, codes, String, Option, Some, None}
+use Rattle.std.specs.Prelude.{if◌then◌else◌, string_bytes, nat_le, option_map, option_and_then}
+use Rattle.std.specs.List.{list_any, before_first, after_first}
+use Rattle.std.specs.Str.{all_ascii_digits, bytes_eq}
+use Rattle.std.specs.Str.Parse.{digits_value}
 use Rattle.std.specs.declared.alloc.Global.{Global}
+use Rattle.command_line.specs.declared.matches.Size.{Size}
 use Rattle.command_line.specs.declared.Line.{Line}
 use Rattle.command_line.specs.declared.Line.TheVariants.{Solve, Check}
+use Rattle.command_line.specs.declared.CommandLine.{CommandLine}
+use Rattle.command_line.specs.declared.CommandLine.TheVariants.{Document, Run, Make, Bulk}
+
+abbrev pub Text : Type 0
+Text = List ℕ
 
 -- the texts of words
-abbrev pub texts_of : List (String Global) → List (List ℕ)
+abbrev pub texts_of : List (String Global) → List Text
 texts_of words = map string_bytes words
 
--- the line of one word
-abbrev pub line_of_word : List ℕ → Option Line
-line_of_word word =
-    if bytes_eq word (codes "solve") then Some Solve
-    else if bytes_eq word (codes "check") then Some Check else None
+-- ---- numbers
 
--- the line that the words are
-abbrev pub line_of : List (List ℕ) → Option Line
-line_of [] = None
-line_of (word ∷ []) = line_of_word word
-line_of (word ∷ (other ∷ more)) = None
+-- one to 20 ASCII digits
+abbrev pub is_number : Text → Bool
+is_number text = all_ascii_digits text && (nat_le 1 (length text) && nat_le (length text) 20)
+
+-- the number of a text, where it is one from `least` to `most`
+abbrev pub number_in : ℕ → ℕ → Text → Option ℕ
+number_in least most text =
+    if is_number text && (nat_le least (digits_value 10 text) && nat_le (digits_value 10 text) most)
+    then Some (digits_value 10 text) else None
+
+-- ---- `run`
+
+pub data Name : Type 0 where
+  readers : Name
+  reads : Name
+
+abbrev pub name_of : Text → Option Name
+name_of text =
+    if bytes_eq (codes "readers") text then Some readers
+    else if bytes_eq (codes "reads") text then Some reads else None
+
+-- what follows two hyphens (45)
+abbrev pub after_hyphens : Text → Option Text
+after_hyphens [] = None
+after_hyphens (byte ∷ []) = None
+after_hyphens (byte ∷ (next ∷ more)) = if (byte == 45) && (next == 45) then Some more else None
+
+-- what stands after the first `=` (61), where there is one
+abbrev pub after_equals : Text → Option Text
+after_equals text = if list_any (λ byte. byte == 61) text then Some (after_first (λ byte. byte == 61) text) else None
+
+-- the option that a word `--NAME` or `--NAME=TEXT` names, and the text
+abbrev pub option_of : Text → Option (Name × Option Text)
+option_of word =
+    option_and_then (λ more. option_map (λ name. (name, after_equals more))
+    (name_of (before_first (λ byte. byte == 61) more))) (after_hyphens word)
+
+-- the texts that the two options are given, each in order
+pub record Given : Type 0 where
+  pub readers : List Text
+  pub reads : List Text
+
+abbrev pub nothing_given : Given
+nothing_given = record { readers = []; reads = [] }
+
+abbrev pub with_text : Name → Text → Given → Given
+with_text readers text given = record given { readers = given.readers ++ text ∷ [] }
+with_text reads text given = record given { reads = given.reads ++ text ∷ [] }
+
+-- a word where an option may stand: `--NAME` waits for its text in the next word
+abbrev pub option_word : (Given → Option Name → Option Given) → Given → Option (Name × Option Text) → Option Given
+option_word next given None = None
+option_word next given (Some (name, None)) = next given (Some name)
+option_word next given (Some (name, Some text)) = next (with_text name text given) None
+
+-- what the words give beside what stood before them, where the option that waits has its text in the first
+unfoldable pub options_of : Given → Option Name → List Text → Option Given
+options_of given None [] = Some given
+options_of given (Some name) [] = None
+options_of given (Some name) (word ∷ rest) = options_of (with_text name word given) None rest
+options_of given None (word ∷ rest) = option_word (λ given' waiting. options_of given' waiting rest) given (option_of word)
+
+-- an option is given at most once
+abbrev pub number_given : ℕ → ℕ → ℕ → List Text → Option ℕ
+number_given default least most [] = Some default
+number_given default least most (text ∷ []) = number_in least most text
+number_given default least most (text ∷ (other ∷ more)) = None
+
+abbrev pub run_line : Given → Option CommandLine
+run_line given =
+    option_and_then (λ readers. option_map (λ reads. Run readers reads) (number_given 4 0 1000 given.reads))
+    (number_given 2 1 64 given.readers)
+
+-- ---- `make` and `bulk`
+
+-- SEED, GROUPS and TASKS
+abbrev pub size_in : Text → Text → Text → Option Size
+size_in seed groups tasks =
+    option_and_then (λ s. option_and_then (λ g. option_map (λ t. record { seed = s; groups = g; tasks = t })
+    (number_in g 20000 tasks)) (number_in 1 1024 groups)) (number_in 0 18446744073709551615 seed)
+
+abbrev pub size_of : List Text → Option Size
+size_of (seed ∷ (groups ∷ (tasks ∷ []))) = size_in seed groups tasks
+size_of _ = None
+
+-- ---- all lines
+
+-- a line that is its first word alone
+abbrev pub alone : CommandLine → List Text → Option CommandLine
+alone line [] = Some line
+alone line (word ∷ more) = None
+
+abbrev pub line_named : Text → List Text → Option CommandLine
+line_named word rest =
+    if bytes_eq (codes "solve") word then alone (Document Solve) rest
+    else if bytes_eq (codes "check") word then alone (Document Check) rest
+    else if bytes_eq (codes "run") word then option_and_then run_line (options_of nothing_given None rest)
+    else if bytes_eq (codes "make") word then option_map (λ size. Make size.seed size.groups size.tasks) (size_of rest)
+    else if bytes_eq (codes "bulk") word then option_map (λ size. Bulk size.seed size.groups size.tasks) (size_of rest)
+    else None
+
+abbrev pub line_of_texts : List Text → Option CommandLine
+line_of_texts [] = None
+line_of_texts (word ∷ rest) = line_named word rest
+
+abbrev pub is_hyphens : Text → Bool
+is_hyphens word = bytes_eq word (codes "--")
+
+-- the command line that the words are; the word `--` is in none
+abbrev pub command_line_of : List Text → Option CommandLine
+command_line_of words = if list_any is_hyphens words then None else line_of_texts words
+
+abbrev pub on_document : CommandLine → Option Line
+on_document (Document line) = Some line
+on_document _ = None
+
+-- the line on one document that the words are
+abbrev pub line_of : List Text → Option Line
+line_of words = option_and_then on_document (command_line_of words)

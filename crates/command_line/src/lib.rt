@@ -1,12 +1,19 @@
 //! The words of a command line: which line they are, or the usage line.
 //!
-//! The top call asks `line_of_words` before it reads anything, and serves the line that it answers.
-//! Words that are no line get `USAGE`. The definition Command line (`specs/Lines.antt`) alone decides.
+//! The top call asks `line_of_words` before it reads anything, and serves the line that it answers; `command_line_of_words`
+//! has all lines. Words that are no line get `USAGE`. The definition Command line (`specs/Lines.antt`) alone decides:
+//! `clap` splits the words, and each text is read here.
 #![tactic(auto)]
 
-ghost use Rattle.std.specs.Prelude.{◌≡◌};
-ghost use Rattle.command_line.specs.Lines.{line_of, line_of_word as line_of_one, texts_of};
+ghost use Rattle.std.specs.Prelude.{◌≡◌, IfOk};
+ghost use Rattle.std.specs.List.{list_any};
+ghost use Rattle.command_line.specs.Lines.{command_line_of, is_hyphens, line_of, texts_of};
 
+use bwe_specs::OutOfMemory;
+use std::alloc::Global;
+
+mod matches;
+mod number;
 #[cfg(test)]
 mod tests;
 
@@ -14,36 +21,56 @@ mod tests;
 pub const USAGE: &str =
     "usage: bwe solve | check | run [--readers N] [--reads N] | make SEED GROUPS TASKS | bulk SEED GROUPS TASKS | audit | tiers | enforce | estimate WINDOW HEADROOM | levels SHARE\n";
 
-/// A command line that is served.
+/// A line that reads a document and answers it with one text.
 #[derive(Clone, Copy, Debug, PartialEq, Eq, Drop)]
 pub enum Line {
-    /// Reads a document and writes its table of limits.
+    /// Writes the document's table of limits.
     Solve,
-    /// Reads a document and writes whether its closings are right.
+    /// Writes whether the document's closings are right.
     Check,
 }
 
-/// The line that the words are, `None` where they are none. `words` are those after the program's name.
-///
-/// A word counts as it stands: `--`, abbreviations, blanks round a word and an empty word are in no line.
-pub fn line_of_words(words: &[String]) -> Option<Line>
-    ensures { result ≡ line_of (texts_of words.now) }
-{
-    let [word] = words else {
-        return None;
-    };
-    line_of_word(word.as_str())
+/// A command line.
+#[derive(Clone, Copy, Debug, PartialEq, Eq, Drop)]
+pub enum CommandLine {
+    /// A line on one document.
+    Document { line: Line },
+    /// Reads a document and runs its scripts: from 1 to 64 readers, from 0 to 1,000 reads of each.
+    Run { readers: u32, reads: u32 },
+    /// Writes a made document: from 1 to 1,024 groups, and from as many to 20,000 tasks.
+    Make { seed: u64, groups: u32, tasks: u32 },
+    /// Writes the summary of such a document's table, in the same ranges.
+    Bulk { seed: u64, groups: u32, tasks: u32 },
 }
 
-// The line of one word.
-fn line_of_word(word: &str) -> Option<Line>
-    ensures { result ≡ line_of_one word.now }
+/// The line on one document that the words are, `None` where they are none. `words` are those after the program's name.
+pub fn line_of_words(alloc: Global, words: &[String]) -> Result<Option<Line>, OutOfMemory>
+    ensures { IfOk result (λ line. line ≡ line_of (texts_of words.now)) }
 {
-    if word == "solve" {
-        return Some(Line::Solve);
+    match command_line_of_words(alloc, words)? {
+        Some(CommandLine::Document { line }) => Ok(Some(line)),
+        _ => Ok(None),
     }
-    if word == "check" {
-        return Some(Line::Check);
+}
+
+/// The command line that the words are, `None` where they are none.
+///
+/// A word counts as it stands: abbreviations, blanks round a word and an empty word are in no line.
+pub fn command_line_of_words(
+    alloc: Global,
+    words: &[String],
+) -> Result<Option<CommandLine>, OutOfMemory>
+    ensures { IfOk result (λ line. line ≡ command_line_of (texts_of words.now)) }
+{
+    if has_hyphens(words) {
+        return Ok(None);
     }
-    None
+    matches::line_split(alloc, words)
+}
+
+// One of the words is `--`.
+fn has_hyphens(words: &[String]) -> bool
+    ensures { result ≡ list_any is_hyphens (texts_of words.now) }
+{
+    words.iter().any(|word| word.as_str() == "--")
 }

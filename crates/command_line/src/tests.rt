@@ -1,7 +1,7 @@
-use super::{Line, USAGE, line_of_words};
-use std::alloc::AllocError;
+use super::{CommandLine, Line, USAGE, command_line_of_words, line_of_words};
+use bwe_specs::OutOfMemory;
 
-fn words(rt: &HostRuntime, texts: &[&str]) -> Result<Vec<String>, AllocError> {
+fn words(rt: &HostRuntime, texts: &[&str]) -> Result<Vec<String>, OutOfMemory> {
     let mut words = Vec::new(rt.alloc());
     for text in texts {
         words.push(String::from_str(rt.alloc(), text)?)?;
@@ -9,15 +9,127 @@ fn words(rt: &HostRuntime, texts: &[&str]) -> Result<Vec<String>, AllocError> {
     Ok(words)
 }
 
+fn line_of(rt: &HostRuntime, texts: &[&str]) -> Result<Option<CommandLine>, OutOfMemory> {
+    command_line_of_words(rt.alloc(), &words(rt, texts)?)
+}
+
 #[test]
-fn only_the_words_of_a_line_are_one(rt: HostRuntime) -> Result<(), AllocError> {
-    assert_eq!(rt; line_of_words(&words(&rt, &["solve"])?), Some(Line::Solve));
-    assert_eq!(rt; line_of_words(&words(&rt, &["check"])?), Some(Line::Check));
-    for wrong in ["", "--", "solve ", "Solve", "help", "sol", "Check"] {
-        assert_eq!(rt; line_of_words(&words(&rt, &[wrong])?), None);
+fn each_line_is_read(rt: HostRuntime) -> Result<(), OutOfMemory> {
+    for (word, line) in [("solve", Line::Solve), ("check", Line::Check)] {
+        assert_eq!(rt;
+            line_of(&rt, &[word])?,
+            Some(CommandLine::Document { line })
+        );
+        assert_eq!(rt;
+            line_of_words(rt.alloc(), &words(&rt, &[word])?)?,
+            Some(line)
+        );
     }
-    assert_eq!(rt; line_of_words(&words(&rt, &["solve", "x"])?), None);
-    assert_eq!(rt; line_of_words(&words(&rt, &[])?), None);
+    assert_eq!(rt; line_of_words(rt.alloc(), &words(&rt, &["run"])?)?, None);
+    let run = |readers, reads| Some(CommandLine::Run { readers, reads });
+    assert_eq!(rt; line_of(&rt, &["run"])?, run(2, 4));
+    assert_eq!(rt;
+        line_of(&rt, &["run", "--reads=0", "--readers", "064"])?,
+        run(64, 0)
+    );
+    assert_eq!(rt;
+        line_of(&rt, &["run", "--readers=1", "--reads", "1000"])?,
+        run(1, 1_000)
+    );
+    let seed = 18_446_744_073_709_551_615;
+    let made = line_of(&rt, &["make", "18446744073709551615", "1", "20000"])?;
+    assert_eq!(rt;
+        made,
+        Some(CommandLine::Make {
+            seed,
+            groups: 1,
+            tasks: 20_000
+        })
+    );
+    let bulk = line_of(&rt, &["bulk", "0", "1024", "1024"])?;
+    assert_eq!(rt;
+        bulk,
+        Some(CommandLine::Bulk {
+            seed: 0,
+            groups: 1_024,
+            tasks: 1_024
+        })
+    );
     assert!(rt; USAGE.ends_with("levels SHARE\n"));
+    Ok(())
+}
+
+#[test]
+fn other_words_are_no_line(rt: HostRuntime) -> Result<(), OutOfMemory> {
+    assert_eq!(rt; line_of(&rt, &[])?, None);
+    for wrong in [
+        "",
+        "--",
+        "solve ",
+        "Solve",
+        "help",
+        "--help",
+        "-h",
+        "--version",
+        "sol",
+        "make",
+    ] {
+        assert_eq!(rt; line_of(&rt, &[wrong])?, None);
+        assert_eq!(rt; line_of(&rt, &["solve", wrong])?, None);
+        assert_eq!(rt; line_of(&rt, &["run", wrong])?, None);
+        assert_eq!(rt; line_of(&rt, &["run", "--readers", wrong])?, None);
+        assert_eq!(rt; line_of(&rt, &["make", "1", "1", wrong])?, None);
+    }
+    Ok(())
+}
+
+#[test]
+fn an_option_of_run_has_one_number(rt: HostRuntime) -> Result<(), OutOfMemory> {
+    for wrong in [
+        "--readers=",
+        "--readers",
+        "--readers=3=4",
+        "--readers=0",
+        "--readers=65",
+        "--read=1",
+        "--reads=1001",
+        "--reads=+1",
+        "-r",
+    ] {
+        assert_eq!(rt; line_of(&rt, &["run", wrong])?, None);
+    }
+    assert_eq!(rt; line_of(&rt, &["run", "--readers", "--reads", "1"])?, None);
+    assert_eq!(rt;
+        line_of(&rt, &["run", "--readers", "1", "--readers=1"])?,
+        None
+    );
+    assert_eq!(rt;
+        line_of(&rt, &["run", "--readers=000000000000000000001"])?,
+        None
+    );
+    Ok(())
+}
+
+#[test]
+fn sizes_are_in_their_ranges(rt: HostRuntime) -> Result<(), OutOfMemory> {
+    for wrong in [
+        ["18446744073709551616", "1", "1"],
+        ["1", "0", "1"],
+        ["1", "1025", "2000"],
+        ["1", "2", "1"],
+        ["1", "1", "20001"],
+        ["-1", "1", "1"],
+        ["1", " 1", "1"],
+    ] {
+        assert_eq!(rt;
+            line_of(&rt, &["make", wrong[0], wrong[1], wrong[2]])?,
+            None
+        );
+        assert_eq!(rt;
+            line_of(&rt, &["bulk", wrong[0], wrong[1], wrong[2]])?,
+            None
+        );
+    }
+    assert_eq!(rt; line_of(&rt, &["make", "1", "1", "1", "1"])?, None);
     Ok(())
 }

@@ -1,5 +1,5 @@
 -- A text that was due, and the writing of it, end a run.
-use Rattle.std.proofs.Common.{◌≡◌, refl, subst, ℕ, List, Option, Some, None}
+use Rattle.std.proofs.Common.{◌≡◌, ◌∙◌, ap, refl, subst, sym, true≢false, is_some, ℕ, List, Option, Some, None}
 use Rattle.std.specs.Io.KnownBytes.{Keeps}
 use Rattle.one_run.specs.Endings.{Run, Reply, IsDue, Ending, Writes, done, write_fault, whole, partly}
 
@@ -23,3 +23,7 @@ pub Writes-reply : (reply : Reply) (status : ℕ) (written written_after : Optio
     → Writes reply.status written written_after faults faults_after reply.text result
 Writes-reply reply status written written_after faults faults_after text result is writes =
     subst (λ (r : Reply). Writes r.status written written_after faults faults_after r.text result) is writes
+
+-- of a line there is nothing to say for words that are none
+pub is_no_line : {A : Type 0} {P : Type 0} (words : Option A) (line : A) → words ≡ Some line → words ≡ None → P
+is_no_line words line some none = absurd (true≢false (ap is_some (sym some ∙ none)))

@@ -48,8 +48,8 @@ pub data Ending (run : Run) (limit : ℕ) (usage too_long : List ℕ) : ℕ → 
   write_fault : {status : ℕ} {text : List ℕ} → IsDue run limit usage too_long status text
       → HasRisen run.write_faults run.write_faults_after → AppendsPrefix run.written run.written_after text
       → Ending run limit usage too_long 5
-  -- memory was wanting, and nothing was written
-  out_of_memory : {line : Line} → run.line ≡ Some line → Keeps run.written run.written_after
+  -- memory was wanting, and nothing was written; where the words are no line, nothing was read either
+  out_of_memory : (run.line ≡ None → run.left_after ≡ run.left) → Keeps run.written run.written_after
       → Ending run limit usage too_long 6
 
 -- the text was written whole, with the status that it was due with; or the sink failed, with status 5

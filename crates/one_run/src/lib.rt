@@ -67,8 +67,10 @@ pub fn serve<W: Work, S: Source, K: Sink>(
     })
         MAX_INPUT USAGE.now TOO_LONG.now result }
 {
-    let Some(line) = line_of_words(words) else {
-        return write_text(sink, USAGE.as_bytes(), 2);
+    let line = match line_of_words(alloc, words) {
+        Ok(Some(line)) => line,
+        Ok(None) => return write_text(sink, USAGE.as_bytes(), 2),
+        Err(OutOfMemory) => return 6,
     };
     match read_all(alloc, source, MAX_INPUT) {
         Ok(input) => match work.answer(alloc, line, &input) {

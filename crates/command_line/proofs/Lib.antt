@@ -1,0 +1,10 @@
+pub mod Clear
+pub mod Turns
+pub mod Bare
+pub mod Texts
+pub mod RunWords
+pub mod Sizes
+pub mod Split
+pub mod Numbers
+pub mod Found
+pub mod Apps

@@ -1,0 +1,67 @@
+-- What `clap` is told of the lines, and what is read of its matches.
+use Rattle.std.specs.Prelude.{true, List, [], codes, Option, Some, None, if◌then◌else◌, option_map, option_and_then, unwrap_or}
+use Rattle.std.specs.Str.{bytes_eq}
+use Rattle.clap.specs.Walk.{Row, Rule, all_of, first_of}
+use Rattle.clap.specs.Simple.{App, new_app, new_rule, new_shape, with_rule, with_subcommand}
+use Rattle.clap.specs.declared.builder.action.ArgAction.TheVariants.{Append, Set}
+use Rattle.command_line.specs.Lines.{Given, Text, run_line, size_in}
+use Rattle.command_line.specs.declared.matches.Size.{Size}
+use Rattle.command_line.specs.declared.CommandLine.{CommandLine}
+use Rattle.command_line.specs.declared.Line.TheVariants.{Solve, Check}
+use Rattle.command_line.specs.declared.CommandLine.TheVariants.{Document, Make, Bulk}
+
+-- an option that may be given again
+abbrev pub option_rule : Text → Rule
+option_rule name = record (new_rule name) { long = Some name; action = Some Append }
+
+-- a word that is required in its place
+abbrev pub place_rule : Text → Rule
+place_rule name = record (new_rule name) { required = true; action = Some Set }
+
+abbrev pub run_app : App
+run_app = with_rule (with_rule (new_app (codes "run")) (option_rule (codes "readers"))) (option_rule (codes "reads"))
+
+abbrev pub sized_app : Text → App
+sized_app name =
+    with_rule (with_rule (with_rule (new_app name) (place_rule (codes "seed"))) (place_rule (codes "groups"))) (place_rule (codes "tasks"))
+
+abbrev pub bare_app : App
+bare_app = record {
+  top = record (new_shape (codes "bwe")) {
+    no_binary_name = true;
+    disable_help_flag = true;
+    disable_help_subcommand = true;
+    subcommand_required = true;
+  };
+  subs = [];
+}
+
+abbrev pub bwe_app : App
+bwe_app =
+    with_subcommand (with_subcommand (with_subcommand (with_subcommand (with_subcommand bare_app
+    (new_shape (codes "solve"))) (new_shape (codes "check"))) run_app.top) (sized_app (codes "make")).top) (sized_app (codes "bulk")).top
+
+-- the texts that an option was given
+abbrev pub texts_in : Text → List Row → List Text
+texts_in id rows = unwrap_or (all_of id rows) []
+
+abbrev pub given_in : List Row → Given
+given_in rows = record { readers = texts_in (codes "readers") rows; reads = texts_in (codes "reads") rows }
+
+abbrev pub size_given : List Row → Option Size
+size_given rows =
+    option_and_then (λ seed. option_and_then (λ groups. option_and_then (λ tasks. size_in seed groups tasks)
+    (first_of (codes "tasks") rows)) (first_of (codes "groups") rows)) (first_of (codes "seed") rows)
+
+abbrev pub line_entered : Text → List Row → Option CommandLine
+line_entered name rows =
+    if bytes_eq name (codes "solve") then Some (Document Solve)
+    else if bytes_eq name (codes "check") then Some (Document Check)
+    else if bytes_eq name (codes "run") then run_line (given_in rows)
+    else if bytes_eq name (codes "make") then option_map (λ size. Make size.seed size.groups size.tasks) (size_given rows)
+    else if bytes_eq name (codes "bulk") then option_map (λ size. Bulk size.seed size.groups size.tasks) (size_given rows)
+    else None
+
+-- the line of the subcommand that was met
+abbrev pub line_met : Option (Text × List Row) → Option CommandLine
+line_met = option_and_then (λ met. line_entered met.0 met.1)

@@ -1,0 +1,182 @@
+//! The words by `clap`: what it is told of the lines, and what is read of its matches.
+ghost use Rattle.std.specs.Prelude.{◌≡◌, IfOk, [], false, map, option_map, unwrap_or};
+ghost use Rattle.std.specs.List.{list_any};
+ghost use Rattle.clap.specs.Words.{app_of, found_of, rows_of, rule_of, shape_of, subcommand_rows_of};
+ghost use Rattle.clap.specs.declared.builder.command.Command.TheViews.{out-Command};
+ghost use Rattle.command_line.specs.Lines.{is_hyphens, line_of_texts, number_given as number_of_option, run_line as line_of_given, size_in as size_in_texts, texts_of};
+ghost use Rattle.command_line.specs.Matches.{bwe_app, given_in, line_entered, line_met, option_rule, place_rule, run_app, size_given, sized_app, texts_in};
+
+use crate::number::{any_number, number_in};
+use crate::{CommandLine, Line};
+use bwe_specs::OutOfMemory;
+use clap::error::ErrorKind;
+use clap::{Arg, ArgAction, ArgMatches, Command};
+use std::alloc::{AllocError, Global};
+
+// The line that the words are. None of them is `--`, after which `clap` reads any word as a text.
+pub(crate) fn line_split(
+    alloc: Global,
+    words: &[String],
+) -> Result<Option<CommandLine>, OutOfMemory>
+    requires { list_any is_hyphens (texts_of words.now) ≡ false }
+    ensures { IfOk result (λ line. line ≡ line_of_texts (texts_of words.now)) }
+{
+    match command(alloc)?.try_get_matches_from(words) {
+        Ok(matches) => Ok(line_of_matches(&matches)),
+        Err(error) => match error.kind() {
+            ErrorKind::OutOfMemory => Err(OutOfMemory),
+            _ => Ok(None),
+        },
+    }
+}
+
+// All lines: a subcommand for each.
+fn command<'a>(alloc: Global) -> Result<Command<'a>, AllocError>
+    ensures { IfOk result (λ command. app_of command ≡ bwe_app) }
+{
+    Command::new(alloc, "bwe")
+        .no_binary_name(true)
+        .disable_help_flag(true)
+        .disable_help_subcommand(true)
+        .subcommand_required(true)
+        .subcommand(Command::new(alloc, "solve"))?
+        .subcommand(Command::new(alloc, "check"))?
+        .subcommand(run_command(alloc)?)?
+        .subcommand(sized_command(alloc, "make")?)?
+        .subcommand(sized_command(alloc, "bulk")?)
+}
+
+// `run`, whose options have one text for each use.
+fn run_command<'a>(alloc: Global) -> Result<Command<'a>, AllocError>
+    ensures app { IfOk result (λ command. app_of command ≡ run_app) }
+    ensures local { IfOk result (λ command. (out-Command command).has_globals ≡ false) }
+{
+    Command::new(alloc, "run")
+        .arg(option(alloc, "readers"))?
+        .arg(option(alloc, "reads"))
+}
+
+// `make` or `bulk`, with its three places.
+fn sized_command<'a>(alloc: Global, name: &'a str) -> Result<Command<'a>, AllocError>
+    ensures app { IfOk result (λ command. app_of command ≡ sized_app name.entry.now) }
+    ensures local { IfOk result (λ command. (out-Command command).has_globals ≡ false) }
+{
+    Command::new(alloc, name)
+        .arg(place(alloc, "seed"))?
+        .arg(place(alloc, "groups"))?
+        .arg(place(alloc, "tasks"))
+}
+
+// An option, which may be given again.
+fn option<'a>(alloc: Global, name: &'a str) -> Arg<'a>
+    ensures rule { rule_of result ≡ option_rule name.entry.now }
+    ensures local { result.global ≡ false }
+{
+    Arg::new(alloc, name).long(name).action(ArgAction::Append)
+}
+
+// A text that is required in its place.
+fn place<'a>(alloc: Global, name: &'a str) -> Arg<'a>
+    ensures rule { rule_of result ≡ place_rule name.entry.now }
+    ensures local { result.global ≡ false }
+{
+    Arg::new(alloc, name).required(true).action(ArgAction::Set)
+}
+
+// The line of the subcommand that was met.
+fn line_of_matches(matches: &ArgMatches<'_>) -> Option<CommandLine>
+    ensures { result ≡ line_met (subcommand_rows_of matches.now) }
+{
+    let (name, given) = matches.subcommand()?;
+    line_of_subcommand(name, given)
+}
+
+// The line of this subcommand, by the texts that it was given.
+fn line_of_subcommand(name: &str, given: &ArgMatches<'_>) -> Option<CommandLine>
+    ensures { result ≡ line_entered name.now (rows_of (found_of given.now)) }
+{
+    match name {
+        "solve" => Some(CommandLine::Document { line: Line::Solve }),
+        "check" => Some(CommandLine::Document { line: Line::Check }),
+        "run" => run_line(given),
+        "make" => {
+            let Size {
+                seed,
+                groups,
+                tasks,
+            } = size_of(given)?;
+            Some(CommandLine::Make {
+                seed,
+                groups,
+                tasks,
+            })
+        }
+        "bulk" => {
+            let Size {
+                seed,
+                groups,
+                tasks,
+            } = size_of(given)?;
+            Some(CommandLine::Bulk {
+                seed,
+                groups,
+                tasks,
+            })
+        }
+        _ => None,
+    }
+}
+
+// `run` with its options.
+fn run_line(given: &ArgMatches<'_>) -> Option<CommandLine>
+    ensures { result ≡ line_of_given (given_in (rows_of (found_of given.now))) }
+{
+    let readers = number_given(given.get_strs("readers"), 2, 1, 64)?;
+    let reads = number_given(given.get_strs("reads"), 4, 0, 1_000)?;
+    Some(CommandLine::Run { readers, reads })
+}
+
+// The number of an option that is given at most once.
+fn number_given(texts: Option<&[&str]>, default: u32, least: u32, most: u32) -> Option<u32>
+    ensures { result ≡ number_of_option default least most
+        (unwrap_or (option_map (λ found. map (λ text. text.now) found.now) texts.entry) []) }
+{
+    match texts {
+        None => Some(default),
+        Some([]) => Some(default),
+        Some([text]) => number_in(text, least, most),
+        Some(_) => None,
+    }
+}
+
+// What `make` and `bulk` are given.
+#[derive(Clone, Copy, Drop)]
+struct Size {
+    seed: u64,
+    groups: u32,
+    tasks: u32,
+}
+
+// SEED, GROUPS and TASKS in their places.
+fn size_of(given: &ArgMatches<'_>) -> Option<Size>
+    ensures { result ≡ size_given (rows_of (found_of given.now)) }
+{
+    let seed = given.get_str("seed")?;
+    let groups = given.get_str("groups")?;
+    let tasks = given.get_str("tasks")?;
+    size_in(seed, groups, tasks)
+}
+
+// The three numbers of the texts; there are at least as many tasks as groups.
+fn size_in(seed: &str, groups: &str, tasks: &str) -> Option<Size>
+    ensures { result ≡ size_in_texts seed.now groups.now tasks.now }
+{
+    let seed = any_number(seed)?;
+    let groups = number_in(groups, 1, 1_024)?;
+    let tasks = number_in(tasks, groups, 20_000)?;
+    Some(Size {
+        seed,
+        groups,
+        tasks,
+    })
+}
