@@ -1,7 +1,7 @@
 -- What a filling keeps, read row by row.
 use Rattle.std.proofs.Common.{◌≡◌, ℕ, zero, suc, ◌+◌, ◌<◌, ◌≤◌, ◌^◌, List, [], ◌∷◌, length, map, reverse, sum, sum_by, get_or, slice_index, slice_index_or, Option, None, le_refl, ap₂, refl, sym, ap, ◌∙◌, subst, arith, zero-add, le_trans}
 use Rattle.std.proofs.lemmas.List.FromFn.{fill_by_all, length-map-range_with_len, get_or-map-range_with_len, sum_by-map-range_with_len_more}
-use Rattle.std.proofs.lemmas.List.{reverse-reverse}
+use Rattle.std.proofs.lemmas.List.{length-map, get_or-map, reverse-reverse}
 use Rattle.bwe_specs.specs.Bounded.{sum_below}
 use Rattle.bwe_specs.specs.Paths.{PathGroups, path_group_at, path_group_count, link_load, load_on}
 use Rattle.bwe_specs.specs.Filling.{Wan, State, filling, group_stop, group_amount, closed_by}
@@ -63,6 +63,21 @@ module _ (wan : Wan) (never : NeverFalls wan) (bound : sum_below (length wan.gro
       subst (λ amounts. group_amount wan amounts group ≤ wan.value group wan.top) (sym (filling-amounts wan never))
       (group_amount-le wan never group closings wan.top right.0 (last_share-le wan closings right.0) (le_refl wan.top))
 
+-- the amounts of the lines are those of the groups
+pub amounts-of_lines : (wan : Wan) (count : ℕ) → length wan.groups ≡ count
+    → map (λ line. line.amount) (map (group_line wan (filling wan)) (numbers (length wan.groups))) ≡ map (group_amount wan (filling wan).amounts) (numbers count)
+amounts-of_lines wan count all =
+    let lines : List GroupLine = map (group_line wan (filling wan)) (numbers (length wan.groups)) in
+    fill_by_all (group_amount wan (filling wan).amounts) (map (λ line. line.amount) lines) count 0
+    (length-map lines (λ line. line.amount) ∙ length-map-range_with_len (group_line wan (filling wan)) 0 (length wan.groups) ∙ all)
+    (λ k lt. at k (omega (arith, all)))
+  where
+    at : (k : ℕ) → k < length wan.groups → get_or (map (λ line. line.amount) (map (group_line wan (filling wan)) (numbers (length wan.groups)))) k 0 ≡ group_amount wan (filling wan).amounts k
+    at k lt =
+        get_or-map (λ line. line.amount) (map (group_line wan (filling wan)) (numbers (length wan.groups))) k (group_line wan (filling wan) k) 0
+        (omega (arith, length-map-range_with_len (group_line wan (filling wan)) 0 (length wan.groups)))
+        ∙ ap (λ line. line.amount) (get_or-map-range_with_len (group_line wan (filling wan)) 0 (length wan.groups) k k (group_line wan (filling wan) k) lt (zero-add k))
+
 module _ (wan : Wan) (filled : Filling) (is : IsFilling wan filled) where
   abbrev rows : List (List ℕ)
   rows = rows_in filled.amounts.items
@@ -95,11 +110,11 @@ module _ (wan : Wan) (filled : Filling) (is : IsFilling wan filled) where
   loads-are =
       map-numbers 0 (link_load wan.groups (amount_at rows)) (link_load wan.groups (filling wan).amounts) (length wan.capacities)
       (λ link lt. load-is link)
-      where
-        load-is : (link : ℕ) → link_load wan.groups (amount_at rows) link ≡ link_load wan.groups (filling wan).amounts link
-        load-is link =
-            sum_below-same (length wan.groups) _ _ (λ group lt. sum_below-same (path_group_count wan.groups group) _ _
-            (λ place within. ap (load_on (path_group_at wan.groups group place) link) (amount-is group place lt within)))
+    where
+      load-is : (link : ℕ) → link_load wan.groups (amount_at rows) link ≡ link_load wan.groups (filling wan).amounts link
+      load-is link =
+          sum_below-same (length wan.groups) _ _ (λ group lt. sum_below-same (path_group_count wan.groups group) _ _
+          (λ place within. ap (load_on (path_group_at wan.groups group place) link) (amount-is group place lt within)))
 
   line-is : (group : ℕ) → group < length wan.groups → line_in wan.groups filled group ≡ group_line wan (filling wan) group
   line-is group lt =

@@ -5,3 +5,5 @@ pub mod Filled
 pub mod Fitted
 pub mod Put
 pub mod Made
+pub mod Pieces
+pub mod Lawful

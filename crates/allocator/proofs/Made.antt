@@ -21,7 +21,7 @@ use Rattle.allocator.specs.Lines.{HasRows, line_in}
 use Rattle.allocator.specs.Reported.{Reported}
 use Rattle.allocator.specs.Allocators.{IsFitted, plan_by, table_by}
 use Rattle.allocator.specs.Tables.{wan_by}
-use Rattle.allocator.proofs.Filled.{sum_by-numbers, amounts-total, amount-at_most, shaped, total-is, loads-are, lines-are, has_rows}
+use Rattle.allocator.proofs.Filled.{sum_by-numbers, amounts-of_lines, amounts-total, amount-at_most, shaped, total-is, loads-are, lines-are, has_rows}
 
 abbrev table_parts : ℕ → List ℕ → List GroupLine → List ℕ → List Closing → Table
 table_parts prefix limits groups loads closings = record { prefix = prefix; limits = limits; groups = groups; loads = loads; closings = closings }
@@ -33,7 +33,8 @@ module _ (reported : Reported) (groups : List PathGroups) (fitted : IsFitted rep
   pub never : NeverFalls (wan_by reported groups)
   never = record { next = values.never_falls }
 
-  bound : sum_below (length groups) (λ group. wan.value group wan.top) ≤ 20_000_000_000_000_000
+  -- what all groups may have at the top is bounded
+  pub bound : sum_below (length groups) (λ group. wan.value group wan.top) ≤ 20_000_000_000_000_000
   bound = subst (λ count. sum_below count (λ group. wan.value group wan.top) ≤ 20_000_000_000_000_000) fitted.clusters values.together
 
   module _ (filled : Filling) (is : IsFilling (wan_by reported groups) filled) where
@@ -52,17 +53,7 @@ module _ (reported : Reported) (groups : List PathGroups) (fitted : IsFitted rep
 
       made-amounts : map (λ line. line.amount) lines ≡ map (group_amount wan (filling wan).amounts) (numbers (length reported.tree.clusters))
       made-amounts =
-          let amount_of : ℕ → ℕ = group_amount wan (filling wan).amounts in
-          ap (map (λ line. line.amount)) made-lines
-          ∙ fill_by_all amount_of (map (λ line. line.amount) (map (group_line wan (filling wan)) (numbers (length groups)))) (length reported.tree.clusters) 0
-          (length-map (map (group_line wan (filling wan)) (numbers (length groups))) (λ line. line.amount) ∙ length-map-range_with_len (group_line wan (filling wan)) 0 (length groups) ∙ sym fitted.clusters)
-          (λ k lt. at k (omega (arith, fitted.clusters)))
-          where
-            at : (k : ℕ) → k < length groups → get_or (map (λ line. line.amount) (map (group_line wan (filling wan)) (numbers (length groups)))) k 0 ≡ group_amount wan (filling wan).amounts k
-            at k lt =
-                get_or-map (λ line. line.amount) (map (group_line wan (filling wan)) (numbers (length groups))) k (group_line wan (filling wan) k) 0
-                (omega (arith, length-map-range_with_len (group_line wan (filling wan)) 0 (length groups)))
-                ∙ ap (λ line. line.amount) (get_or-map-range_with_len (group_line wan (filling wan)) 0 (length groups) k k (group_line wan (filling wan) k) lt (zero-add k))
+          ap (map (λ line. line.amount)) made-lines ∙ amounts-of_lines wan (length reported.tree.clusters) (sym fitted.clusters)
 
       pub made-count : length lines ≡ length reported.tree.clusters
       made-count = ap length are ∙ length-map-range_with_len (line_in groups filled) 0 (length groups) ∙ sym fitted.clusters

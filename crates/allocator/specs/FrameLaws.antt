@@ -46,7 +46,8 @@ length-user_limits top demand user amount =
     (length-distribution top (job_values top demand user) amount ∙ length-map user.jobs _)
     ∙ sym (length-flat_map job_numbers user.jobs)
 
-length-cluster_limits : (top : ℕ) (demand : ℕ → ℕ) (cluster : Cluster) (amount : ℕ) → length (cluster_limits top demand cluster amount) ≡ length (cluster_numbers cluster)
+-- there is a limit for each task of a cluster
+pub length-cluster_limits : (top : ℕ) (demand : ℕ → ℕ) (cluster : Cluster) (amount : ℕ) → length (cluster_limits top demand cluster amount) ≡ length (cluster_numbers cluster)
 length-cluster_limits top demand cluster amount =
     length-pieces (λ given. user_limits top demand given.0 given.1) (λ user. length (user_numbers user)) (length-user_limits top demand) cluster.users
     (distribution top (user_values top demand cluster) amount)

@@ -6,3 +6,4 @@ pub mod Allocators
 pub mod Loads
 pub mod Tables
 pub mod FrameLaws
+pub mod Laws

@@ -3,6 +3,7 @@
 ghost use Rattle.std.specs.Prelude.{◌≡◌, [], length, replicate};
 ghost use Rattle.path_groups.specs.Plan.{IsBuiltOn};
 ghost use Rattle.policy_tree.specs.Trees.{task_numbers};
+
 use crate::reported::Reported;
 use crate::table::make_table;
 use crate::values::TreeValues;

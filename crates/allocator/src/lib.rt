@@ -1,7 +1,14 @@
-//! What the tables of the allocator are made of.
+//! The allocator: tables of limits, made of the reports that it has taken in.
+//!
+//! `Allocator` is the `Maker` that the board and the top call use: its table is the allocation of the plan and of all
+//! reports taken in, whatever they are. `make_table` is what it calls, and carries the laws of every table: no link is
+//! over, a group with less than it may have is held back by closings, and the limits of a group's tasks add up to its
+//! amount. `Reported` keeps a tree and a network as they stand after reports; `TreeValues` lends a tree's groups to the
+//! filling. Nothing is promised of time.
 #![tactic(auto)]
 
 mod allocator;
+mod history;
 mod line;
 mod loads;
 mod reported;
@@ -9,6 +16,8 @@ mod table;
 mod values;
 
 pub use allocator::{Allocator, AllocatorPlan};
+pub use history::after_script;
 pub use line::{group_line, group_lines};
 pub use reported::Reported;
+pub use table::make_table;
 pub use values::TreeValues;

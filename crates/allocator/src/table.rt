@@ -3,9 +3,11 @@
 ghost use Rattle.std.specs.Prelude.{◌≡◌, ℕ, ◌<◌, ◌≤◌, length, map, flat_map, zip, slice_index, IfOk};
 ghost use Rattle.bwe_specs.specs.Reports.{numbers};
 ghost use Rattle.bwe_specs.specs.Tree.{cluster_limits};
-ghost use Rattle.policy_tree.specs.Trees.{demand_in, value_in};
+ghost use Rattle.bwe_specs.specs.Values.{AreValues};
+ghost use Rattle.policy_tree.specs.Trees.{demand_in, value_in, IsTree};
 ghost use Rattle.mpfa_fill.specs.Filling.{IsFilling};
 ghost use Rattle.allocator.specs.Allocators.{IsFitted, table_by};
+ghost use Rattle.allocator.specs.Laws.{IsConserved, IsFeasible, IsHeldBack};
 ghost use Rattle.allocator.specs.Tables.{wan_by};
 
 use crate::line::group_lines;
@@ -24,18 +26,44 @@ use std::marker::Brand;
 use std::sync::ledger::{Blank, Ledger};
 use task_limits::all_limits;
 
-/// The table under the demands and capacities that now stand. The hints say where links may close, and alter no table.
-pub(crate) fn make_table(
+/// The table under the demands and capacities that now stand: the allocation ("Allocation", docs/DEFINITIONS.md), for
+/// which three laws hold.
+///
+/// The hints say where links may close, and alter no table.
+pub fn make_table(
     alloc: Global,
     reported: &Reported,
     plan: &PathPlan,
     hints: &[Closing],
 ) -> Result<LimitTable, OutOfMemory>
     requires { IsFitted reported.now plan.now }
+    ensures table { IfOk result (λ table. table ≡ table_by reported.now plan.now) }
+
+    // Feasibility law: no link's load exceeds its capacity
+    ensures feasible { IfOk result (IsFeasible reported.now.network.capacities) }
+
+    // Bottleneck law: a group with less than it may have at the top is held back on each of its path groups
+    ensures held_back { IfOk result (IsHeldBack (wan_by reported.now plan.now)) }
+
+    // Conservation law: the limits of a group's tasks add up to its amount
+    ensures conserved { IfOk result (IsConserved reported.now.tree) }
+{
+    let filling = filling_of::<Brand>(alloc, reported, plan, hints, Blank::new(1))?;
+    table_of_filling(alloc, reported, plan, filling)
+}
+
+// The table that a filling under what now stands is.
+fn table_of_filling(
+    alloc: Global,
+    reported: &Reported,
+    plan: &PathPlan,
+    filling: Filling,
+) -> Result<LimitTable, OutOfMemory>
+    requires fitted { IsFitted reported.now plan.now }
+    requires filling { IsFilling (wan_by reported.now plan.now) filling }
     ensures { IfOk result (λ table. table ≡ table_by reported.now plan.now) }
 {
     let (tree, topology) = (reported.tree(), reported.topology());
-    let filling = filling_of::<Brand>(alloc, reported, plan, hints, Blank::new(1))?;
     let groups = group_lines(alloc, plan, &filling)?;
     let limits = limits_of(alloc, tree, &groups)?;
     let loads = loads_of(alloc, topology, plan, &filling.amounts)?;
@@ -60,7 +88,9 @@ fn filling_of<L: Ledger>(
     requires name { blank.name ≡ L.name }
     requires parts { blank.parts ≡ L.parts }
     requires some { 0 < L.parts }
-    ensures { IfOk result (IsFilling (wan_by reported.now plan.now)) }
+    ensures tree { IsTree reported.now.tree }
+    ensures values { AreValues (length reported.now.tree.clusters) reported.now.tree.top (value_in reported.now.tree) }
+    ensures filling { IfOk result (IsFilling (wan_by reported.now plan.now)) }
 {
     let values = TreeValues {
         tree: reported.tree(),
@@ -80,7 +110,7 @@ fn limits_of(
         → slice_index (map (λ line. line.amount) groups.now) group ≤ value_in tree.now group tree.now.top }
     ensures { IfOk result (λ limits. limits.items
         ≡ flat_map (λ given. cluster_limits tree.now.top (demand_in tree.now) given.0 given.1)
-            (zip tree.now.clusters (map (λ line. line.amount) groups.now))) }
+        (zip tree.now.clusters (map (λ line. line.amount) groups.now))) }
 {
     let mut amounts = Vec::new(alloc);
     for line in groups {

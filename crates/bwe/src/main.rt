@@ -3,9 +3,8 @@
 
 use bwe_cli::bwe_once;
 use bwe_io::{StdSink, StdSource};
-use std::env;
-use std::io;
 use std::process::ExitCode;
+use std::{env, io};
 
 fn main(rt: HostRuntime) -> ExitCode {
     let Ok(words) = words_of(&rt) else {

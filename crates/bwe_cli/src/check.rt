@@ -8,8 +8,7 @@ ghost use Rattle.plan_doc.specs.Conditions.{IsUsable};
 ghost use Rattle.bwe_cli.specs.Plans.{plan_in};
 ghost use Rattle.bwe_cli.specs.Replies.{check_reply, verdict_status};
 
-use crate::history::after_script;
-use allocator::Allocator;
+use allocator::{Allocator, after_script};
 use bottleneck_cert::Verdict;
 use bwe_specs::OutOfMemory;
 use one_run::Answer;

@@ -12,7 +12,6 @@ ghost use Rattle.bwe_cli.specs.Replies.{reply};
 
 mod check;
 mod documents;
-mod history;
 mod solve;
 
 use bwe_io::{Sink, Source};
@@ -48,4 +47,3 @@ pub fn bwe_once<S: Source, K: Sink>(
 {
     serve(alloc, &Documents, words, source, sink)
 }
-

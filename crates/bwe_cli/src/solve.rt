@@ -6,8 +6,7 @@ ghost use Rattle.plan_doc.specs.Conditions.{IsUsable};
 ghost use Rattle.bwe_cli.specs.Plans.{plan_in};
 ghost use Rattle.bwe_cli.specs.Replies.{table_reply};
 
-use crate::history::after_script;
-use allocator::Allocator;
+use allocator::{Allocator, after_script};
 use bwe_specs::OutOfMemory;
 use demand_book::Maker;
 use one_run::Answer;

@@ -1,4 +1,4 @@
-//! A maker after a script, whichever maker it is.
+//! A maker after a script.
 
 ghost use Rattle.std.specs.Prelude.{◌≡◌, ◌≤◌, [], length, All, IfOk};
 ghost use Rattle.demand_book.specs.Fit.{IsFit};
@@ -7,12 +7,8 @@ use bwe_specs::{MAX_REPORTS, OutOfMemory, Report};
 use demand_book::Maker;
 use std::alloc::Global;
 
-/// A new maker after all reports of the script, in their order.
-pub(crate) fn after_script<M: Maker>(
-    alloc: Global,
-    maker: M,
-    script: &[Report],
-) -> Result<M, OutOfMemory>
+/// A new maker, whichever it is, after all reports of the script in their order.
+pub fn after_script<M: Maker>(alloc: Global, maker: M, script: &[Report]) -> Result<M, OutOfMemory>
     requires first { M.absorbed maker [] }
     requires few { length script.now ≤ MAX_REPORTS }
     requires fit { All (IsFit (M.plan_tasks (M.plan maker)) (M.plan_links (M.plan maker))) script.now }
