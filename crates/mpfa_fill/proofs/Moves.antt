@@ -89,7 +89,7 @@ module _ (wan : Wan) (never : NeverFalls wan) (closings : List Closing) (from to
         ]
 
   -- the next group is on the same share before and after, or it is the one that goes
-  other-group : (count group place : ℕ) → (group ≡ count → ⊥) → part_moved wan closings from to (count + 1) group place ≡ part_moved wan closings from to count group place
+  pub other-group : (count group place : ℕ) → (group ≡ count → ⊥) → part_moved wan closings from to (count + 1) group place ≡ part_moved wan closings from to count group place
   other-group count group place other =
       elim (cases_lt group count) [
         | inl lt ↦ part-gone wan closings from to (count + 1) group place (omega arith) ∙ sym (part-gone wan closings from to count group place lt)
@@ -119,7 +119,7 @@ module _ (wan : Wan) (never : NeverFalls wan) (closings : List Closing) (from to
           amounts_at-current wan never closings from to count found found last_from last_to within_from within_to current refl,
         )
 
-    stays-elsewhere : (place : ℕ) → (place ≡ found → ⊥) → part_moved wan closings from to (count + 1) count place ≡ part_moved wan closings from to count count place
+    pub stays-elsewhere : (place : ℕ) → (place ≡ found → ⊥) → part_moved wan closings from to (count + 1) count place ≡ part_moved wan closings from to count count place
     stays-elsewhere place other =
         part-gone wan closings from to (count + 1) count place (omega arith)
         ∙ amounts_at-elsewhere wan never closings from to count place last_from last_to within_from within_to (at-other (current_path_group_of wan closings count) found place current other)

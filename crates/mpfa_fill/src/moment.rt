@@ -1,6 +1,6 @@
 //! A moment of a filling, which goes from share to share and closes links.
 
-ghost use Rattle.std.specs.Prelude.{◌≡◌, ℕ, ◌+◌, ◌-◌, ◌<◌, ◌≤◌, ◌∷◌, [], length, map, reverse, IfOk, OnOk, OnErr, None};
+ghost use Rattle.std.specs.Prelude.{◌≡◌, ℕ, ◌+◌, ◌-◌, ◌<◌, ◌≤◌, ◌∷◌, [], true, length, map, reverse, IfOk, OnOk, OnErr, MatchOption, None};
 ghost use Rattle.bwe_specs.specs.Reports.{numbers};
 ghost use Rattle.bwe_specs.specs.Paths.{path_group_count, is_over as is_link_over};
 ghost use Rattle.bwe_specs.specs.Filling.{filling_step, IsReached};
@@ -9,12 +9,13 @@ ghost use Rattle.path_groups.specs.Plan.{IsBuiltOn};
 ghost use Rattle.link_sums.specs.Sums.{amount_at, IsSummedOver, total_of, rows_in};
 ghost use Rattle.mpfa_fill.specs.GroupValues.{Values, AreGroupValues, wan_of};
 ghost use Rattle.mpfa_fill.specs.Moment.{state_of, wan_in, IsMoment};
+ghost use Rattle.mpfa_fill.specs.LastFit.{is_over_at, IsLastFit, IsTermOf, GrowsNotOver, AreTermsOn};
 ghost use Rattle.mpfa_fill.specs.Filling.{IsFilling};
 
 use crate::standing::{Standing, first_standings, standing_after, stop_shares};
 use crate::steps::Filling;
 use crate::values::GroupValues;
-use bwe_specs::{Closing, OutOfMemory};
+use bwe_specs::{Closing, MAX_TOTAL, OutOfMemory};
 use link_sums::LinkSums;
 use path_groups::PathPlan;
 use std::alloc::Global;
@@ -30,6 +31,15 @@ pub struct Moment<'a, V: GroupValues> {
     closings: Vec<Closing>,
     standings: Vec<Standing>,
     sums: LinkSums,
+}
+
+/// A group that grows over a link: where, how much it has there, and its value, all at the share of a moment.
+#[derive(Clone, Copy)]
+struct Term {
+    group: u32,
+    place: u32,
+    amount: u64,
+    value: u64,
 }
 
 impl<'a, V: GroupValues> Moment<'a, V> {
@@ -119,6 +129,31 @@ impl<'a, V: GroupValues> Moment<'a, V> {
         self.sums.first_over(self.topology)
     }
 
+    /// The greatest share from `low` to `high` at which the link by itself fits, whatever becomes of the others.
+    ///
+    /// It asks for the values of the groups that grow over the link, some 30 times each, and of no others.
+    pub fn last_fit(
+        &self,
+        alloc: Global,
+        link: u32,
+        low: u64,
+        high: u64,
+    ) -> Result<u64, OutOfMemory>
+        requires moment { IsMoment V.meaning self.now }
+        requires link { link < length self.now.topology.now.capacities }
+        requires last { last_share (state_of self.now).closings ≤ low }
+        requires order { low ≤ high }
+        requires within { high ≤ (V.meaning self.now.values.now).top }
+        ensures { IfOk result
+            (IsLastFit (wan_in V.meaning self.now) (state_of self.now).closings link low high) }
+    {
+        let terms = self.terms_on(alloc, link)?;
+        if low == high || !self.is_over_at(&terms, link, high) {
+            return Ok(high);
+        }
+        Ok(self.last_fit_below(&terms, link, low, high))
+    }
+
     /// Closes the link at the share. A group that grew over it goes on with its next open path group.
     pub fn close_link(&mut self, link: u32) -> Result<(), OutOfMemory>
         requires moment { IsMoment V.meaning self.old }
@@ -167,6 +202,103 @@ impl<'a, V: GroupValues> Moment<'a, V> {
             self.close_link(link)?;
         }
         Ok(())
+    }
+
+    // The groups that grow over the link.
+    fn terms_on(&self, alloc: Global, link: u32) -> Result<Vec<Term>, OutOfMemory>
+        requires moment { IsMoment V.meaning self.now }
+        requires link { link < length self.now.topology.now.capacities }
+        ensures { IfOk result (λ terms. AreTermsOn (wan_in V.meaning self.now) (state_of self.now).closings
+            (state_of self.now).share link terms.items) }
+    {
+        let mut terms = Vec::new(alloc);
+        for group in 0..self.plan.groups() {
+            if let Some(term) = self.term_of(group, link) {
+                terms.push(term)?;
+            }
+        }
+        Ok(terms)
+    }
+
+    // The group, if it grows over the link.
+    fn term_of(&self, group: u32, link: u32) -> Option<Term>
+        requires moment { IsMoment V.meaning self.now }
+        requires group { group < length self.now.plan.now }
+        ensures { MatchOption result (GrowsNotOver (wan_in V.meaning self.now) (state_of self.now).closings link group)
+            (IsTermOf (wan_in V.meaning self.now) (state_of self.now).closings (state_of self.now).share group) }
+    {
+        let Standing::Grows { place, value } = self.standings[group as usize] else {
+            return None;
+        };
+        if !self.plan.uses(group, place, link) {
+            return None;
+        }
+        let amount = self.sums.amount(self.plan, group, place);
+        Some(Term {
+            group,
+            place,
+            amount,
+            value,
+        })
+    }
+
+    // What the group of the term has at the share, on the path group where it grows.
+    fn amount_then(&self, term: Term, share: u64) -> u64
+        requires moment { IsMoment V.meaning self.now }
+        requires term { IsTermOf (wan_in V.meaning self.now) (state_of self.now).closings (state_of self.now).share
+            term.group term }
+        requires last { last_share (state_of self.now).closings ≤ share }
+        requires within { share ≤ (V.meaning self.now.values.now).top }
+        ensures amount { result ≡ amounts_at (wan_in V.meaning self.now) (state_of self.now).closings share
+            term.group term.place }
+        ensures small { result ≤ MAX_TOTAL }
+    {
+        term.amount + self.values.value(term.group, share) - term.value
+    }
+
+    // Whether the link is over at the share.
+    fn is_over_at(&self, terms: &[Term], link: u32, share: u64) -> bool
+        requires moment { IsMoment V.meaning self.now }
+        requires link { link < length self.now.topology.now.capacities }
+        requires terms { AreTermsOn (wan_in V.meaning self.now) (state_of self.now).closings
+            (state_of self.now).share link terms.now }
+        requires last { last_share (state_of self.now).closings ≤ share }
+        requires within { share ≤ (V.meaning self.now.values.now).top }
+        ensures { result ≡ is_over_at (wan_in V.meaning self.now) (state_of self.now).closings share link }
+    {
+        let mut load = self.sums.load(link) as u128;
+        let mut held = self.topology.capacity(link) as u128;
+        for term in terms {
+            let then = self.amount_then(*term, share);
+            held += self.plan.load(term.group, term.place, link, term.amount) as u128;
+            load += self.plan.load(term.group, term.place, link, then) as u128;
+        }
+        load > held
+    }
+
+    // The greatest share at which the link fits, where it is over at a high one.
+    fn last_fit_below(&self, terms: &[Term], link: u32, low: u64, high: u64) -> u64
+        requires moment { IsMoment V.meaning self.now }
+        requires link { link < length self.now.topology.now.capacities }
+        requires terms { AreTermsOn (wan_in V.meaning self.now) (state_of self.now).closings
+            (state_of self.now).share link terms.now }
+        requires last { last_share (state_of self.now).closings ≤ low }
+        requires order { low < high }
+        requires within { high ≤ (V.meaning self.now.values.now).top }
+        requires over { is_over_at (wan_in V.meaning self.now) (state_of self.now).closings high link ≡ true }
+        ensures { IsLastFit (wan_in V.meaning self.now) (state_of self.now).closings link low high result }
+    {
+        let mut low = low;
+        let mut high = high - 1;
+        while low < high {
+            let middle = low + (high - low).div_ceil(2);
+            if self.is_over_at(terms, link, middle) {
+                high = middle - 1;
+            } else {
+                low = middle;
+            }
+        }
+        low
     }
 
     /// The filling, once the top is reached.

@@ -1,0 +1,25 @@
+use Rattle.std.proofs.Common.{◌≡◌, ◌<◌, ap, refl, subst, arith, List, length, Some, reverse}
+use Rattle.bwe_specs.specs.declared.network.Closing.{Closing}
+use Rattle.bwe_specs.specs.Filling.{Wan, closed_links}
+use Rattle.bwe_specs.proofs.Loads.{current-open}
+use Rattle.mpfa_fill.specs.declared.standing.Standing.TheVariants.{Grows, Stopped}
+use Rattle.mpfa_fill.specs.Standing.{IsStanding}
+use Rattle.mpfa_fill.specs.Moment.{wan_in}
+use Rattle.mpfa_fill.proofs.StandingLemmas.{standing-read}
+use Rattle.mpfa_fill.proofs.moment.Moment.term_of.Goals as goal
+
+pub uses-requires-clause-place : goal.uses-requires-clause-place
+uses-requires-clause-place g c =
+    let wan : Wan = wan_in g.V.GroupValues.meaning c.args.self.now in
+    let closings : List Closing = reverse c.args.self.now.closings.items in
+    let stands = standing-read (IsStanding wan closings c.args.self.now.share c.args.group) c.args.self.now.standings.items c.args.group _ c.index.result.now (Grows c.in-Grows.place c.in-Grows.value)
+    (omega (arith, c.requires.group, c.requires.moment.each_group)) c.index.ensures c.in-Grows.is (c.requires.moment.each c.args.group c.requires.group) in
+    (current-open _ (closed_links closings) c.in-Grows.place stands.0).0
+
+pub amount-amount-requires-clause-place : goal.amount-amount-requires-clause-place
+amount-amount-requires-clause-place g c =
+    let wan : Wan = wan_in g.V.GroupValues.meaning c.args.self.now in
+    let closings : List Closing = reverse c.args.self.now.closings.items in
+    let stands = standing-read (IsStanding wan closings c.args.self.now.share c.args.group) c.args.self.now.standings.items c.args.group _ c.index.result.now (Grows c.in-Grows.place c.in-Grows.value)
+    (omega (arith, c.requires.group, c.requires.moment.each_group)) c.index.ensures c.in-Grows.is (c.requires.moment.each c.args.group c.requires.group) in
+    (current-open _ (closed_links closings) c.in-Grows.place stands.0).0
