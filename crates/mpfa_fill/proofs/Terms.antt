@@ -1,11 +1,11 @@
 -- The load of one link, followed group by group from one share to another.
-use Rattle.std.proofs.Common.{◌≡◌, ℕ, ◌+◌, ◌<◌, ◌≤◌, List, [], ◌∷◌, ◌++◌, length, Option, Some, None, refl, sym, ◌∙◌, ap, subst, arith, le_refl, le_trans, slice_index_or, false, inl, inr}
+use Rattle.std.proofs.Common.{◌≡◌, ℕ, ◌+◌, ◌<◌, ◌≤◌, List, [], ◌∷◌, ◌++◌, length, Option, Some, None, refl, sym, ◌∙◌, ap, subst, arith, le_refl, slice_index_or, inl, inr}
 use Rattle.std.proofs.lemmas.Bool.{cases_eq}
 use Rattle.std.proofs.lemmas.List.Sums.{sum_by_push}
 use Rattle.bwe_specs.specs.declared.network.Closing.{Closing}
 use Rattle.bwe_specs.specs.Bounded.{sum_below}
-use Rattle.bwe_specs.specs.Paths.{path_group_at, path_group_count, uses, load_on, link_load}
-use Rattle.bwe_specs.specs.Filling.{Wan, closed_links, current_path_group_of, group_amount}
+use Rattle.bwe_specs.specs.Paths.{path_group_at, path_group_count, load_on, link_load}
+use Rattle.bwe_specs.specs.Filling.{Wan, closed_links, current_path_group_of}
 use Rattle.bwe_specs.specs.RightClosings.{last_share, amounts_at, AreRight}
 use Rattle.bwe_specs.specs.Values.{NeverFalls}
 use Rattle.bwe_specs.proofs.Bounds.{sum_below-term}
@@ -47,7 +47,7 @@ module _ (wan : Wan) (never : NeverFalls wan) (closings : List Closing) (now lin
         before,
         gone,
         link_load-one wan.groups x y link count place lt (current-open (slice_index_or wan.groups count []) (closed_links closings) place current).0
-        (λ h q other. sym (elsewhere h q other)),
+            (λ h q other. sym (elsewhere h q other)),
       ) where
         elsewhere : (h q : ℕ) → (h ≡ count → q ≡ place → ⊥) → part_moved wan closings now share (count + 1) h q ≡ part_moved wan closings now share count h q
         elsewhere h q other = elim (cases_eq h count) [

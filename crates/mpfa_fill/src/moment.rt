@@ -318,7 +318,7 @@ impl<'a, V: GroupValues> Moment<'a, V> {
     }
 }
 
-// Raises or lowers an amount as a value has changed.
+// Raises or lowers an amount as a value has changed. Where it has not, no load is touched.
 fn change(sums: &mut LinkSums, plan: &PathPlan, group: u32, place: u32, from: u64, to: u64)
     requires summed { IsSummedOver plan.now sums.old }
     requires group { group < length plan.now }
@@ -331,9 +331,9 @@ fn change(sums: &mut LinkSums, plan: &PathPlan, group: u32, place: u32, from: u6
     ensures others { (group' place' : ℕ) → (group' ≡ group → place' ≡ place → ⊥)
         → amount_at sums.new.amounts group' place' ≡ amount_at sums.old.amounts group' place' }
 {
-    if from <= to {
+    if from < to {
         sums.raise(plan, group, place, to - from);
-    } else {
+    } else if to < from {
         sums.lower(plan, group, place, from - to);
     }
 }

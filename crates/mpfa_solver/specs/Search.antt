@@ -1,5 +1,5 @@
 -- The search for the next share at which a link closes.
-use Rattle.std.specs.Prelude.{◌≡◌, ℕ, ◌≤◌, Bool, ◌&&◌, ◌||◌, List, [], nat_le, is_none}
+use Rattle.std.specs.Prelude.{◌≡◌, ℕ, ◌<◌, ◌≤◌, Bool, false, length, All, ◌&&◌, ◌||◌, List, [], nat_le, is_none, true, Option, Some, None}
 use Rattle.bwe_specs.specs.declared.network.Closing.{Closing}
 use Rattle.bwe_specs.specs.Filling.{Wan}
 use Rattle.bwe_specs.specs.RightClosings.{last_share, over_at}
@@ -24,3 +24,18 @@ pub record IsRise {V : Type 0} (meaning : V → Values) (wan : Wan) (closings : 
   pub same_top : top ≡ wan.top
   pub last : last_share closings ≤ from
   pub within : from ≤ wan.top
+
+-- no share above it fits
+pub record IsBound (fits : ℕ → Bool) (low top bound : ℕ) : Type 0 where
+  pub from : low ≤ bound
+  pub upto : bound ≤ top
+  pub none_above : (share : ℕ) → bound < share → share ≤ top → fits share ≡ false
+
+-- what a test at a share tells: that it fits, or a bound below it
+abbrev pub Tells : (ℕ → Bool) → ℕ → ℕ → ℕ → Option ℕ → Type 0
+Tells fits low top share None = fits share ≡ true
+Tells fits low top share (Some bound) = IsBound fits low top bound × (bound < share)
+
+-- they are numbers of links of what is filled
+abbrev pub AreLinks : Wan → List ℕ → Type 0
+AreLinks wan links = All (λ link. link < length wan.capacities) links

@@ -3,8 +3,7 @@ use Rattle.std.specs.Prelude.{ℕ, ◌+◌, List, length, min, max, nat_lt, if�
 use Rattle.bwe_specs.specs.declared.network.Closing.{Closing}
 use Rattle.bwe_specs.specs.Filling.{State}
 
--- the share that is looked at first in the search for the closing at this place: the hint's there, or else the top,
--- but none outside the search
+-- the share of the hint for the closing at this place, or else the top, but none outside the search
 abbrev pub hint_of : List Closing → ℕ → ℕ → ℕ → ℕ
 hint_of hints place low top = min top (max low (slice_index_or hints place (record { link = 0; share = top })).share)
 

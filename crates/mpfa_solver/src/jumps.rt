@@ -1,14 +1,15 @@
 //! The filling by jumps.
 
-ghost use Rattle.std.specs.Prelude.{◌≡◌, ℕ, ◌+◌, ◌*◌, ◌<◌, ◌≤◌, length, reverse, IfOk};
+ghost use Rattle.std.specs.Prelude.{◌≡◌, ℕ, ◌+◌, ◌*◌, ◌<◌, ◌≤◌, length, reverse, IfOk, OnOk};
 ghost use Rattle.bwe_specs.specs.Filling.{filling, IsReached};
 ghost use Rattle.path_groups.specs.Plan.{IsBuiltOn};
 ghost use Rattle.mpfa_fill.specs.GroupValues.{Values, wan_of};
 ghost use Rattle.mpfa_fill.specs.Filling.{IsFilling};
 ghost use Rattle.mpfa_fill.specs.Moment.{IsMoment, wan_in, state_of};
+ghost use Rattle.mpfa_solver.specs.Search.{AreLinks};
 ghost use Rattle.mpfa_solver.specs.Stops.{hint_of, searches};
 
-use crate::rise::risen;
+use crate::rise::{Notes, risen};
 use bwe_specs::OutOfMemory;
 use mono_search::Steps;
 use mpfa_fill::{Closing, Filling, GroupValues, Moment};
@@ -22,7 +23,8 @@ use wan_topology::Topology;
 /// share", docs/DEFINITIONS.md), found by one search for each closing.
 ///
 /// The hints say where links may close; they change the number of tests alone. The search for the closing at a place of
-/// the answer is begun at the share of the hint there, or at the top where there is none.
+/// the answer is begun at the share after that of the hint there. Where there is none, it is begun at the greatest share
+/// at which a link that an earlier search named by itself fits, or at the top.
 pub fn solve<'a, V: GroupValues, L: Ledger>(
     alloc: Global,
     values: &'a V,
@@ -44,41 +46,51 @@ pub fn solve<'a, V: GroupValues, L: Ledger>(
 {
     let top = values.top();
     let mut moment = Moment::first(alloc, values, topology, plan)?;
+    let mut notes = Notes {
+        named: Vec::new(alloc),
+        left: 0,
+    };
     while moment.share() < top {
-        moment = advanced(moment, top, hints, steps)?;
+        notes.left = notes.left.saturating_add(62);
+        moment = advanced(alloc, moment, top, hints, &mut notes, steps)?;
     }
     moment.into_filling(alloc)
 }
 
 // Takes a moment past the next closing, or to the top where there is none.
 fn advanced<'a, V: GroupValues, L: Ledger>(
+    alloc: Global,
     moment: Moment<'a, V>,
     top: u64,
     hints: &[Closing],
+    notes: &mut Notes,
     steps: &mut Steps<L>,
 ) -> Result<Moment<'a, V>, OutOfMemory>
     requires moment { IsMoment V.meaning moment }
     requires reached { IsReached (wan_in V.meaning moment) (state_of moment) }
     requires top { top ≡ (V.meaning moment.values.now).top }
     requires below { (state_of moment).share < top }
+    requires named { AreLinks (wan_in V.meaning moment) notes.old.named.items }
+    requires left { 62 ≤ notes.old.left }
     ensures moment { IfOk result (IsMoment V.meaning) }
     ensures wan { IfOk result (λ next. wan_in V.meaning next ≡ wan_in V.meaning moment.entry) }
     ensures reached { IfOk result (λ next. IsReached (wan_in V.meaning moment.entry) (state_of next)) }
     ensures search { IfOk result (λ next.
         searches top (state_of next) ≡ searches top (state_of moment.entry) + 1) }
-    ensures ticks { steps.new ≤ steps.old + 62 }
+    ensures named { OnOk result (AreLinks (wan_in V.meaning moment.entry) notes.new.named.items) }
+    ensures ticks { steps.new + notes.new.left ≤ steps.old + notes.old.left }
     ensures right_hints { hints.now ≡ reverse (filling (wan_in V.meaning moment.entry)).closings
         → steps.new ≤ steps.old + 2 }
 {
     let hint = hint_at(hints, moment.closings().len(), moment.share(), top);
-    let mut moment = risen::<V, Brand, L>(moment, top, hint, steps);
+    let mut moment = risen::<V, Brand, L>(alloc, moment, top, hint, notes, steps)?;
     if moment.share() < top {
         moment.step()?;
     }
     Ok(moment)
 }
 
-// The share to look at first in the search for the closing at this place.
+// The share of the hint for the closing at this place, brought into the range of the search.
 fn hint_at(hints: &[Closing], place: usize, low: u64, top: u64) -> u64
     ensures { result ≡ hint_of hints.now place low top }
 {

@@ -3,7 +3,8 @@
 //! `solve` answers what `fill_by_steps` of `mpfa_fill` answers, for every top share, and from any hints. The table of
 //! limits and the tiers are filled with it. It counts its tests on a `Steps`: a test is whether every link fits at one
 //! share. Hints that are the closings of the answer, as those of the last table mostly are, make two tests a closing.
-//! Nothing is promised of the time that a test takes.
+//! Without hints some two tests a closing do as well, by the shares at which single links are over: that is measured
+//! in `solver_cases`, and only the bound of 62 is proved. Nothing is promised of the time that a test takes.
 #![tactic(auto)]
 
 mod jumps;

@@ -10,5 +10,5 @@ mod numbers;
 mod tests;
 
 pub use counted::Counted;
-pub use made::{Size, made_groups, made_slopes, made_topology};
+pub use made::{Size, from_a_to_b, from_to, made_groups, made_slopes, made_topology};
 pub use numbers::Numbers;

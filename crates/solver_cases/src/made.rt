@@ -112,10 +112,21 @@ fn made_paths(
     Ok(paths)
 }
 
-fn from_a_to_b(alloc: Global, places: Vec<Vec<PathSpec>>) -> Result<GroupSpec, AllocError> {
+/// A group from site a to site b.
+pub fn from_a_to_b(alloc: Global, places: Vec<Vec<PathSpec>>) -> Result<GroupSpec, AllocError> {
+    from_to(alloc, "a", "b", places)
+}
+
+/// A group from a site to another.
+pub fn from_to(
+    alloc: Global,
+    from: &str,
+    to: &str,
+    places: Vec<Vec<PathSpec>>,
+) -> Result<GroupSpec, AllocError> {
     Ok(GroupSpec {
-        from: String::from_str(alloc, "a")?,
-        to: String::from_str(alloc, "b")?,
+        from: String::from_str(alloc, from)?,
+        to: String::from_str(alloc, to)?,
         places,
     })
 }

@@ -1,5 +1,4 @@
 use Rattle.std.proofs.Common.{◌≡◌, suc, ◌<◌, sym, ◌∙◌, ap, subst, arith, length, List}
-use Rattle.std.proofs.lemmas.List.{length-reverse}
 use Rattle.bwe_specs.specs.declared.network.Closing.{Closing}
 use Rattle.bwe_specs.specs.Filling.{Wan, State, filling_step, IsReached}
 use Rattle.bwe_specs.specs.RightClosings.{over_at}
@@ -8,9 +7,9 @@ use Rattle.bwe_specs.proofs.Steps.{reached-step}
 use Rattle.mpfa_fill.specs.declared.moment.Moment.{Moment}
 use Rattle.mpfa_fill.specs.Moment.{wan_in, state_of}
 use Rattle.mpfa_fill.proofs.MomentLemmas.{never_falls}
-use Rattle.mpfa_solver.specs.Stops.{hint_of}
 use Rattle.mpfa_solver.proofs.Levels.{over-next}
-use Rattle.mpfa_solver.proofs.NextStop.{risen-reached, risen-hint, step-adds, searches-below, searches-at_top}
+use Rattle.mpfa_solver.proofs.Limits.{hint-read}
+use Rattle.mpfa_solver.proofs.NextStop.{risen-reached, step-adds, searches-below, searches-at_top}
 use Rattle.mpfa_solver.proofs.jumps.advanced.Goals as goal
 use Rattle.mpfa_solver.proofs.jumps.advanced.Goals.{then-share-top+in_ok-step, else-share-top}
 
@@ -18,16 +17,16 @@ pub step-requires-clause-reached : goal.step-requires-clause-reached
 step-requires-clause-reached g c =
     let wan : Wan = wan_in g.V.GroupValues.meaning c.args.moment in
     let never : NeverFalls wan = never_falls _ _ _ c.requires.moment.known in
-    let e = c.risen-moment.ensures in
-    subst (λ w. IsReached w (state_of c.risen-moment.result)) (sym e.wan)
-    (risen-reached wan _ never (state_of c.args.moment) (state_of c.risen-moment.result) e.wan c.requires.reached e.closings e.answer e.moment.amounts)
+    let e = c.in_ok-moment.ensures in
+    subst (λ w. IsReached w (state_of c.in_ok-moment.moment)) (sym e.wan)
+    (risen-reached wan _ never (state_of c.args.moment) (state_of c.in_ok-moment.moment) e.wan c.requires.reached e.closings e.answer e.moment.amounts)
 
 pub returns-clause-reached : goal.returns-clause-reached
 returns-clause-reached g c =
     let wan : Wan = wan_in g.V.GroupValues.meaning c.args.moment in
     let never : NeverFalls wan = never_falls _ _ _ c.requires.moment.known in
-    let e = c.risen-moment.ensures in
-    let next : State = state_of c.risen-moment.result in
+    let e = c.in_ok-moment.ensures in
+    let next : State = state_of c.in_ok-moment.moment in
     let reached : IsReached wan next = risen-reached wan _ never (state_of c.args.moment) next e.wan c.requires.reached e.closings e.answer e.moment.amounts in
     elim c.if-share-top.branch [
       | then-share-top+in_ok-step w ↦
@@ -41,9 +40,9 @@ pub returns-clause-search : goal.returns-clause-search
 returns-clause-search g c =
     let wan : Wan = wan_in g.V.GroupValues.meaning c.args.moment in
     let never : NeverFalls wan = never_falls _ _ _ c.requires.moment.known in
-    let e = c.risen-moment.ensures in
+    let e = c.in_ok-moment.ensures in
     let state : State = state_of c.args.moment in
-    let next : State = state_of c.risen-moment.result in
+    let next : State = state_of c.in_ok-moment.moment in
     let reached : IsReached wan next = risen-reached wan _ never state next e.wan c.requires.reached e.closings e.answer e.moment.amounts in
     let before = searches-below c.args.top state c.requires.below in
     elim c.if-share-top.branch [
@@ -65,38 +64,23 @@ returns-clause-search g c =
           omega (arith, before, same, searches-at_top c.args.top final (omega (arith, ap (λ (s : State). s.share) is, c.share-2.ensures, w.if-share-top.false)))
     ]
 
+pub returns-in_err-moment-clause-right_hints : goal.returns-in_err-moment-clause-right_hints
+returns-in_err-moment-clause-right_hints g c right =
+    let wan : Wan = wan_in g.V.GroupValues.meaning c.args.moment in
+    let never : NeverFalls wan = never_falls _ _ _ c.requires.moment.known in
+    c.in_err-moment.ensures.right_hint
+    (hint-read wan never (state_of c.args.moment) c.args.hints.now c.closings.result.now c.share.result c.args.top c.hint_at-hint.result c.requires.reached c.closings.ensures c.share.ensures c.requires.top c.hint_at-hint.ensures right)
+
 pub returns-in_err-step-clause-right_hints : goal.returns-in_err-step-clause-right_hints
 returns-in_err-step-clause-right_hints g c right =
     let wan : Wan = wan_in g.V.GroupValues.meaning c.args.moment in
     let never : NeverFalls wan = never_falls _ _ _ c.requires.moment.known in
-    let e = c.risen-moment.ensures in
-    let state : State = state_of c.args.moment in
-    let next : State = state_of c.risen-moment.result in
-    let hints : List Closing = c.args.hints.now in
-    let reached : IsReached wan next = risen-reached wan _ never state next e.wan c.requires.reached e.closings e.answer e.moment.amounts in
-    let count : length c.closings.result.now ≡ length state.closings = omega (arith, ap length c.closings.ensures, length-reverse c.closings.result.now) in
-    let hint : c.hint_at-hint.result ≡ next.share =
-    c.hint_at-hint.ensures
-    ∙ ap (λ n. hint_of hints n c.share.result c.args.top) count
-    ∙ ap (λ low. hint_of hints (length state.closings) low c.args.top) c.share.ensures
-    ∙ ap (λ top. hint_of hints (length state.closings) state.share top) c.requires.top
-    ∙ risen-hint wan never state next hints reached e.closings e.answer right in
-    e.right_hint (sym hint)
+    c.in_ok-moment.ensures.right_hint
+    (hint-read wan never (state_of c.args.moment) c.args.hints.now c.closings.result.now c.share.result c.args.top c.hint_at-hint.result c.requires.reached c.closings.ensures c.share.ensures c.requires.top c.hint_at-hint.ensures right)
 
 pub returns-clause-right_hints : goal.returns-clause-right_hints
 returns-clause-right_hints g c right =
     let wan : Wan = wan_in g.V.GroupValues.meaning c.args.moment in
     let never : NeverFalls wan = never_falls _ _ _ c.requires.moment.known in
-    let e = c.risen-moment.ensures in
-    let state : State = state_of c.args.moment in
-    let next : State = state_of c.risen-moment.result in
-    let hints : List Closing = c.args.hints.now in
-    let reached : IsReached wan next = risen-reached wan _ never state next e.wan c.requires.reached e.closings e.answer e.moment.amounts in
-    let count : length c.closings.result.now ≡ length state.closings = omega (arith, ap length c.closings.ensures, length-reverse c.closings.result.now) in
-    let hint : c.hint_at-hint.result ≡ next.share =
-    c.hint_at-hint.ensures
-    ∙ ap (λ n. hint_of hints n c.share.result c.args.top) count
-    ∙ ap (λ low. hint_of hints (length state.closings) low c.args.top) c.share.ensures
-    ∙ ap (λ top. hint_of hints (length state.closings) state.share top) c.requires.top
-    ∙ risen-hint wan never state next hints reached e.closings e.answer right in
-    e.right_hint (sym hint)
+    c.in_ok-moment.ensures.right_hint
+    (hint-read wan never (state_of c.args.moment) c.args.hints.now c.closings.result.now c.share.result c.args.top c.hint_at-hint.result c.requires.reached c.closings.ensures c.share.ensures c.requires.top c.hint_at-hint.ensures right)

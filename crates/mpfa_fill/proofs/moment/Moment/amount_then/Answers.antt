@@ -1,4 +1,4 @@
-use Rattle.std.proofs.Common.{◌≡◌, refl, arith, List, reverse}
+use Rattle.std.proofs.Common.{refl, arith, List, reverse}
 use Rattle.bwe_specs.specs.declared.network.Closing.{Closing}
 use Rattle.bwe_specs.specs.Filling.{Wan, closed_links}
 use Rattle.bwe_specs.specs.Values.{NeverFalls}

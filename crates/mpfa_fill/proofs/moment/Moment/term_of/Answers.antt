@@ -1,8 +1,8 @@
-use Rattle.std.proofs.Common.{◌≡◌, ◌<◌, ap, refl, subst, arith, List, length, Some, reverse}
+use Rattle.std.proofs.Common.{arith, List, reverse}
 use Rattle.bwe_specs.specs.declared.network.Closing.{Closing}
 use Rattle.bwe_specs.specs.Filling.{Wan, closed_links}
 use Rattle.bwe_specs.proofs.Loads.{current-open}
-use Rattle.mpfa_fill.specs.declared.standing.Standing.TheVariants.{Grows, Stopped}
+use Rattle.mpfa_fill.specs.declared.standing.Standing.TheVariants.{Grows}
 use Rattle.mpfa_fill.specs.Standing.{IsStanding}
 use Rattle.mpfa_fill.specs.Moment.{wan_in}
 use Rattle.mpfa_fill.proofs.StandingLemmas.{standing-read}

@@ -5,7 +5,7 @@ use Rattle.bwe_specs.specs.Filling.{Wan}
 use Rattle.bwe_specs.specs.Values.{NeverFalls}
 use Rattle.mpfa_fill.specs.declared.moment.Term.{Term}
 use Rattle.mpfa_fill.specs.Moment.{wan_in}
-use Rattle.mpfa_fill.specs.LastFit.{IsTermOf, AreTermsOn}
+use Rattle.mpfa_fill.specs.LastFit.{IsTermOf}
 use Rattle.mpfa_fill.proofs.MomentLemmas.{never_falls}
 use Rattle.mpfa_fill.proofs.Terms.{Follows, follows-start, follows-none, follows-some, follows-end}
 use Rattle.mpfa_fill.proofs.moment.Moment.terms_on.Goals as goal

@@ -1,5 +1,4 @@
-use Rattle.std.proofs.Common.{length, reverse, All}
-use Rattle.bwe_specs.specs.Filling.{Wan}
+use Rattle.std.proofs.Common.{All}
 use Rattle.mpfa_fill.specs.Moment.{wan_in, state_of}
 use Rattle.mpfa_fill.specs.LastFit.{IsTermOf}
 use Rattle.mpfa_fill.proofs.Terms.{Follows}
