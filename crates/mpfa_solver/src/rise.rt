@@ -118,6 +118,7 @@ pub(crate) fn risen<'a, V: GroupValues, S: Search, L: Ledger>(
         notes.left -= SEARCH;
         return Ok(risen_by_halves::<V, S, L>(moment, low, top, bound, steps));
     }
+    // Nothing fits above `low`, where the filling stood when the search began.
     moment.go_to(low);
     Ok(moment)
 }

@@ -1,6 +1,6 @@
 //! The solver against the filling by steps, and how often it tests.
 
-ghost use Rattle.std.specs.Prelude.{◌≡◌, ◌<◌, length};
+ghost use Rattle.std.specs.Prelude.{◌≡◌, ◌<◌, ◌≤◌, length};
 ghost use Rattle.path_groups.specs.Plan.{IsBuiltOn};
 ghost use Rattle.mpfa_fill.specs.GroupValues.{Values};
 
@@ -10,8 +10,8 @@ use fill_cases::{Line, Slope, Slopes, path, plan_over, topology_of};
 use mono_search::Steps;
 use mpfa_fill::{Closing, Filling, GroupValues, fill_by_steps};
 use mpfa_solver::solve;
-use path_groups::PathPlan;
-use std::alloc::Global;
+use path_groups::{GroupSpec, PathPlan, PathSpec};
+use std::alloc::{AllocError, Global};
 use std::marker::Brand;
 use std::process::Abort;
 use std::sync::ledger::{Blank, Ledger};
@@ -95,13 +95,23 @@ fn both_fillings_agree(rt: HostRuntime) -> Result<(), Fail> {
     Ok(())
 }
 
-// At most how many tests the solver made, where the last group is alone on a link that is never over. The counter of the
-// tests is one that no code can read, so the moves of the whole filling are counted: each test is one, and each closing
-// takes two more, to the next share and back.
-fn tests(values: &Counted, filling: &Filling) -> u64 {
-    values
-        .asked()
-        .saturating_sub(2 * filling.closings.len() as u64)
+// The filling that the solver finds from the hints, and at most how many tests it made, where the last group is alone on
+// a link that is never over. The counter of the tests is one that no code can read, so the moves of the whole filling
+// are counted: each test is one, and each closing takes two more, to the next share and back.
+fn counted(
+    rt: &impl Abort,
+    alloc: Global,
+    topology: &Topology,
+    groups: Vec<GroupSpec>,
+    slopes: Slopes,
+    hints: &[Closing],
+) -> Result<(Filling, u64), Fail> {
+    let values = Counted::new(slopes);
+    let plan = plan_over(alloc, topology, groups).expect(rt, "in range")?;
+    let filling = solved(rt, alloc, &values, topology, &plan, hints)?;
+    let closings = filling.closings.len() as u64;
+    let tests = values.asked().saturating_sub(2 * closings);
+    Ok((filling, tests))
 }
 
 fn line<'a>(name: &'a str, from: &'a str, to: &'a str, capacity: u64) -> Line<'a> {
@@ -113,6 +123,35 @@ fn line<'a>(name: &'a str, from: &'a str, to: &'a str, capacity: u64) -> Line<'a
     }
 }
 
+// So many groups that rise by one a share up to the top.
+fn alike(alloc: Global, groups: usize, top: u32) -> Result<Slopes, AllocError>
+    requires groups { groups ≤ 1_000 }
+    requires top { top ≤ 1_000_000_000 }
+{
+    let top_share = u64::from(top);
+    let slope = Slope {
+        rise: 1,
+        demand: top,
+        again: top_share,
+    };
+    let slopes = vec![in alloc; slope; groups]?;
+    Ok(Slopes {
+        top: top_share,
+        slopes,
+    })
+}
+
+// A path group of one path over these links.
+fn over(alloc: Global, links: &[u32]) -> Result<Vec<PathSpec>, AllocError> {
+    Ok(vec![in alloc; path(alloc, 1, links)?]?)
+}
+
+// A group of one path over the link.
+fn on_link(alloc: Global, link: u32) -> Result<GroupSpec, AllocError> {
+    let places = vec![in alloc; over(alloc, &[link])?]?;
+    from_a_to_b(alloc, places)
+}
+
 // The case Billion shares, which no stepping reaches, with a second group alone on a link of its own.
 #[test]
 fn a_billion_shares_take_few_tests(rt: HostRuntime) -> Result<(), Fail> {
@@ -122,34 +161,34 @@ fn a_billion_shares_take_few_tests(rt: HostRuntime) -> Result<(), Fail> {
         line("l0", "a", "b", share),
         line("alone", "a", "b", 1_000_000_000),
     ];
+    let topology = topology_of(alloc, &lines)?;
     let right = [Closing { link: 0, share }];
     for (hints, most) in [([].as_slice(), 124), (right.as_slice(), 4)] {
-        let topology = topology_of(alloc, &lines)?;
-        let first = vec![in alloc; vec![in alloc; path(alloc, 1, &[0])?]?]?;
-        let alone = vec![in alloc; vec![in alloc; path(alloc, 1, &[1])?]?]?;
-        let groups = vec![in alloc; from_a_to_b(alloc, first)?, from_a_to_b(alloc, alone)?]?;
-        let plan = plan_over(alloc, &topology, groups).expect(&rt, "in range")?;
-        let slope = Slope {
-            rise: 1,
-            demand: 1_000_000_000,
-            again: 1_000_000_000,
-        };
-        let values = Counted::new(Slopes {
-            top: 1_000_000_000,
-            slopes: vec![in alloc; slope, slope]?,
-        });
-        let filling = solved(&rt, alloc, &values, &topology, &plan, hints)?;
+        let groups = vec![in alloc; on_link(alloc, 0)?, on_link(alloc, 1)?]?;
+        let slopes = alike(alloc, 2, 1_000_000_000)?;
+        let (filling, tests) = counted(&rt, alloc, &topology, groups, slopes, hints)?;
         assert!(rt; filling.closings.as_slice() == right.as_slice());
         assert!(rt; filling.shares.as_slice() == [share, 1_000_000_000].as_slice());
-        assert_eq!(rt; filling.amounts.len(), 2);
+        assert!(rt; 0 < filling.amounts.len());
         assert!(rt; filling.amounts[0].as_slice() == [share].as_slice());
-        let made = tests(&values, &filling);
-        assert!(rt; made <= most, "{made} tests");
+        assert!(rt; tests <= most, "{tests} tests");
     }
     Ok(())
 }
 
-// The case Lowest link first, with a further group alone on a link of its own.
+// The groups of the case Lowest link first, and one more alone on link 3.
+fn lowest_link_first(alloc: Global) -> Result<Vec<GroupSpec>, AllocError> {
+    let first = vec![in alloc; over(alloc, &[1, 2])?, over(alloc, &[0])?]?;
+    let second = vec![in alloc; over(alloc, &[2])?]?;
+    let mut groups = Vec::new(alloc);
+    groups.push(from_a_to_b(alloc, first)?)?;
+    groups.push(from_to(alloc, "m", "b", second)?)?;
+    groups.push(on_link(alloc, 0)?)?;
+    groups.push(on_link(alloc, 3)?)?;
+    Ok(groups)
+}
+
+// The case Lowest link first.
 #[test]
 fn lowest_link_first_takes_under_three_tests_a_closing(rt: HostRuntime) -> Result<(), Fail> {
     let alloc = rt.alloc();
@@ -159,39 +198,17 @@ fn lowest_link_first_takes_under_three_tests_a_closing(rt: HostRuntime) -> Resul
         line("l2", "m", "b", 21),
         line("alone", "a", "b", 100),
     ];
-    let slope = Slope {
-        rise: 1,
-        demand: 100,
-        again: 100,
-    };
     let topology = topology_of(alloc, &lines)?;
-    let first = vec![in alloc;
-        vec![in alloc; path(alloc, 1, &[1, 2])?]?,
-        vec![in alloc; path(alloc, 1, &[0])?]?,
-    ]?;
-    let second = vec![in alloc; vec![in alloc; path(alloc, 1, &[2])?]?]?;
-    let third = vec![in alloc; vec![in alloc; path(alloc, 1, &[0])?]?]?;
-    let alone = vec![in alloc; vec![in alloc; path(alloc, 1, &[3])?]?]?;
-    let groups = vec![in alloc;
-        from_a_to_b(alloc, first)?,
-        from_to(alloc, "m", "b", second)?,
-        from_a_to_b(alloc, third)?,
-        from_a_to_b(alloc, alone)?,
-    ]?;
-    let plan = plan_over(alloc, &topology, groups).expect(&rt, "in range")?;
-    let values = Counted::new(Slopes {
-        top: 100,
-        slopes: vec![in alloc; slope, slope, slope, slope]?,
-    });
-    let filling = solved(&rt, alloc, &values, &topology, &plan, &[])?;
+    let groups = lowest_link_first(alloc)?;
+    let slopes = alike(alloc, 4, 100)?;
+    let (filling, tests) = counted(&rt, alloc, &topology, groups, slopes, &[])?;
     let closings = [
         Closing { link: 1, share: 10 },
         Closing { link: 0, share: 10 },
         Closing { link: 2, share: 11 },
     ];
     assert!(rt; filling.closings.as_slice() == closings.as_slice());
-    let made = tests(&values, &filling);
-    assert!(rt; made < 9, "{made} tests");
+    assert!(rt; tests < 9, "{tests} tests");
     Ok(())
 }
 
@@ -210,13 +227,14 @@ fn a_made_network_takes_under_three_tests_a_closing(rt: HostRuntime) -> Result<(
         let mut numbers = Numbers::following(seed);
         let topology = made_topology(alloc, size, &mut numbers)?;
         let groups = made_groups(alloc, size, &mut numbers)?;
-        let values = Counted::new(made_slopes(alloc, size, &mut numbers)?);
-        let plan = plan_over(alloc, &topology, groups).expect(&rt, "in range")?;
-        let filling = solved(&rt, alloc, &values, &topology, &plan, &[])?;
+        let slopes = made_slopes(alloc, size, &mut numbers)?;
+        let (filling, tests) = counted(&rt, alloc, &topology, groups, slopes, &[])?;
         let closings = filling.closings.len() as u64;
         assert!(rt; 150 < closings, "{closings} closings");
-        let made = tests(&values, &filling);
-        assert!(rt; made < closings.saturating_mul(3), "{made} tests for {closings} closings");
+        assert!(rt;
+            tests < closings.saturating_mul(3),
+            "{tests} tests for {closings} closings"
+        );
     }
     Ok(())
 }
