@@ -8,3 +8,7 @@ pub mod Homes
 pub mod TreeFacts
 pub mod Counting
 pub mod TestTrees
+pub mod SeenPlaces
+pub mod WalkSeen
+pub mod ChildLists
+pub mod TaskValues

@@ -1,5 +1,5 @@
 -- How many nodes and tasks the trees of the tests have.
-use Rattle.std.proofs.Common.{◌≡◌, ℕ, suc, ◌+◌, Bool, List, [], ◌∷◌, length, flat_map, sum_by, refl, ap, arith}
+use Rattle.std.proofs.Common.{◌≡◌, ℕ, suc, ◌+◌, Bool, List, [], ◌∷◌, ◌++◌, length, flat_map, sum_by, refl, ap, arith}
 use Rattle.std.proofs.lemmas.List.{length-append}
 use Rattle.std.proofs.lemmas.List.Sums.{sum_by-cons}
 use Rattle.policy_tree.specs.declared.spec.JobSpec.{JobSpec}
@@ -39,3 +39,14 @@ none-tasks cluster clusters one none =
     let a = ap (λ (specs : List ClusterSpec). sum_by cluster_weights specs) one in
     let b = ap (λ (specs : List UserSpec). sum_by user_weights specs) none in
     omega (arith, a, sum_by-cons cluster_weights cluster [], b)
+
+-- two clusters
+pub two-nodes : (first second : ClusterSpec) (clusters : List ClusterSpec) → clusters ≡ first ∷ second ∷ [] → length (flat_map cluster_childless clusters) ≡ length (cluster_childless first) + length (cluster_childless second)
+two-nodes first second clusters two =
+    let a = ap (λ (specs : List ClusterSpec). length (flat_map cluster_childless specs)) two in
+    omega (arith, a, length-append (cluster_childless first) (cluster_childless second ++ []), length-append (cluster_childless second) [])
+
+pub two-tasks : (first second : ClusterSpec) (clusters : List ClusterSpec) → clusters ≡ first ∷ second ∷ [] → sum_by cluster_weights clusters ≡ cluster_weights first + cluster_weights second
+two-tasks first second clusters two =
+    let a = ap (λ (specs : List ClusterSpec). sum_by cluster_weights specs) two in
+    omega (arith, a, sum_by-cons cluster_weights first (second ∷ []), sum_by-cons cluster_weights second [])

@@ -19,6 +19,8 @@ use Rattle.capped_sum.specs.Index.{IsInRange}
 use Rattle.policy_tree.specs.declared.home.Home.{Home}
 use Rattle.policy_tree.specs.States.{JobState, UserState, ClusterState, job_tasks, user_tasks, cluster_tasks, cluster_meaning, IsKeptFunction, IsJobState, IsUserState, IsClusterState}
 use Rattle.policy_tree.specs.Asked.{HasTop}
+use Rattle.policy_tree.specs.Walk.{walk}
+use Rattle.policy_tree.specs.Children.{child_lists}
 use Rattle.policy_tree.specs.Changes.{job_at, user_at, cluster_at, job_with, user_with, cluster_with}
 use Rattle.policy_tree.specs.Numbering.{numbered, points_by, numbered_task, numbered_tasks, numbered_job, numbered_jobs, numbered_user, numbered_users, numbered_cluster, numbered_clusters, job_demands, user_demands, cluster_demands, demands_of}
 use Rattle.policy_tree.specs.Trees.{Tree, demand_in, value_in, job_numbers, user_numbers, cluster_numbers, task_numbers, IsTree, tree_of}
@@ -98,7 +100,7 @@ unfolding numbered
 tasks-numbers first [] = refl
 tasks-numbers first (task ∷ tasks) = ap (λ rest. first ∷ rest) (tasks-numbers (first + 1) tasks)
 
-job-numbers : (first : ℕ) (job : JobState) → job_numbers (numbered_job first job) ≡ range_with_len first (job_tasks job)
+pub job-numbers : (first : ℕ) (job : JobState) → job_numbers (numbered_job first job) ≡ range_with_len first (job_tasks job)
 job-numbers first job = tasks-numbers first job.sum.tasks
 
 user-numbers : (first : ℕ) (user : UserState) → user_numbers (numbered_user first user) ≡ range_with_len first (user_tasks user)
@@ -126,8 +128,8 @@ user-demands-few user is = demands-few job_demands IsJobState job-demands-few us
 cluster-demands-few : (cluster : ClusterState) → IsClusterState cluster → All (λ demand. demand ≤ MAX_AMOUNT) (cluster_demands cluster)
 cluster-demands-few cluster is = demands-few user_demands IsUserState user-demands-few cluster.users is.users
 
-pub tree-is : (top : ℕ) (clusters : List ClusterState) (homes : List Home) (firsts : List ℕ) → IsKeptTree top clusters homes firsts → IsTree (tree_of top clusters)
-tree-is top clusters homes firsts kept = record {
+pub tree-is : (top : ℕ) (clusters : List ClusterState) (homes : List Home) (firsts : List ℕ) (lists : List (List ℕ)) → IsKeptTree top clusters homes firsts lists → IsTree (tree_of top clusters)
+tree-is top clusters homes firsts lists kept = record {
   low = kept.low;
   high = kept.high;
   functions = clusters-are top 0 clusters kept.are kept.tops;
@@ -174,10 +176,10 @@ unfolding sum_below
 sum_below-same zero f g same = refl
 sum_below-same (suc n) f g same = ap₂ (λ a b. a + b) (sum_below-same n f g (λ i lt. same i (omega arith))) (same n (omega arith))
 
-pub values-are : (top : ℕ) (clusters : List ClusterState) (homes : List Home) (firsts : List ℕ) → IsKeptTree top clusters homes firsts → AreValues (length (numbered_clusters clusters)) top (value_in (tree_of top clusters))
-values-are top clusters homes firsts kept =
+pub values-are : (top : ℕ) (clusters : List ClusterState) (homes : List Home) (firsts : List ℕ) (lists : List (List ℕ)) → IsKeptTree top clusters homes firsts lists → AreValues (length (numbered_clusters clusters)) top (value_in (tree_of top clusters))
+values-are top clusters homes firsts lists kept =
     let tree = tree_of top clusters in
-    let share_function = value-share_function tree (tree-is top clusters homes firsts kept).functions in
+    let share_function = value-share_function tree (tree-is top clusters homes firsts lists kept).functions in
     let size = length-numbered cluster_tasks numbered_cluster 0 clusters in
     let all : sum_below (length clusters) (λ group. value_in tree group top) ≡ children_sum (map cluster_meaning clusters) top =
     sum_below-same (length clusters) (λ group. value_in tree group top) (λ group. cluster_meaning (cluster_at clusters group) top) (λ group lt. value-agrees top clusters kept.tops group top lt)
@@ -237,9 +239,9 @@ tops-with top clusters cluster user job task demand have within within_user with
     }) have
 
 -- what is kept, with another demand
-pub kept-with : (top : ℕ) (clusters : List ClusterState) (homes : List Home) (firsts : List ℕ) (number : ℕ) (home : Home) (demand : ℕ) → IsKeptTree top clusters homes firsts → IsAt clusters number home → demand ≤ 1_000_000_000_000
-    → IsKeptTree top (set clusters home.cluster (cluster_with (cluster_at clusters home.cluster) home.user home.job home.task demand)) homes firsts
-kept-with top clusters homes firsts number home demand kept is few =
+pub kept-with : (top : ℕ) (clusters : List ClusterState) (homes : List Home) (firsts : List ℕ) (lists : List (List ℕ)) (number : ℕ) (home : Home) (demand : ℕ) → IsKeptTree top clusters homes firsts lists → IsAt clusters number home → demand ≤ 1_000_000_000_000
+    → IsKeptTree top (set clusters home.cluster (cluster_with (cluster_at clusters home.cluster) home.user home.job home.task demand)) homes firsts lists
+kept-with top clusters homes firsts lists number home demand kept is few =
     let held = cluster_at clusters home.cluster in
     record {
       low = kept.low;
@@ -250,20 +252,22 @@ kept-with top clusters homes firsts number home demand kept is few =
       few = omega (arith, kept.few, sum_by-set_same cluster_tasks clusters home.cluster (cluster_with held home.user home.job home.task demand) _ (cluster_tasks-with held home.user home.job home.task demand));
       tasks = subst (λ (counts : List (List (List ℕ))). AreHomes counts homes) (sym (counts-with clusters home.cluster home.user home.job home.task demand)) kept.tasks;
       starts = subst (λ (counts : List (List (List ℕ))). AreFirsts counts firsts) (sym (counts-with clusters home.cluster home.user home.job home.task demand)) kept.starts;
+      nodes = subst (λ (numbered : List Cluster). length (walk numbered) < 4_294_967_296) (sym (numbered-with clusters home.cluster home.user home.job home.task demand)) kept.nodes;
+      children = kept.children ∙ ap (λ (numbered : List Cluster). child_lists 0 (walk numbered)) (sym (numbered-with clusters home.cluster home.user home.job home.task demand));
     }
 
 -- each task is at home
-pub length-homes : (top : ℕ) (clusters : List ClusterState) (homes : List Home) (firsts : List ℕ) → IsKeptTree top clusters homes firsts → length (demands_of clusters) ≡ length homes
-length-homes top clusters homes firsts kept = sym (kept.tasks.size ∙ counts_of-length clusters)
+pub length-homes : (top : ℕ) (clusters : List ClusterState) (homes : List Home) (firsts : List ℕ) (lists : List (List ℕ)) → IsKeptTree top clusters homes firsts lists → length (demands_of clusters) ≡ length homes
+length-homes top clusters homes firsts lists kept = sym (kept.tasks.size ∙ counts_of-length clusters)
 
-pub home-known : (top : ℕ) (clusters : List ClusterState) (homes : List Home) (firsts : List ℕ) (tree : Tree) → IsKeptTree top clusters homes firsts → tree_of top clusters ≡ tree
+pub home-known : (top : ℕ) (clusters : List ClusterState) (homes : List Home) (firsts : List ℕ) (lists : List (List ℕ)) (tree : Tree) → IsKeptTree top clusters homes firsts lists → tree_of top clusters ≡ tree
     → (task : ℕ) → task < length tree.demands → task < length homes
-home-known top clusters homes firsts tree kept same task lt =
-    let e : length tree.demands ≡ length homes = ap (λ (t : Tree). length t.demands) (sym same) ∙ length-homes top clusters homes firsts kept in
+home-known top clusters homes firsts lists tree kept same task lt =
+    let e : length tree.demands ≡ length homes = ap (λ (t : Tree). length t.demands) (sym same) ∙ length-homes top clusters homes firsts lists kept in
     omega arith
 
-pub home-is : (top : ℕ) (clusters : List ClusterState) (homes : List Home) (firsts : List ℕ) → IsKeptTree top clusters homes firsts → (task : ℕ) (home : Home) → task < length homes → home ≡ get_or homes task home → IsAt clusters task home
-home-is top clusters homes firsts kept task home lt read = home-at clusters task home (subst (IsHome (counts_of clusters) task) (sym read) (kept.tasks.each task home lt))
+pub home-is : (top : ℕ) (clusters : List ClusterState) (homes : List Home) (firsts : List ℕ) (lists : List (List ℕ)) → IsKeptTree top clusters homes firsts lists → (task : ℕ) (home : Home) → task < length homes → home ≡ get_or homes task home → IsAt clusters task home
+home-is top clusters homes firsts lists kept task home lt read = home-at clusters task home (subst (IsHome (counts_of clusters) task) (sym read) (kept.tasks.each task home lt))
 
 pub length-clusters : (top : ℕ) (clusters : List ClusterState) (tree : Tree) → tree_of top clusters ≡ tree → length tree.clusters ≡ length clusters
 length-clusters top clusters tree same = ap (λ (t : Tree). length t.clusters) (sym same) ∙ length-numbered cluster_tasks numbered_cluster 0 clusters
@@ -275,9 +279,9 @@ first-numbered top clusters group =
     ∙ ap (λ (numbers : List ℕ). length numbers) (clusters-numbers (take group clusters))
     ∙ length-range_with_len 0 (sum_by cluster_tasks (take group clusters))
 
-pub first-kept : (top : ℕ) (clusters : List ClusterState) (homes : List Home) (firsts : List ℕ) → IsKeptTree top clusters homes firsts → (group : ℕ) → group < length clusters
+pub first-kept : (top : ℕ) (clusters : List ClusterState) (homes : List Home) (firsts : List ℕ) (lists : List (List ℕ)) → IsKeptTree top clusters homes firsts lists → (group : ℕ) → group < length clusters
     → get_or firsts group 0 ≡ first_in (tree_of top clusters) group
-first-kept top clusters homes firsts kept group lt =
+first-kept top clusters homes firsts lists kept group lt =
     kept.starts.each group (omega (arith, length-map clusters cluster_counts, lt)) ∙ counts-before clusters group ∙ sym (first-numbered top clusters group)
 
 pub cluster-of : (top : ℕ) (clusters : List ClusterState) → All (HaveClusterTop top) clusters → (group : ℕ) → group < length clusters → IsClusterOf (tree_of top clusters) group (cluster_at clusters group)

@@ -1,9 +1,12 @@
--- What a tree keeps beside its nodes: where each task is.
+-- What a tree keeps beside its nodes: where each task is, and the numbers of children.
 use Rattle.std.specs.Prelude.{◌≡◌, ℕ, ◌+◌, ◌<◌, ◌≤◌, List, [], length, map, take, sum, sum_by, slice_index, slice_index_or, All}
 use Rattle.bwe_specs.specs.declared.limits.TheConstants.{MAX_SHARE}
 use Rattle.policy_tree.specs.declared.home.Home.{Home}
 use Rattle.policy_tree.specs.States.{JobState, UserState, ClusterState, job_tasks, cluster_tasks, IsClusterState}
 use Rattle.policy_tree.specs.Asked.{HasTop}
+use Rattle.policy_tree.specs.Numbering.{numbered_clusters}
+use Rattle.policy_tree.specs.Walk.{walk}
+use Rattle.policy_tree.specs.Children.{child_lists}
 
 -- how many tasks each job has
 abbrev pub user_counts : UserState → List ℕ
@@ -54,8 +57,8 @@ pub record HaveClusterTop (top : ℕ) (cluster : ClusterState) : Type 0 where
   pub configured : HasTop top cluster.configured
   pub users : All (HaveUserTop top) cluster.users
 
--- the nodes of a tree, and the homes of its tasks
-pub record IsKeptTree (top : ℕ) (clusters : List ClusterState) (homes : List Home) (firsts : List ℕ) : Type 0 where
+-- the nodes of a tree, the homes of its tasks, and the children of each node
+pub record IsKeptTree (top : ℕ) (clusters : List ClusterState) (homes : List Home) (firsts : List ℕ) (lists : List (List ℕ)) : Type 0 where
   pub low : 1 ≤ top
   pub high : top ≤ MAX_SHARE
   pub groups : length clusters < 4_294_967_296
@@ -64,3 +67,5 @@ pub record IsKeptTree (top : ℕ) (clusters : List ClusterState) (homes : List H
   pub few : sum_by cluster_tasks clusters ≤ 20_000
   pub tasks : AreHomes (counts_of clusters) homes
   pub starts : AreFirsts (counts_of clusters) firsts
+  pub nodes : length (walk (numbered_clusters clusters)) < 4_294_967_296
+  pub children : lists ≡ child_lists 0 (walk (numbered_clusters clusters))

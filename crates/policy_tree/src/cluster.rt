@@ -5,6 +5,7 @@ ghost use Rattle.function_sum.specs.Meaning.{IsMeaning};
 ghost use Rattle.capped_sum.specs.CappedSum.{task_at};
 ghost use Rattle.policy_tree.specs.States.{cluster_meaning, users_meaning, job_tasks, IsUserState, IsClusterState};
 ghost use Rattle.policy_tree.specs.Asked.{HasUserWeights, HasClusterWeights, user_weights, cluster_weights, idle_user, idle_cluster};
+ghost use Rattle.policy_tree.specs.Seen.{value_at};
 ghost use Rattle.policy_tree.specs.Changes.{job_at, user_at, cluster_with};
 
 use crate::job::transform_of;
@@ -88,6 +89,16 @@ impl ClusterNode {
             ≡ (task_at (job_at (user_at self.now.users user).jobs job).sum.tasks task).demand }
     {
         self.users[user].demand(job, task)
+    }
+
+    /// The value of a task of a user's job.
+    pub(crate) fn task_value(&self, user: usize, job: usize, task: u32, share: u64) -> u64
+        requires user { user < length self.now.users }
+        requires job { job < length (user_at self.now.users user).jobs }
+        requires task { task < job_tasks (job_at (user_at self.now.users user).jobs job) }
+        ensures { result ≡ value_at (job_at (user_at self.now.users user).jobs job) task share }
+    {
+        self.users[user].task_value(job, task, share)
     }
 
     /// Makes the value cheap again.

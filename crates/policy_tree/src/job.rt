@@ -6,6 +6,7 @@ ghost use Rattle.capped_sum.specs.CappedSum.{task_at};
 ghost use Rattle.policy_tree.specs.States.{job_meaning, job_tasks, configured_by, IsKeptFunction, IsJobState};
 ghost use Rattle.policy_tree.specs.Asked.{AreWeights, idle_job};
 ghost use Rattle.policy_tree.specs.Changes.{job_with};
+ghost use Rattle.policy_tree.specs.Seen.{value_at};
 
 use crate::spec::JobSpec;
 use crate::value::{rebuild, value_at};
@@ -87,6 +88,15 @@ impl JobNode {
         ensures { result ≡ (task_at self.now.sum.tasks task).demand }
     {
         self.sum.demand(task)
+    }
+
+    /// The value of a task: its weight times its function's value, and at most its demand.
+    pub(crate) fn task_value(&self, task: u32, share: u64) -> u64
+        requires { task < length self.now.sum.tasks }
+        ensures { result ≡ value_at self.now task share }
+    {
+        let most = self.sum.weight(task) as u128 * self.sum.function().value(share) as u128;
+        most.min(self.sum.demand(task) as u128) as u64
     }
 
     /// Makes the value cheap again.

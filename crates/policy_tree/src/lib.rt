@@ -7,9 +7,24 @@
 //! most `MAX_TOTAL` at the top.
 //!
 //! What a value costs: without configured functions one sum a job, each a search in the job's order of demands. A node
-//! with a configured function looks its inner share up: two sums of its children where the share is a matched one and
-//! nothing changed since `rematch`, a few where its children's sum is near a line between two matched shares, and at most
-//! 62 in any case. A changed demand makes the sum of its own job slow until the next `rematch`, and no other.
+//! with a configured function looks its inner share up, in so many sums of its children as `share_transform` says: two
+//! where the share is a matched one and nothing changed since `rematch`, some three to five elsewhere, and never more than
+//! 62. One more sum of its children gives its value. So with functions on all three levels the sums of a job are about the
+//! third power of five. Measured with one cluster of one user with three jobs, functions of four points on all three
+//! levels, demands set and then `rematch`, at 200 shares of ten made trees for each row:
+//!
+//! | top | amounts up to some | tasks a job | sums of each job for one group value | at most | time |
+//! |---|---|---|---|---|---|
+//! | 1,000 | 10,000,000 | 20 | 137 | 318 | 0.03 ms |
+//! | 1,000,000 | 10,000,000 | 20 | 188 | 384 | 0.05 ms |
+//! | 1,000,000 | 10,000,000 | 1,000 | 289 | 806 | 0.06 ms |
+//! | 1,000,000,000 | 1,000,000,000 | 20 | 556 | 2,288 | 0.1 ms |
+//! | 1,000,000,000 | 10,000,000 | 20 | 3,542 | 7,377 | 0.7 ms |
+//!
+//! In the last two rows amounts stay the same over many shares, and each end of such a stretch is found by halves on every
+//! level. There the aim of a few hundred sums is missed.
+//! A changed demand makes the sum of its own job slow until the next `rematch`, and no other. A node is looked up by its
+//! number in the order of the numbers.
 //! Nothing is promised of that cost in a contract, nor of how values are kept.
 #![tactic(auto)]
 
@@ -18,6 +33,7 @@ mod cluster;
 mod fault;
 mod home;
 mod job;
+mod kind;
 mod siblings;
 mod spec;
 #[cfg(test)]
@@ -25,10 +41,12 @@ mod tests;
 mod tree;
 mod user;
 mod value;
+mod walked;
 
 pub use cluster::ClusterNode;
 pub use fault::{TreeError, TreeFault};
 pub use job::JobNode;
+pub use kind::Kind;
 pub use spec::{ClusterSpec, JobSpec, TreeSpec, UserSpec};
 pub use tree::PolicyTree;
 pub use user::UserNode;

@@ -1,9 +1,10 @@
 //! The worked cases of the tree.
 
-ghost use Rattle.std.specs.Prelude.{◌≡◌, ◌<◌, ◌≤◌, length, sum_by, All};
-ghost use Rattle.policy_tree.specs.Asked.{HasTop, HasJobTop, HasJobWeights, job_weights};
+ghost use Rattle.std.specs.Prelude.{◌≡◌, ◌<◌, ◌≤◌, length, sum_by, All, IfOk};
+ghost use Rattle.policy_tree.specs.Asked.{HasTop, HasJobTop, HasClusterTop, HasJobWeights, HasClusterWeights, job_weights, cluster_weights};
+ghost use Rattle.policy_tree.specs.Childless.{cluster_childless};
 
-use crate::{ClusterSpec, JobSpec, PolicyTree, TreeError, TreeFault, TreeSpec, UserSpec};
+use crate::{ClusterSpec, JobSpec, Kind, PolicyTree, TreeError, TreeFault, TreeSpec, UserSpec};
 use bw_function::BwFunction;
 use bwe_specs::MAX_SHARE;
 use std::alloc::Global;
@@ -13,24 +14,7 @@ use std::test::Fail;
 #[test]
 fn a_configured_user_meets_its_jobs(rt: HostRuntime) -> Result<(), Fail> {
     let alloc = rt.alloc();
-    let first = JobSpec {
-        function: None,
-        task: BwFunction::new(alloc, &[(0, 0), (10, 100)], 10)?,
-        weights: vec![in alloc; 1]?,
-    };
-    let second = JobSpec {
-        function: None,
-        task: BwFunction::new(alloc, &[(0, 0), (10, 50)], 10)?,
-        weights: vec![in alloc; 1]?,
-    };
-    let function = Some(BwFunction::new(alloc, &[(0, 0), (10, 60)], 10)?);
-    let mut tree = built(alloc, 10, function, vec![in alloc; first, second]?)?;
-    assert_eq!(rt; tree.groups(), 1);
-    assert_eq!(rt; tree.tasks(), 2);
-    tree.set_demand(0, 100)?;
-    assert_eq!(rt; tree.tasks(), 2);
-    tree.set_demand(1, 50)?;
-    assert_eq!(rt; tree.groups(), 1);
+    let mut tree = configured_user(alloc, &[(0, 0), (10, 60)])?;
     tree.rematch();
     assert_eq!(rt; tree.groups(), 1);
     assert_eq!(rt; tree.group_value(0, 10), 60);
@@ -41,6 +25,62 @@ fn a_configured_user_meets_its_jobs(rt: HostRuntime) -> Result<(), Fail> {
     assert_eq!(rt; tree.groups(), 1);
     assert_eq!(rt; tree.demand(1), 10);
     assert_eq!(rt; tree.group_value(0, 10), 60);
+    tree.rematch();
+    assert_eq!(rt; tree.groups(), 1);
+    assert_eq!(rt; tree.group_value(0, 10), 60);
+    Ok(())
+}
+
+// The wrong body "Proportional transformation" would give 61 there.
+#[test]
+fn an_amount_between_two_shares_is_not_reached(rt: HostRuntime) -> Result<(), Fail> {
+    let mut tree = configured_user(rt.alloc(), &[(0, 0), (10, 61)])?;
+    tree.rematch();
+    assert_eq!(rt; tree.groups(), 1);
+    assert_eq!(rt; tree.group_value(0, 10), 60);
+    Ok(())
+}
+
+// The nodes and tasks of the case "Configured user", with the jobs' values at the inner share 4.
+#[test]
+fn nodes_and_tasks_are_known_by_their_numbers(rt: HostRuntime) -> Result<(), Fail> {
+    let tree = configured_user(rt.alloc(), &[(0, 0), (10, 60)])?;
+    assert_eq!(rt; tree.nodes(), 4);
+    assert_eq!(rt; tree.groups(), 1);
+    assert_eq!(rt; tree.tasks(), 2);
+    assert_eq!(rt; tree.group_node(0), 0);
+    assert_eq!(rt; (tree.kind(0), tree.kind(1)), (Kind::Cluster, Kind::User));
+    assert_eq!(rt; (tree.kind(2), tree.kind(3)), (Kind::Job, Kind::Job));
+    assert_eq!(rt; tree.children(0), [1].as_slice());
+    assert_eq!(rt; tree.children(1), [2, 3].as_slice());
+    assert_eq!(rt; tree.children(2), [0].as_slice());
+    assert_eq!(rt; tree.children(3), [1].as_slice());
+    assert_eq!(rt; (tree.node_value(0, 10), tree.node_value(1, 10)), (60, 60));
+    assert_eq!(rt; (tree.node_value(2, 4), tree.node_value(3, 4)), (40, 20));
+    assert_eq!(rt; (tree.task_value(0, 4), tree.task_value(1, 4)), (40, 20));
+    Ok(())
+}
+
+// The case "Two weighted tasks": a link of 90 closes at 30.
+#[test]
+fn weights_divide_a_link(rt: HostRuntime) -> Result<(), Fail> {
+    let alloc = rt.alloc();
+    let clusters = vec![in alloc; one_task(alloc, 2)?, one_task(alloc, 1)?]?;
+    let mut tree = PolicyTree::build(alloc, TreeSpec { top: 100, clusters })?;
+    for task in [0, 1] {
+        if task < tree.tasks() {
+            tree.set_demand(task, 1_000)?;
+        }
+    }
+    assert_eq!(rt; tree.groups(), 2);
+    assert_eq!(rt;
+        (tree.group_value(0, 30), tree.group_value(1, 30)),
+        (60, 30)
+    );
+    assert_eq!(rt;
+        (tree.group_value(0, 31), tree.group_value(1, 31)),
+        (62, 31)
+    );
     Ok(())
 }
 
@@ -81,6 +121,52 @@ fn a_cluster_without_users_is_refused(rt: HostRuntime) -> Result<(), Fail> {
     let fault = TreeFault::EmptyNode { node: 0 };
     assert_eq!(rt; refused.err(), Some(TreeError::Refused { fault }));
     Ok(())
+}
+
+// The tree of the case "Configured user", where the user's function has these points.
+fn configured_user(alloc: Global, points: &[(u64, u64)]) -> Result<PolicyTree, Fail> {
+    let first = JobSpec {
+        function: None,
+        task: BwFunction::new(alloc, &[(0, 0), (10, 100)], 10)?,
+        weights: vec![in alloc; 1]?,
+    };
+    let second = JobSpec {
+        function: None,
+        task: BwFunction::new(alloc, &[(0, 0), (10, 50)], 10)?,
+        weights: vec![in alloc; 1]?,
+    };
+    let function = Some(BwFunction::new(alloc, points, 10)?);
+    let mut tree = built(alloc, 10, function, vec![in alloc; first, second]?)?;
+    for (task, demand) in [(0, 100), (1, 50)] {
+        if task < tree.tasks() {
+            tree.set_demand(task, demand)?;
+        }
+    }
+    Ok(tree)
+}
+
+// A cluster of one task of slope 1.
+fn one_task(alloc: Global, weight: u64) -> Result<ClusterSpec, Fail>
+    requires low { 1 ≤ weight }
+    requires high { weight ≤ 1_000 }
+    ensures top { IfOk result (HasClusterTop 100) }
+    ensures weights { IfOk result HasClusterWeights }
+    ensures nodes { IfOk result (λ cluster. length (cluster_childless cluster) ≡ 3) }
+    ensures tasks { IfOk result (λ cluster. cluster_weights cluster ≡ 1) }
+{
+    let job = JobSpec {
+        function: None,
+        task: BwFunction::new(alloc, &[(0, 0), (100, 100)], 100)?,
+        weights: vec![in alloc; weight]?,
+    };
+    let user = UserSpec {
+        function: None,
+        jobs: vec![in alloc; job]?,
+    };
+    Ok(ClusterSpec {
+        function: None,
+        users: vec![in alloc; user]?,
+    })
 }
 
 // The tree of one cluster with one user, which has the function.

@@ -6,13 +6,17 @@ ghost use Rattle.policy_tree.specs.Trees.{asking, demand_in, value_in, task_numb
 ghost use Rattle.policy_tree.specs.Asked.{HasClusterTop, HasClusterWeights};
 ghost use Rattle.policy_tree.specs.Childless.{clusters_of, idle_tree};
 ghost use Rattle.policy_tree.specs.Nodes.{first_in, IsClusterOf};
+ghost use Rattle.policy_tree.specs.Children.{child_numbers};
+ghost use Rattle.policy_tree.specs.Seen.{kind_of, node_in, group_node_in, value_of, task_value_in};
 ghost use Rattle.policy_tree.specs.Walk.{walk, tree_fault, TellsFault};
 
 use crate::childless::{fault_of, firsts_of};
 use crate::cluster::{ClusterNode, cluster_nodes, rematch_all};
 use crate::fault::TreeError;
 use crate::home::{Home, homes_of};
+use crate::kind::Kind;
 use crate::spec::TreeSpec;
+use crate::walked::{children_of, count_of, kind_among, value_among};
 use bwe_specs::{MAX_AMOUNT, MAX_SHARE, OutOfMemory};
 use function_sum::ShareFunction;
 use std::alloc::Global;
@@ -25,6 +29,7 @@ pub struct PolicyTree {
     clusters: Vec<ClusterNode>,
     homes: Vec<Home>,
     firsts: Vec<u32>,
+    children: Vec<Vec<u32>>,
 }
 
 impl Model for PolicyTree {
@@ -32,18 +37,21 @@ impl Model for PolicyTree {
 
     ghost Value = { Tree };
 
+    ghost use Rattle.policy_tree.specs.Children.{lists_of};
     ghost use Rattle.policy_tree.specs.Kept.{IsKeptTree};
 
     ghost view = { λ tree. tree_of tree.top tree.clusters.items };
 
-    ghost invariant = { λ tree. IsKeptTree tree.top tree.clusters.items tree.homes.items tree.firsts.items };
+    ghost invariant = { λ tree. IsKeptTree tree.top tree.clusters.items tree.homes.items tree.firsts.items
+        (lists_of tree.children) };
 }
 
 impl PolicyTree {
     /// The tree of a spec, with every demand 0.
     ///
     /// The fault that is told is the first one in the order of `TreeFault`. It costs one step for
-    /// each node and each task, and a sort of the matched shares of each configured function.
+    /// each node and each task, and a sort of the matched shares of each configured function. No
+    /// clause says when memory is wanting.
     pub fn build(alloc: Global, spec: TreeSpec) -> Result<PolicyTree, TreeError>
         requires low { 1 ≤ spec.top }
         requires high { spec.top ≤ MAX_SHARE }
@@ -63,15 +71,20 @@ impl PolicyTree {
         let firsts = firsts_of(alloc, clusters.as_slice())?;
         let clusters = cluster_nodes(alloc, clusters)?;
         let homes = homes_of(alloc, clusters.as_slice())?;
+        let children = children_of(alloc, clusters.as_slice())?;
         Ok(PolicyTree {
             top,
             clusters,
             homes,
             firsts,
+            children,
         })
     }
 
-    /// Sets what a task asks for, in kilobits per second.
+    /// Sets what a task asks for, in kilobits per second. It changes one job, and costs the same
+    /// for every tree.
+    ///
+    /// This body takes no memory, so it never answers `OutOfMemory`.
     pub fn set_demand(&mut self, task: u32, demand: u64) -> Result<(), OutOfMemory>
         requires task { task < length self.old.demands }
         requires demand { demand ≤ MAX_AMOUNT }
@@ -83,7 +96,9 @@ impl PolicyTree {
         Ok(())
     }
 
-    /// Makes values cheap again after demands were set.
+    /// Makes values cheap again after demands were set. It takes no memory.
+    ///
+    /// Contracts see no change, as a body that does nothing is right too, and slow.
     pub fn rematch(&mut self)
         ensures { self.new ≡ self.old }
     {
@@ -136,6 +151,62 @@ impl PolicyTree {
         ensures { result ≡ first_in self.now group }
     {
         self.firsts[group as usize]
+    }
+
+    /// How many nodes there are: clusters, users and jobs.
+    pub fn nodes(&self) -> u32
+        ensures { result ≡ length (walk self.now.clusters) }
+    {
+        self.children.len() as u32
+    }
+
+    /// Of which kind a node is ("Numbering rule", docs/DEFINITIONS.md).
+    ///
+    /// A node is looked for in the order of the numbers, here and in `node_value`.
+    pub fn kind(&self, node: u32) -> Kind
+        requires { node < length (walk self.now.clusters) }
+        ensures { result ≡ kind_of (node_in self.now node) }
+    {
+        match kind_among(self.clusters.as_slice(), node) {
+            Ok(kind) => kind,
+            Err(_) => Kind::Job,
+        }
+    }
+
+    /// The numbers of a node's children in their order: of its users, its jobs, or its tasks.
+    pub fn children(&self, node: u32) -> &[u32]
+        requires { node < length (walk self.now.clusters) }
+        ensures { result.now ≡ child_numbers node (node_in self.now node) }
+    {
+        self.children[node as usize].as_slice()
+    }
+
+    /// The number of a group's cluster.
+    pub fn group_node(&self, group: u32) -> u32
+        requires { group < length self.now.clusters }
+        ensures { result ≡ group_node_in self.now group }
+    {
+        count_of(&self.clusters[..group as usize])
+    }
+
+    /// What a node may have at a share, in kilobits per second.
+    pub fn node_value(&self, node: u32, share: u64) -> u64
+        requires { node < length (walk self.now.clusters) }
+        ensures { result ≡ value_of self.now (node_in self.now node) share }
+    {
+        match value_among(self.clusters.as_slice(), node, share) {
+            Ok(value) => value,
+            Err(_) => 0,
+        }
+    }
+
+    /// What a task may have at a share, in kilobits per second ("Task rule", docs/DEFINITIONS.md).
+    pub fn task_value(&self, task: u32, share: u64) -> u64
+        requires { task < length self.now.demands }
+        ensures { result ≡ task_value_in self.now task share }
+    {
+        let home = self.homes[task as usize];
+        self.clusters[home.cluster].task_value(home.user, home.job, home.task, share)
     }
 
     /// What a group may have at a share, in kilobits per second.

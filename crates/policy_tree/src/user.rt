@@ -5,6 +5,7 @@ ghost use Rattle.function_sum.specs.Meaning.{IsMeaning};
 ghost use Rattle.capped_sum.specs.CappedSum.{task_at};
 ghost use Rattle.policy_tree.specs.States.{user_meaning, jobs_meaning, job_tasks, IsJobState, IsUserState};
 ghost use Rattle.policy_tree.specs.Asked.{HasJobWeights, HasUserWeights, job_weights, user_weights, idle_job, idle_user};
+ghost use Rattle.policy_tree.specs.Seen.{value_at};
 ghost use Rattle.policy_tree.specs.Changes.{job_at, user_with};
 
 use crate::job::{JobNode, transform_of};
@@ -77,6 +78,15 @@ impl UserNode {
         ensures { result ≡ (task_at (job_at self.now.jobs job).sum.tasks task).demand }
     {
         self.jobs[job].demand(task)
+    }
+
+    /// The value of a task of a job.
+    pub(crate) fn task_value(&self, job: usize, task: u32, share: u64) -> u64
+        requires job { job < length self.now.jobs }
+        requires task { task < job_tasks (job_at self.now.jobs job) }
+        ensures { result ≡ value_at (job_at self.now.jobs job) task share }
+    {
+        self.jobs[job].task_value(task, share)
     }
 
     /// Makes the value cheap again.

@@ -35,7 +35,8 @@ pub struct TaskLimit {
 
 /// The limits of a group's tasks, in the order of their numbers ("Distribution rule", docs/DEFINITIONS.md).
 ///
-/// `amount` is what the group has, at most its value at the top, in kilobits per second.
+/// `amount` is what the group has, at most its value at the top, in kilobits per second. No clause says when memory is
+/// wanting.
 pub fn distribute(
     alloc: Global,
     tree: &PolicyTree,

@@ -10,6 +10,8 @@ use push_down::{TaskLimit, distribute};
 use std::alloc::{AllocError, Global};
 
 /// Each task's limit, in the order of their numbers, where the groups have these amounts. All are kilobits per second.
+///
+/// No clause says when memory is wanting.
 pub fn all_limits(
     alloc: Global,
     tree: &PolicyTree,

@@ -1,0 +1,30 @@
+use Rattle.std.proofs.Common.{◌≡◌, ◌+◌, ℕ, List, length, get_or, take, sum_by, sym, ap, ◌∙◌, arith}
+use Rattle.std.proofs.lemmas.List.Sums.{sum_by_more}
+use Rattle.policy_tree.specs.Children.{lists_of}
+use Rattle.policy_tree.proofs.ChildLists.{length-lists_of, lists-more, lists-none}
+use Rattle.policy_tree.proofs.walked.push_all_children.Goals as goal
+
+pub loop-node-init : goal.loop-node-init
+loop-node-init g c = record {
+  next = omega arith;
+  count = omega arith;
+  lists = lists-none g.N.Walked.tasks g.N.Walked.nodes c.args.task (length c.args.children.now.items) (lists_of c.args.children.now);
+}
+
+pub loop-node-preserved : goal.loop-node-preserved
+loop-node-preserved g c =
+    let v = c.loop-node.invariant in
+    let nodes = c.args.nodes.now in
+    let place = c.loop-node.node-index in
+    let node = c.node-item.result in
+    let more_tasks = sum_by_more g.N.Walked.tasks nodes place node c.loop-node-test.true in
+    let more_nodes = sum_by_more g.N.Walked.size nodes place node c.loop-node-test.true in
+    let same_tasks = ap g.N.Walked.tasks c.node-item.is in
+    let same_nodes = ap g.N.Walked.size c.node-item.is in
+    record {
+      next = omega (arith, v.next, c.in_ok-next.ensures.next, more_tasks, same_tasks);
+      count = omega (arith, v.count, c.in_ok-next.ensures.count, more_nodes, same_nodes);
+      lists = lists-more g.N.Walked.tasks g.N.Walked.nodes c.args.task nodes place node (lists_of c.args.children.now) (lists_of c.loop-node.children) (lists_of c.push_children.new.children)
+          (length c.args.children.now.items) c.loop-node.next (length c.loop-node.children.items)
+          c.loop-node-test.true c.node-item.is (sym (length-lists_of c.args.children.now)) (sym (length-lists_of c.loop-node.children)) v.next v.lists c.in_ok-next.ensures.lists;
+    }

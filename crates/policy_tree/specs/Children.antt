@@ -1,0 +1,53 @@
+-- The numbers of the children of each node.
+use Rattle.std.specs.Prelude.{ℕ, suc, ◌+◌, List, [], ◌∷◌, ◌++◌, length, map, sum_by, Vec}
+use Rattle.std.specs.Global.{Global}
+use Rattle.bwe_specs.specs.Tree.{Cluster}
+use Rattle.policy_tree.specs.States.{JobState, UserState, ClusterState}
+use Rattle.policy_tree.specs.Numbering.{numbered_job, numbered_user, numbered_cluster}
+use Rattle.policy_tree.specs.Trees.{job_numbers}
+use Rattle.policy_tree.specs.Walk.{Node, OfCluster, OfUser, OfJob, job_nodes, user_nodes, cluster_nodes, walk}
+
+-- the numbers of nodes, of which each has so many nodes with it: the next one comes after those
+unfoldable pub numbers_from : ℕ → List ℕ → List ℕ
+numbers_from first [] = []
+numbers_from first (size ∷ sizes) = first ∷ numbers_from (first + size) sizes
+
+-- the children of a node with the number: nodes, or the tasks of a job
+abbrev pub child_numbers : ℕ → Node → List ℕ
+child_numbers node (OfCluster cluster) = numbers_from (node + 1) (map (λ user. length (user_nodes user)) cluster.users)
+child_numbers node (OfUser user) = numbers_from (node + 1) (map (λ job. length (job_nodes job)) user.jobs)
+child_numbers node (OfJob job) = job_numbers job
+
+-- the children of each of the nodes, which are numbered from a number on
+unfoldable pub child_lists : ℕ → List Node → List (List ℕ)
+child_lists first [] = []
+child_lists first (node ∷ nodes) = child_numbers first node ∷ child_lists (first + 1) nodes
+
+-- the lists that are kept
+abbrev pub lists_of : Vec (Vec ℕ Global) Global → List (List ℕ)
+lists_of children = map (λ list. list.items) children.items
+
+-- how many nodes a node is with all under it
+abbrev pub job_size : JobState → ℕ
+job_size job = 1
+
+abbrev pub user_size : UserState → ℕ
+user_size user = 1 + sum_by job_size user.jobs
+
+abbrev pub cluster_size : ClusterState → ℕ
+cluster_size cluster = 1 + sum_by user_size cluster.users
+
+-- these nodes, where the first task under them has the number
+abbrev pub nodes_of_job : JobState → ℕ → List Node
+nodes_of_job job first = job_nodes (numbered_job first job)
+
+abbrev pub nodes_of_user : UserState → ℕ → List Node
+nodes_of_user user first = user_nodes (numbered_user first user)
+
+abbrev pub nodes_of_cluster : ClusterState → ℕ → List Node
+nodes_of_cluster cluster first = cluster_nodes (numbered_cluster first cluster)
+
+-- the nodes of each of a list, one after the other
+unfoldable pub all_nodes : {X : Type 0} → (X → ℕ) → (X → ℕ → List Node) → ℕ → List X → List Node
+all_nodes tasks nodes first [] = []
+all_nodes tasks nodes first (x ∷ xs) = nodes x first ++ all_nodes tasks nodes (first + tasks x) xs
