@@ -114,7 +114,9 @@ impl<M: Maker, N: Profile<M::Table>, B: Bases> Board<M, N, B> {
     ) -> Result<Ended<M::Table, B>, FinishRefused<B>>
         requires count { length passes.items ≡ N.reporters }
         requires order { AreInOrder passes.items }
-        // The ack has the whole log: each pass's own list, and nothing else.
+        // The ack has the whole log: each pass's own list, and nothing else. It begins with all that each pass had seen.
+        ensures history { IfOk result (λ ended. ended.history.items ≡ ended.ack) }
+        ensures seen { IfOk result (λ ended. All (λ pass. IsPrefix pass.seen ended.ack) passes.items) }
         ensures length { IfOk result (λ ended. ended.length ≡ length ended.ack) }
         ensures sent { IfOk result (λ ended. ended.length ≡ sum_by (λ pass. length pass.own) passes.items) }
         ensures exact { IfOk result (λ ended. All (λ pass. pass.own ≡ own_of pass.number ended.ack) passes.items) }

@@ -1,12 +1,14 @@
 use crate::ack::Ack;
 use crate::reporter::ReporterPass;
 use board_log::Bases;
+use bwe_specs::Report;
 use demand_book::Posted;
 
-/// The end of a board: its whole log, how many reports that has, and the table of it.
+/// The end of a board: its whole log, as an ack and as reports, how many reports that has, and the table of it.
 #[derive(Drop)]
 pub struct Ended<T: Posted, B: Bases> {
     pub ack: Ack<B>,
+    pub history: Vec<Report>,
     pub length: u64,
     pub table: T,
 }

@@ -1,6 +1,7 @@
 //! What the log lock holds, and the steps on it. Nothing else adds to the log or publishes.
 ghost use Rattle.std.specs.Prelude.{◌≡◌, ◌<◌, ◌≤◌, ◌↔◌, IsTrue, ◌++◌, [], List, length, take, drop, max, IfOk, IfErr, OnOk, OnErr};
 ghost use Rattle.std.specs.List.{All, sum_by};
+ghost use Rattle.std.specs.Bool.{OnTrue};
 ghost use mathlib.Core.List.{IsPrefix};
 ghost use Rattle.bwe_specs.specs.declared.report.Report.{Report};
 ghost use Rattle.bwe_specs.specs.declared.limits.TheConstants.{MAX_REPORTS};
@@ -218,6 +219,8 @@ impl<M: Maker, N: Profile<M::Table>, B: Bases> LogState<M, N, B> {
         ensures log { self.new.log ≡ self.old.log }
         ensures posted { self.old.posted ≤ self.new.posted }
         ensures whole { IfOk result (λ ended. ended.ack ≡ self.old.log) }
+        ensures history { IfOk result (λ ended. ended.history.items ≡ self.old.log) }
+        ensures seen { IfOk result (λ ended. All (λ pass. IsPrefix pass.seen ended.ack) passes.items) }
         ensures length { IfOk result (λ ended. ended.length ≡ length self.old.log) }
         ensures sent { IfOk result (λ ended. ended.length ≡ sum_by (λ pass. length pass.own) passes.items) }
         ensures exact { OnOk result (All (λ pass. pass.own ≡ own_of pass.number self.old.log) passes.items) }
@@ -226,13 +229,19 @@ impl<M: Maker, N: Profile<M::Table>, B: Bases> LogState<M, N, B> {
         ensures table { IfOk result (λ ended. N.belongs self.old.log ended.table) }
         ensures refused { IfErr result (λ refused. refused.passes.items ≡ passes.items) }
     {
-        compare_all(&mut self.roll, passes.as_mut_slice());
         let length = self.log.len() as u64;
-        let ack = Ack {
-            known: self.whole.first(length),
-        };
+        let known = self.whole.first(length);
+        if !each_begins(passes.as_slice(), &known) {
+            return Err(FinishRefused { passes });
+        }
+        compare_all(&mut self.roll, passes.as_mut_slice());
         match self.last_table(rt, alloc, shop) {
-            Ok(table) => Ok(Ended { ack, length, table }),
+            Ok((history, table)) => Ok(Ended {
+                ack: Ack { known },
+                history,
+                length,
+                table,
+            }),
             Err(_) => Err(FinishRefused { passes }),
         }
     }
@@ -303,24 +312,38 @@ impl<M: Maker, N: Profile<M::Table>, B: Bases> LogState<M, N, B> {
         Ok(())
     }
 
-    // Posts the table of the whole log, and gives it.
+    // Posts the table of the whole log, and gives both.
     fn last_table<R: Wait>(
         &mut self,
         rt: &R,
         alloc: Global,
         shop: &mut Workshop<M, N, B>,
-    ) -> Result<M::Table, OutOfMemory>
+    ) -> Result<(Vec<Report>, M::Table), OutOfMemory>
         ensures log { self.new.log ≡ self.old.log }
         ensures posted { self.old.posted ≤ self.new.posted }
-        ensures covers { IfOk result (λ table. M.Table.covers table ≡ length self.old.log) }
-        ensures belongs { IfOk result (N.belongs self.old.log) }
+        ensures history { IfOk result (λ last. last.0.items ≡ self.old.log) }
+        ensures covers { IfOk result (λ last. M.Table.covers last.1 ≡ length self.old.log) }
+        ensures belongs { IfOk result (λ last. N.belongs self.old.log last.1) }
     {
         self.show(shop)?;
+        let history = Vec::from_slice(alloc, self.log.as_slice())?;
         let table = shop.solve(alloc)?;
         let copy = table.copy(alloc)?;
         self.post_made(rt, alloc, shop, copy)?;
-        Ok(table)
+        Ok((history, table))
     }
+}
+
+// Whether the log begins with all that each pass has seen. In a run it always does.
+fn each_begins<B: Bases>(passes: &[ReporterPass<B>], whole: &Beginning<B>) -> bool
+    ensures begins { OnTrue result (All (λ pass. IsPrefix pass.seen whole.now) passes.now) }
+{
+    for pass in passes {
+        if !pass.known.begins(whole) {
+            return false;
+        }
+    }
+    true
 }
 
 // Compares each pass with the log.

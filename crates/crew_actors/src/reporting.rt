@@ -1,15 +1,17 @@
 //! What a reporter does.
-ghost use Rattle.std.specs.Prelude.{◌≡◌, ◌++◌, ◌∷◌, [], length, OnOk};
+ghost use Rattle.std.specs.Prelude.{◌≡◌, ◌≤◌, ◌<◌, ◌++◌, ◌∷◌, [], length, IfErr, OnOk, OnErr};
 ghost use Rattle.std.specs.List.{All};
 ghost use Rattle.board_log.specs.Laws.{without_places};
 ghost use Rattle.board_log.specs.Roll.{IsBy};
 ghost use Rattle.board_core.specs.Core.{IsAllowed};
 ghost use Rattle.demand_book.specs.Fit.{IsFit};
+ghost use Rattle.board.specs.Refusals.{IsRefusalAt};
+ghost use Rattle.crew_actors.specs.Reporters.{IsCutShort};
 
 use crate::actor::{Actor, Gate};
 use crate::reading::NewestAck;
-use board::{Bases, Board, Profile, ReporterPass};
-use bwe_specs::{OutOfMemory, Report};
+use board::{Bases, Board, Profile, ReportError, ReporterPass};
+use bwe_specs::Report;
 use demand_book::Maker;
 use std::alloc::Global;
 use std::sync::Wait;
@@ -23,11 +25,13 @@ fn report_one<M: Maker, N: Profile<M::Table>, B: Bases, G: Gate, R: Wait>(
     call: u64,
     report: Report,
     pass: &mut ReporterPass<B>,
-) -> Result<(), OutOfMemory>
+) -> Result<(), ReportError>
     requires by { report.reporter ≡ pass.old.number }
     requires allowed { IsAllowed N.reporters (IsFit N.tasks N.links) report }
     ensures number { pass.new.number ≡ pass.old.number }
     ensures own { OnOk result (without_places pass.new.own ≡ without_places pass.old.own ++ report ∷ []) }
+    ensures kept { OnErr result (pass.new.own ≡ pass.old.own) }
+    ensures refused { IfErr result (IsRefusalAt pass.new.seen 1) }
 {
     let actor = Actor::Reporter {
         number: pass.number(),
@@ -35,10 +39,8 @@ fn report_one<M: Maker, N: Profile<M::Table>, B: Bases, G: Gate, R: Wait>(
     gate.before(actor, call);
     let placed = board.report(rt, alloc, pass, &[report]);
     gate.after(actor, call);
-    match placed {
-        Ok(_) => Ok(()),
-        Err(_) => Err(OutOfMemory),
-    }
+    placed?;
+    Ok(())
 }
 
 // Reports each entry of a script, one after another.
@@ -49,12 +51,14 @@ fn report_script<M: Maker, N: Profile<M::Table>, B: Bases, G: Gate, R: Wait>(
     gate: &G,
     script: &[Report],
     pass: &mut ReporterPass<B>,
-) -> Result<(), OutOfMemory>
+) -> Result<(), ReportError>
     requires by { All (IsBy pass.old.number) script.now }
     requires allowed { All (IsAllowed N.reporters (IsFit N.tasks N.links)) script.now }
     requires fresh { pass.old.own ≡ [] }
     ensures number { pass.new.number ≡ pass.old.number }
     ensures own { OnOk result (without_places pass.new.own ≡ script.now) }
+    ensures sent { length pass.new.own ≤ length script.now }
+    ensures refused { IfErr result (IsCutShort script.now pass.new) }
 {
     for (call, report) in script.iter().enumerate() {
         report_one(rt, alloc, board, gate, call as u64, *report, pass)?;
@@ -63,6 +67,8 @@ fn report_script<M: Maker, N: Profile<M::Table>, B: Bases, G: Gate, R: Wait>(
 }
 
 /// Reports each entry of a script by a call of its own, and settles. The acknowledgement is left for the readers.
+///
+/// A call that is refused ends it.
 pub fn report_and_settle<M: Maker, N: Profile<M::Table>, B: Bases, G: Gate, R: Wait>(
     rt: &R,
     alloc: Global,
@@ -71,12 +77,14 @@ pub fn report_and_settle<M: Maker, N: Profile<M::Table>, B: Bases, G: Gate, R: W
     gate: &G,
     script: &[Report],
     pass: &mut ReporterPass<B>,
-) -> Result<(), OutOfMemory>
+) -> Result<(), ReportError>
     requires by { All (IsBy pass.old.number) script.now }
     requires allowed { All (IsAllowed N.reporters (IsFit N.tasks N.links)) script.now }
     requires fresh { pass.old.own ≡ [] }
     ensures number { pass.new.number ≡ pass.old.number }
     ensures own { OnOk result (without_places pass.new.own ≡ script.now) }
+    ensures sent { length pass.new.own ≤ length script.now }
+    ensures refused { IfErr result (IsCutShort script.now pass.new) }
 {
     report_script(rt, alloc, board, gate, script, pass)?;
     let actor = Actor::Reporter {

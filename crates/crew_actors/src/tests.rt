@@ -3,8 +3,10 @@ ghost use Rattle.board.specs.Plan.{NamesTables};
 ghost use Rattle.board.specs.Reporting.{AreFresh, AreInOrder};
 
 use crate::*;
-use board::{Ack, AllocatorPass, Bases, Board, Opened, Profile, ReaderPass, ReporterPass};
-use bwe_specs::{OutOfMemory, Report, Target};
+use board::{
+    Ack, AllocatorPass, Bases, Board, Opened, Profile, ReaderPass, ReportError, ReporterPass,
+};
+use bwe_specs::{Report, Target};
 use demand_book::{Maker, SmallMaker, SmallTable};
 use std::alloc::Global;
 use std::marker::Brand;
@@ -60,7 +62,7 @@ fn seated<N: Profile<SmallTable>, B: Bases, R: Wait>(
     newest: &NewestAck<B>,
     reporters: &mut Vec<ReporterPass<B>>,
     allocator: &mut AllocatorPass<B>,
-) -> Result<(), OutOfMemory>
+) -> Result<(), ReportError>
     requires names { (1 ≡ N.reporters) × (2 ≡ N.tasks) × (1 ≡ N.links) }
     requires reporters { (length reporters.old.items ≡ 1) × AreFresh reporters.old.items }
     ensures { (length reporters.new.items ≡ 1) × AreInOrder reporters.new.items }
@@ -76,7 +78,7 @@ fn report<N: Profile<SmallTable>, B: Bases, R: Wait>(
     newest: &NewestAck<B>,
     pass: &mut ReporterPass<B>,
     allocator: &mut AllocatorPass<B>,
-) -> Result<(), OutOfMemory>
+) -> Result<(), ReportError>
     requires names { (1 ≡ N.reporters) × (2 ≡ N.tasks) × (1 ≡ N.links) }
     requires pass { (pass.old.number ≡ 0) × (pass.old.own ≡ []) }
     ensures { pass.new.number ≡ pass.old.number }

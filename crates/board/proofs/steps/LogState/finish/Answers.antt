@@ -1,5 +1,6 @@
 use Rattle.std.proofs.Common.{◌≡◌, ◌∙◌, ap, subst, arith, length, List}
 use Rattle.std.specs.List.{All}
+use mathlib.Core.List.{IsPrefix}
 use Rattle.bwe_specs.specs.declared.report.Report.{Report}
 use Rattle.board_log.specs.Roll.{own_of}
 use Rattle.board.specs.Reporting.{Reporting}
@@ -16,3 +17,7 @@ returns-in-Ok-clause-sent g c =
     let exact : All (IsOwn log) passes = subst (All (IsOwn log)) c.as_mut_slice.ensures.value compared in
     let held : c.len-length.result ≡ length log = omega (arith, c.len-length.ensures, c.self.inside.log.ok.0) in
     held ∙ all_sent passes log g.N.Profile.reporters g.N.Profile.tasks g.N.Profile.links c.requires.count i.allowed c.requires.order exact
+
+pub returns-in-Ok-clause-seen : goal.returns-in-Ok-clause-seen
+returns-in-Ok-clause-seen g c =
+    subst (All (λ (pass : Reporting). IsPrefix pass.seen c.first-known.result)) c.as_slice.ensures.value c.if-not-each_begins.ensures.begins

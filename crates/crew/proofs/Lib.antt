@@ -1,0 +1,4 @@
+pub mod Calling
+pub mod Placing
+pub mod Legal
+pub mod Answering

@@ -1,0 +1,43 @@
+use Rattle.std.proofs.Common.{◌≡◌, ℕ, ◌+◌, List, Vec, Result, length, get_or, sym, subst, ap, ◌∙◌, arith}
+use Rattle.std.specs.Prelude.{IfOk}
+use Rattle.std.specs.declared.alloc.Global.{Global}
+use Rattle.std.proofs.lemmas.Result.{IfOk-at_ok}
+use Rattle.bwe_specs.specs.declared.report.Report.{Report}
+use Rattle.board.specs.Reporting.{Reporting}
+use Rattle.board.specs.Reading.{Reading}
+use Rattle.crew.specs.Reporters.{IsReady, HasReported}
+use Rattle.crew.specs.Readers.{HasLines}
+use Rattle.crew.proofs.Answering.{reported_at, lines_at}
+use Rattle.crew.proofs.driving.run_actors.Goals as goal
+
+pub all_at_once-reported-requires-clause-first : goal.all_at_once-reported-requires-clause-first
+all_at_once-reported-requires-clause-first g c κs within place item lt at =
+    let same : place ≡ 0 + place = omega arith in (
+      omega (arith, c.requires.ready.count, lt),
+      λ script. subst (λ (k : ℕ). IsReady g.N.Profile.reporters g.N.Profile.tasks g.N.Profile.links (get_or c.args.scripts.now k script).items item.now) same
+          (subst (λ (pass : Reporting). IsReady g.N.Profile.reporters g.N.Profile.tasks g.N.Profile.links (get_or c.args.scripts.now place script).items pass) (sym at)
+          (c.requires.ready.each place script item.now lt)),
+    )
+
+pub returns-clause-reported : goal.returns-clause-reported
+returns-clause-reported g c =
+    let calls = IfOk-at_ok _ c.in_ok-reported.was c.all_at_once-reported.ensures.first in
+    record {
+      count = calls.count;
+      answered = calls.answered;
+      each = λ number script old answer new lt.
+          let one = calls.each number old answer new lt in
+          reported_at c.args.scripts.now number script one.argument.now (get_or c.args.reporters.now number old) (get_or c.in_ok-reported.reported.items number answer)
+          one.after_call.now (get_or c.all_at_once-reported.new.items number new) one.argument_is one.left (one.call script);
+    }
+
+pub returns-clause-read : goal.returns-clause-read
+returns-clause-read g c =
+    let calls = IfOk-at_ok _ c.in_ok-read.was c.all_at_once-reported.ensures.second in
+    record {
+      count = calls.answered ∙ sym calls.count;
+      each = λ number read pass lt.
+          let one = calls.each number pass read pass (omega (arith, lt, calls.count)) in
+          lines_at g.M.Table.Posted.covers g.N.Profile.belongs g.M.Table.Posted.total_of c.args.reads (get_or c.in_ok-read.read.items number read)
+          one.after_call.now (get_or c.all_at_once-reported.new.others number pass) one.left one.call;
+    }

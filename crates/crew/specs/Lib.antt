@@ -1,0 +1,4 @@
+pub mod Calls
+pub mod Starting
+pub mod Reporters
+pub mod Readers

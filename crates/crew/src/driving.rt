@@ -1,0 +1,226 @@
+//! How the actors are run on a board that is there.
+ghost use Rattle.std.specs.Prelude.{◌≡◌, ◌+◌, ◌^◌, ◌<◌, ◌≤◌, Ok, length, map, slice_index_or, IfOk, IfErr, OnOk};
+ghost use Rattle.std.specs.List.{All};
+ghost use mathlib.Core.List.{IsPrefix};
+ghost use Rattle.bwe_specs.specs.declared.limits.TheConstants.{MAX_REPORTS};
+ghost use Rattle.board.specs.declared.refusal.ReportError.TheVariants as refusal;
+ghost use Rattle.board.specs.Reading.{IsNewReader};
+ghost use Rattle.board.specs.Reporting.{AreFresh};
+ghost use Rattle.crew_actors.specs.LegalCrewLog.{IsLegalCrewLog, IsReaderOf};
+ghost use Rattle.crew.specs.Reporters.{IsReady, AreReady, HasReported, HaveReported, scripted};
+ghost use Rattle.crew.specs.Readers.{HasLines, HaveLines, HaveEnded};
+ghost use Rattle.crew.specs.Starting.{AreScripts};
+ghost use Rattle.board_core.specs.Core.{IsAllowed};
+ghost use Rattle.demand_book.specs.Fit.{IsFit};
+
+use crate::at_once::all_at_once;
+use board::{Ack, AllocatorPass, Bases, Board, Profile, ReaderPass, ReportError, ReporterPass};
+use bwe_specs::{OutOfMemory, Report};
+use crew_actors::{
+    CrewLog, Gate, NewestAck, ReadLine, ReaderLog, make_rounds, read_lines, read_to_the_end,
+    report_and_settle,
+};
+use demand_book::{Maker, Posted};
+use std::alloc::Global;
+use std::mem;
+use std::sync::{Mutex, Wait};
+use std::thread::Threads;
+
+/// Runs the actors of a board that was just opened, each in a thread of its own, and answers the log of the run.
+///
+/// Each reporter reports its script and settles, the allocator makes `reads + 1` rounds, and each reader reads `reads` times.
+/// When all have ended, each reader learns the acknowledgement of `finish` and reads once more.
+/// After a refusal the reporters' passes are gone, and the others have what they had seen by then.
+pub fn drive<
+    M: Maker + Send,
+    N: Profile<M::Table> + Send + Sync,
+    B: Bases + Send + Sync,
+    G: Gate + Sync,
+    R: Threads + Wait + Sync,
+>(
+    rt: &R,
+    alloc: Global,
+    board: &Board<M, N, B>,
+    reporters: Vec<ReporterPass<B>>,
+    readers: &mut [ReaderPass<M::Table, N, B>],
+    allocator: &mut AllocatorPass<B>,
+    scripts: &[Vec<Report>],
+    reads: u64,
+    gate: &G,
+) -> Result<CrewLog<M::Table>, OutOfMemory>
+where
+    M::Plan: Send + Sync,
+    M::Table: Send + Sync,
+    <M::Table as Posted>::Frame: Send + Sync,
+    <M::Table as Posted>::Change: Send + Sync,
+    // The passes are as the board was opened with them, with a reporter's for each script.
+    requires count { length scripts.now ≡ N.reporters }
+    requires reporters { length reporters.items ≡ N.reporters }
+    requires fresh { AreFresh reporters.items }
+    requires few_readers { length readers.old < 2 ^ 32 }
+    requires readers { All (IsNewReader M.Table.covers N.belongs) readers.old }
+    requires scripts { AreScripts N.tasks N.links scripts.now }
+    requires room { scripted scripts.now ≤ MAX_REPORTS }
+    requires reads { reads ≤ 1000 }
+    ensures legal { IfOk result (IsLegalCrewLog N.belongs M.Table.total_of N.tasks N.links scripts.now (length readers.old) reads) }
+    // What each reader's pass has seen, its floor, and how often it has read.
+    ensures passes { IfOk result (λ log. HaveEnded M.Table.covers reads log.history.items log.readers.items readers.new) }
+{
+    let mut reporters = reporters;
+    let answers = run_actors(
+        rt,
+        alloc,
+        board,
+        scripts,
+        reads,
+        gate,
+        allocator,
+        readers,
+        reporters.as_mut_slice(),
+    )?;
+    let sent = sent_of(alloc, reporters.as_slice())?;
+    let Ok(ended) = board.finish(rt, alloc, reporters) else {
+        return Err(OutOfMemory);
+    };
+    all_reported(answers.reported.as_slice())?;
+    let readers = end_all(alloc, gate, &ended.ack, reads, answers.read, readers)?;
+    Ok(CrewLog {
+        history: ended.history,
+        sent,
+        readers,
+        table: ended.table,
+    })
+}
+
+// What the reporters and the readers of a run answered.
+#[derive(Drop)]
+struct Answers {
+    pub reported: Vec<Result<(), ReportError>>,
+    pub read: Vec<Result<Vec<ReadLine>, OutOfMemory>>,
+}
+
+// All actors at once, each in a thread of its own.
+fn run_actors<
+    M: Maker + Send,
+    N: Profile<M::Table> + Send + Sync,
+    B: Bases + Send + Sync,
+    G: Gate + Sync,
+    R: Threads + Wait + Sync,
+>(
+    rt: &R,
+    alloc: Global,
+    board: &Board<M, N, B>,
+    scripts: &[Vec<Report>],
+    reads: u64,
+    gate: &G,
+    allocator: &mut AllocatorPass<B>,
+    readers: &mut [ReaderPass<M::Table, N, B>],
+    reporters: &mut [ReporterPass<B>],
+) -> Result<Answers, OutOfMemory>
+where
+    M::Plan: Send + Sync,
+    M::Table: Send + Sync,
+    <M::Table as Posted>::Frame: Send + Sync,
+    <M::Table as Posted>::Change: Send + Sync,
+    requires ready { AreReady N.reporters N.tasks N.links scripts.now reporters.old }
+    requires few_readers { length readers.old < 2 ^ 32 }
+    requires few_reads { reads ≤ 1000 }
+    requires readers { All (IsNewReader M.Table.covers N.belongs) readers.old }
+    ensures reported { IfOk result (λ answers. HaveReported scripts.now reporters.old answers.reported.items reporters.new) }
+    ensures read { IfOk result (λ answers. HaveLines M.Table.covers N.belongs M.Table.total_of reads answers.read.items readers.new) }
+    ensures readers { length readers.new ≡ length readers.old }
+{
+    let newest: NewestAck<B> = Mutex::new(None);
+    let newest = &newest;
+    let report = |number: usize, pass: &mut ReporterPass<B>| -> Result<(), ReportError>
+        requires { (number < length scripts.now) × ((script : _) → IsReady N.reporters N.tasks N.links (slice_index_or scripts.now number script).items pass.old) }
+        ensures { (script : _) → HasReported (slice_index_or scripts.entry.now number script).items pass.old result pass.new }
+    {
+        report_and_settle(
+            rt,
+            alloc,
+            board,
+            newest,
+            gate,
+            scripts[number].as_slice(),
+            pass,
+        )
+    };
+    let read = |number: usize, pass: &mut ReaderPass<M::Table, N, B>| -> Result<
+        Vec<ReadLine>,
+        OutOfMemory,
+    >
+        requires { (number < 2 ^ 32) × (reads ≤ 1000) × IsNewReader M.Table.covers N.belongs pass.old }
+        ensures { IfOk result (λ read. HasLines M.Table.covers N.belongs M.Table.total_of reads read.items pass.new) }
+    { read_lines(rt, alloc, newest, gate, number as u32, reads, pass) };
+    let rounds = |_: usize, pass: &mut AllocatorPass<B>| -> Result<(), OutOfMemory>
+        requires { reads ≤ 1000 }
+        ensures { IsPrefix pass.old pass.new }
+    { make_rounds(rt, alloc, board, gate, reads + 1, pass) };
+    let (reported, (read, made)) = all_at_once(
+        rt, alloc, &report, reporters, &read, readers, &rounds, allocator,
+    );
+    made?;
+    let reported = reported?;
+    let read = read?;
+    Ok(Answers { reported, read })
+}
+
+// How many reports each pass has sent.
+fn sent_of<B: Bases>(alloc: Global, passes: &[ReporterPass<B>]) -> Result<Vec<u64>, OutOfMemory>
+    ensures sent { IfOk result (λ sent. sent.items ≡ map (λ pass. length pass.own) passes.now) }
+{
+    let mut sent = Vec::new(alloc);
+    for pass in passes {
+        sent.push(pass.sent())?;
+    }
+    Ok(sent)
+}
+
+// Whether no call of a reporter was refused. No reporter can have met a full log: it would hold more than all scripts.
+fn all_reported(answers: &[Result<(), ReportError>]) -> Result<(), OutOfMemory>
+    requires never_full { All (λ answer. IfErr answer (λ error. error ≡ refusal.OutOfMemory)) answers.now }
+    ensures ok { OnOk result (All (λ answer. answer ≡ Ok tt) answers.now) }
+{
+    for answer in answers {
+        is_reported(*answer)?;
+    }
+    Ok(())
+}
+
+fn is_reported(answer: Result<(), ReportError>) -> Result<(), OutOfMemory>
+    requires never_full { IfErr answer (λ error. error ≡ refusal.OutOfMemory) }
+    ensures ok { OnOk result (answer ≡ Ok tt) }
+{
+    match answer {
+        Ok(()) => Ok(()),
+        Err(ReportError::OutOfMemory) => Err(OutOfMemory),
+        Err(ReportError::Full { .. }) => unreachable!(),
+    }
+}
+
+// Each reader learns the acknowledgement of the end and reads once more. A reader's log is made of that and of its lines before.
+fn end_all<T: Posted, N: Profile<T>, B: Bases, G: Gate>(
+    alloc: Global,
+    gate: &G,
+    end: &Ack<B>,
+    reads: u64,
+    lines: Vec<Result<Vec<ReadLine>, OutOfMemory>>,
+    passes: &mut [ReaderPass<T, N, B>],
+) -> Result<Vec<ReaderLog>, OutOfMemory>
+    requires numbers { length passes.old < 2 ^ 32 }
+    requires few_reads { reads ≤ 1000 }
+    requires lines { HaveLines T.covers N.belongs T.total_of reads lines.items passes.old }
+    ensures readers { IfOk result (λ readers. All (IsReaderOf N.belongs T.total_of (IsAllowed N.reporters (IsFit N.tasks N.links)) reads end.now) readers.items) }
+    ensures passes { IfOk result (λ readers. HaveEnded T.covers reads end.now readers.items passes.new) }
+    ensures count { length passes.new ≡ length passes.old }
+{
+    let mut lines = lines;
+    let mut readers = Vec::new(alloc);
+    for number in 0..passes.len() {
+        let read = mem::replace(&mut lines[number], Err(OutOfMemory))?;
+        let reader = read_to_the_end(alloc, gate, number as u32, end, read, &mut passes[number])?;
+        readers.push(reader)?;
+    }
+    Ok(readers)
+}
