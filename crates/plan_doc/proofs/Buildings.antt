@@ -9,7 +9,7 @@ use Rattle.plan_doc.specs.declared.functions.BuildError.{BuildError}
 use Rattle.plan_doc.specs.declared.functions.BuildError.TheVariants.{OutOfMemory, Refused}
 use Rattle.plan_doc.specs.Functions.{RefusedFunction, below, first_refused}
 use Rattle.plan_doc.specs.Building.{NamesFunction, Builds, IsErrorUnder, IsBuiltUnder}
-use Rattle.plan_doc.proofs.Loops.{drop_here}
+use Rattle.doc_passes.proofs.Loops.{drop_here}
 
 -- what was built, told from one step above
 pub under_builds : {X Y : Type 0} (view : X → Y) (step : PathStep) (refused : Option RefusedFunction) (part : Y) (inner outer : Result X BuildError) → Builds view inner refused part → IsBuiltUnder step inner outer → Builds view outer (below step refused) part

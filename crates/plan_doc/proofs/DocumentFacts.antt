@@ -19,14 +19,14 @@ use Rattle.policy_tree.specs.Childless.{idle_tree}
 use Rattle.policy_tree.specs.Walk.{tree_fault}
 use Rattle.doc_names.specs.declared.Names.{Names}
 use Rattle.raw_document.specs.Raw as raw
-use Rattle.plan_doc.specs.declared.numbers.DocumentNumbers.{DocumentNumbers}
+use Rattle.doc_passes.specs.declared.numbers.DocumentNumbers.{DocumentNumbers}
 use Rattle.plan_doc.specs.declared.document.Document as code
-use Rattle.plan_doc.specs.Counts.{task_count}
-use Rattle.plan_doc.specs.Limits.{overrun}
-use Rattle.plan_doc.specs.Ranges.{ranges}
-use Rattle.plan_doc.specs.Names.{NameLists, name_lists}
-use Rattle.plan_doc.specs.Numbers.{Numbers, numbers}
-use Rattle.plan_doc.specs.NumbersView.{numbers_view}
+use Rattle.doc_passes.specs.Counts.{task_count}
+use Rattle.doc_passes.specs.Limits.{overrun}
+use Rattle.doc_passes.specs.Ranges.{ranges}
+use Rattle.doc_passes.specs.Names.{NameLists, name_lists}
+use Rattle.doc_passes.specs.Numbers.{Numbers, numbers}
+use Rattle.doc_passes.specs.NumbersView.{numbers_view}
 use Rattle.plan_doc.specs.Links.{names_view}
 use Rattle.plan_doc.specs.Functions.{refused_in_groups}
 use Rattle.plan_doc.specs.TreeParts.{cluster_part}
@@ -35,12 +35,12 @@ use Rattle.plan_doc.specs.Refusals.{Refusal, refused_function, refused_links, re
 use Rattle.plan_doc.specs.Document as documents
 use Rattle.plan_doc.specs.Document.{Accepted, accepted, unless, links_of, clusters_of, document_by}
 use Rattle.plan_doc.specs.Accepted.{tree_of, IsDocumentOf}
-use Rattle.plan_doc.specs.Passed.{HasOwnerBelow, IsReport, IsClosing, AreNamesOf, AreNumbersOf, HasPassed}
+use Rattle.doc_passes.specs.Passed.{HasOwnerBelow, IsReport, IsClosing, AreNamesOf, AreNumbersOf, HasPassed}
 use Rattle.plan_doc.specs.Conditions.{link_count, tasks_in, reporter_count, IsByOwner, IsUsable}
-use Rattle.plan_doc.proofs.LimitFacts.{are_few}
-use Rattle.plan_doc.proofs.RangeFacts.{in_range}
-use Rattle.plan_doc.proofs.NameFacts.{names_of}
-use Rattle.plan_doc.proofs.NumberFacts.{numbers_of}
+use Rattle.doc_passes.proofs.LimitFacts.{are_few}
+use Rattle.doc_passes.proofs.RangeFacts.{in_range}
+use Rattle.doc_passes.proofs.NameFacts.{names_of}
+use Rattle.doc_passes.proofs.NumberFacts.{numbers_of}
 use Rattle.plan_doc.proofs.NodeFacts.{length-numbered, length-task_numbers}
 use Rattle.plan_doc.proofs.PlanFacts.{length-capacities}
 use Rattle.plan_doc.proofs.OwnerFacts.{IsOwned, by_owners}

@@ -1,15 +1,7 @@
-pub mod Loops
-pub mod Folds
-pub mod NameTables
 pub mod Buildings
 pub mod OwnerLoop
-pub mod Readings
-pub mod RangeFacts
-pub mod NameFacts
 pub mod TreeFacts
-pub mod NumberFacts
 pub mod NodeFacts
-pub mod LimitFacts
 pub mod OwnerFacts
 pub mod PlanFacts
 pub mod DocumentFacts

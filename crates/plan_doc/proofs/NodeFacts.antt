@@ -8,9 +8,9 @@ use Rattle.policy_tree.specs.Numbering.{numbered, numbered_task, numbered_tasks,
 use Rattle.policy_tree.specs.Trees as trees
 use Rattle.policy_tree.specs.Walk as walks
 use Rattle.raw_document.specs.Raw as raw
-use Rattle.plan_doc.specs.Limits.{sum_of}
-use Rattle.plan_doc.specs.Counts as counts
-use Rattle.plan_doc.proofs.Readings.{sum_of-one}
+use Rattle.doc_passes.specs.Limits.{sum_of}
+use Rattle.doc_passes.specs.Counts as counts
+use Rattle.doc_passes.proofs.Readings.{sum_of-one}
 use Rattle.plan_doc.specs.TreeParts.{weights_of, job_part, user_part, cluster_part}
 
 module _ {X Y Z : Type 0} (tasks : X → ℕ) (item : ℕ → X → Y) (f : Y → List Z) (size : X → ℕ) (sized : (first : ℕ) (x : X) → length (f (item first x)) ≡ size x) where

@@ -3,7 +3,7 @@ use Rattle.std.proofs.Common.{◌≡◌, ℕ, suc, ◌+◌, ◌<◌, ◌≤◌, 
 use Rattle.std.proofs.lemmas.List.{drop_all, get_or_default}
 use Rattle.bwe_specs.specs.declared.report.Report.{Report}
 use Rattle.plan_doc.specs.Owners.{owner_of, is_owner, not_owned}
-use Rattle.plan_doc.proofs.Loops.{drop_here}
+use Rattle.doc_passes.proofs.Loops.{drop_here}
 
 module _ (tasks : List ℕ) (links : List (Option ℕ)) (script : List Report) (i : ℕ) (d : Report) (owner : Option ℕ) (may : Bool) where
   not_owned-drop : i < length script → owner ≡ owner_of tasks links (get_or script i d).target → may ≡ is_owner owner (get_or script i d).reporter

@@ -12,7 +12,7 @@ use Rattle.policy_tree.specs.States.{JobState, UserState, ClusterState}
 use Rattle.policy_tree.specs.Asked.{idle_job, idle_user, idle_cluster, HasTop, HasJobTop, HasUserTop, HasClusterTop, AreWeights, HasJobWeights, HasUserWeights, HasClusterWeights}
 use Rattle.raw_document.specs.Raw as raw
 use Rattle.plan_doc.specs.TreeParts.{function_part, weights_of, job_part, user_part, cluster_part}
-use Rattle.plan_doc.specs.InRange as ranges
+use Rattle.doc_passes.specs.InRange as ranges
 
 -- what holds of each spec where it holds of each that was built of a right item
 module _ {A S T : Type 0} (spec_view : T → S) (part : A → S) (Q : A → Type 0) (P : T → Type 0) (holds : (x : T) (item : A) → Q item → spec_view x ≡ part item → P x) where

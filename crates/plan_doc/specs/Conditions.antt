@@ -6,7 +6,7 @@ use Rattle.path_groups.specs.Plan.{IsBuiltOn}
 use Rattle.plan_doc.specs.declared.document.Document.{Document}
 use Rattle.plan_doc.specs.Links.{names_view}
 use Rattle.plan_doc.specs.Owners.{owner_of}
-use Rattle.plan_doc.specs.Passed.{HasOwnerBelow, IsReport, IsClosing}
+use Rattle.doc_passes.specs.Passed.{HasOwnerBelow, IsReport, IsClosing}
 
 -- how many links, tasks and reporters there are
 abbrev pub link_count : Document → ℕ

@@ -14,11 +14,11 @@ use Rattle.raw_document.specs.declared.doc_path.PathStep.{PathStep}
 use Rattle.raw_document.specs.Json.{json}
 use Rattle.raw_document.specs.Raw.{Raw}
 use Rattle.raw_document.specs.Forms.{document_at}
-use Rattle.plan_doc.specs.declared.limit.Overrun.{Overrun}
-use Rattle.plan_doc.specs.Limits.{overrun}
-use Rattle.plan_doc.specs.Ranges.{ranges}
-use Rattle.plan_doc.specs.Names.{NameLists, name_lists}
-use Rattle.plan_doc.specs.Numbers.{Numbers, numbers}
+use Rattle.doc_passes.specs.declared.limit.Overrun.{Overrun}
+use Rattle.doc_passes.specs.Limits.{overrun}
+use Rattle.doc_passes.specs.Ranges.{ranges}
+use Rattle.doc_passes.specs.Names.{NameLists, name_lists}
+use Rattle.doc_passes.specs.Numbers.{Numbers, numbers}
 use Rattle.plan_doc.specs.Functions.{refused_in_groups}
 use Rattle.plan_doc.specs.TreeParts.{cluster_part}
 use Rattle.plan_doc.specs.Links.{link_part}

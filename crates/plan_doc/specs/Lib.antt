@@ -1,8 +1,4 @@
-pub mod Limits
-pub mod Ranges
 pub mod Names
-pub mod Numbers
-pub mod NumbersView
 pub mod Functions
 pub mod TreeParts
 pub mod Building
@@ -10,9 +6,6 @@ pub mod Owners
 pub mod Refusals
 pub mod RefusalLines
 pub mod Links
-pub mod Counts
-pub mod InRange
 pub mod Document
 pub mod Accepted
-pub mod Passed
 pub mod Conditions

@@ -4,7 +4,7 @@ use Rattle.wan_topology.specs.Network.{Link}
 use Rattle.raw_document.specs.Reading.{each_view}
 use Rattle.raw_document.specs.Raw as raw
 use Rattle.doc_names.specs.declared.Names.{Names}
-use Rattle.plan_doc.specs.Names.{NameLists}
+use Rattle.doc_passes.specs.Names.{NameLists}
 
 -- a link as it is given to the topology
 abbrev pub link_part : raw.Link → Link

@@ -12,8 +12,8 @@ use Rattle.policy_tree.specs.declared.fault.TreeFault.TheVariants.{EmptyNode, To
 use Rattle.raw_document.specs.declared.doc_path.PathStep.{PathStep}
 use Rattle.raw_document.specs.declared.doc_path.PathStep.TheVariants.{Key, Index}
 use Rattle.raw_document.specs.Words.{word}
-use Rattle.plan_doc.specs.declared.limit.What.{What}
-use Rattle.plan_doc.specs.declared.limit.What.TheVariants.{Groups, Points, Hops, Reporters, Script, Closings}
+use Rattle.doc_passes.specs.declared.limit.What.{What}
+use Rattle.doc_passes.specs.declared.limit.What.TheVariants.{Groups, Points, Hops, Reporters, Script, Closings}
 use Rattle.plan_doc.specs.declared.doc_error.DocError.{DocError}
 use Rattle.plan_doc.specs.Functions.{RefusedFunction}
 use Rattle.plan_doc.specs.Refusals.{Refusal, not_json, bad_shape, above_limit, out_of_range, repeated_name, unknown_name, refused_function, refused_links, refused_paths, refused_tree, not_owner, refusal_of}

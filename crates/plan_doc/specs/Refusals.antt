@@ -7,7 +7,7 @@ use Rattle.policy_tree.specs.declared.fault.TreeFault.{TreeFault}
 use Rattle.raw_document.specs.declared.doc_path.PathStep.{PathStep}
 use Rattle.raw_document.specs.declared.doc_path.Fault.{Fault}
 use Rattle.raw_document.specs.declared.doc_path.Fault.TheVariants as faults
-use Rattle.plan_doc.specs.declared.limit.What.{What}
+use Rattle.doc_passes.specs.declared.limit.What.{What}
 use Rattle.plan_doc.specs.declared.functions.BuildError.{BuildError}
 use Rattle.plan_doc.specs.declared.functions.BuildError.TheVariants as builds
 use Rattle.plan_doc.specs.declared.doc_error.DocError.{DocError}

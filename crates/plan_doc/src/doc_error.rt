@@ -3,9 +3,9 @@
 ghost use Rattle.std.specs.Prelude.{◌≡◌};
 
 use crate::functions::BuildError;
-use crate::limit::What;
 use bw_function::FunctionFault;
 use bwe_specs::OutOfMemory;
+use doc_passes::What;
 use path_groups::PathFault;
 use policy_tree::TreeFault;
 use raw_document::{DocPath, Fault};

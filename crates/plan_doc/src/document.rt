@@ -15,28 +15,26 @@ ghost use Rattle.raw_document.specs.Raw.{link_view, group_view, raw_view};
 ghost use Rattle.plan_doc.specs.Document.{document, document_of_value, document_of_raw, document_by, clusters_of};
 ghost use Rattle.plan_doc.specs.Functions.{refused_in_groups};
 ghost use Rattle.plan_doc.specs.TreeParts.{cluster_part};
-ghost use Rattle.plan_doc.specs.InRange.{IsInRange};
-ghost use Rattle.plan_doc.specs.Counts.{task_count};
+ghost use Rattle.doc_passes.specs.InRange.{IsInRange};
+ghost use Rattle.doc_passes.specs.Counts.{task_count};
 ghost use Rattle.plan_doc.specs.Links.{link_part, names_view};
-ghost use Rattle.plan_doc.specs.NumbersView.{numbers_view};
+ghost use Rattle.doc_passes.specs.NumbersView.{numbers_view};
 ghost use Rattle.plan_doc.specs.Owners.{not_owned};
 ghost use Rattle.plan_doc.specs.Refusals.{refused_function, refused_links, refused_paths, refused_tree, not_owner};
 ghost use Rattle.plan_doc.specs.Accepted.{Answers, Makes};
-ghost use Rattle.plan_doc.specs.Passed.{HasPassed};
+ghost use Rattle.doc_passes.specs.Passed.{HasPassed};
 ghost use Rattle.plan_doc.specs.Conditions.{IsUsable};
 
 use crate::doc_error::DocError;
 use crate::functions::cluster_specs;
-use crate::limit::find_overrun;
-use crate::name_table::NameTable;
 use crate::names::{link_specs, names_of};
 use crate::nodes::has_node_numbers;
-use crate::numbers::{DocumentNumbers, document_numbers};
 use crate::owner::find_not_owned;
-use crate::range::check_ranges;
-use crate::repeats::fill_tables;
 use bwe_specs::{Closing, MAX_GROUPS, MAX_SHARE, Report};
 use doc_names::Names;
+use doc_passes::{
+    DocumentNumbers, NameTable, check_ranges, document_numbers, fill_tables, find_overrun,
+};
 use path_groups::{GroupSpec, PathError, PathPlan};
 use policy_tree::{ClusterSpec, PolicyTree, TreeError, TreeSpec};
 use raw_document::{JsonError, RawDocument, RawGroup, RawLink, read_json, read_shape};

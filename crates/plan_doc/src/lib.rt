@@ -3,27 +3,23 @@
 //! The layers above call `read_document` and, where it refuses, `refusal_line`. They rely on two clauses of `read_document`:
 //! `exact`, by which the answer is that of the definition in `specs/Document.antt`, and `usable`, by which an accepted
 //! document meets the conditions of the calls that take its parts (`specs/Conditions.antt`).
-//! Each refusal is a pass of its own, in the order of the numbers, over the raw document of `raw_document`.
+//! Each refusal is a pass of its own, in the order of the numbers, over the raw document of `raw_document`; those before
+//! the builders' own are in `doc_passes`.
 //! Nothing is promised of time, and nothing of which growth is refused where memory is wanting.
 #![tactic(auto)]
 
 mod doc_error;
 mod document;
 mod functions;
-mod limit;
-mod name_table;
 mod names;
 mod nodes;
-mod numbers;
 mod owner;
-mod range;
 mod refusal_text;
-mod repeats;
 
 pub use doc_error::DocError;
 pub use doc_names::Names;
+pub use doc_passes::What;
 pub use document::{Document, read_document};
-pub use limit::What;
 pub use raw_document::{DocKey, DocPath, PathStep};
 pub use refusal_text::refusal_line;
 

@@ -1,27 +1,15 @@
 //! The names of a document, and its links as they are given to the topology.
 
-ghost use Rattle.std.specs.Prelude.{◌≡◌, map, string_bytes, IfOk};
-ghost use Rattle.raw_document.specs.Raw.{name_view, link_view};
+ghost use Rattle.std.specs.Prelude.{◌≡◌, map, IfOk};
+ghost use Rattle.raw_document.specs.Raw.{link_view};
 ghost use Rattle.wan_topology.specs.Held.{link_of, links_of};
 ghost use Rattle.plan_doc.specs.Links.{link_part, names_view};
 
-use crate::name_table::NameTable;
 use doc_names::Names;
+use doc_passes::NameTable;
 use raw_document::RawLink;
 use std::alloc::{AllocError, Global};
 use wan_topology::LinkSpec;
-
-/// Copies of names.
-pub fn copies_of(alloc: Global, names: &[&str]) -> Result<Vec<String>, AllocError>
-    ensures { IfOk result
-        (λ copies. map string_bytes copies.items ≡ map name_view names.now) }
-{
-    let mut copies = Vec::with_capacity(alloc, names.len())?;
-    for name in names {
-        copies.push(String::from_str(alloc, name)?)?;
-    }
-    Ok(copies)
-}
 
 /// The names that the tables hold.
 pub fn names_of(

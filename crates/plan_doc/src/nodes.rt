@@ -2,8 +2,8 @@
 
 ghost use Rattle.std.specs.Prelude.{◌≡◌, ◌+◌, ◌<◌, ◌^◌, map, IfSome, IsTrue};
 ghost use Rattle.raw_document.specs.Raw.{user_view, group_view};
-ghost use Rattle.plan_doc.specs.Limits.{sum_of};
-ghost use Rattle.plan_doc.specs.Counts.{user_nodes, group_nodes};
+ghost use Rattle.doc_passes.specs.Limits.{sum_of};
+ghost use Rattle.doc_passes.specs.Counts.{user_nodes, group_nodes};
 
 use raw_document::{RawGroup, RawUser};
 

@@ -6,9 +6,9 @@ ghost use Rattle.plan_doc.specs.Refusals.{refusal_of};
 ghost use Rattle.plan_doc.specs.RefusalLines as lines;
 
 use crate::doc_error::DocError;
-use crate::limit::What;
 use bw_function::FunctionFault;
 use bwe_specs::OutOfMemory;
+use doc_passes::What;
 use path_groups::PathFault;
 use policy_tree::TreeFault;
 use raw_document::{DocPath, PathStep};

@@ -2,7 +2,7 @@ use Rattle.std.proofs.Common.{◌≡◌, ℕ, length, ap, sym, subst, ◌∙◌}
 use Rattle.path_groups.specs.Given.{AreInRange, groups_of}
 use Rattle.raw_document.specs.Raw.{raw_view}
 use Rattle.plan_doc.specs.Links.{names_view}
-use Rattle.plan_doc.specs.NumbersView.{numbers_view}
+use Rattle.doc_passes.specs.NumbersView.{numbers_view}
 use Rattle.plan_doc.specs.Document.{accepted}
 use Rattle.plan_doc.proofs.PlanFacts.{length-capacities}
 use Rattle.plan_doc.proofs.DocumentFacts.{document_is, idle_tree_is, is_document, usable}

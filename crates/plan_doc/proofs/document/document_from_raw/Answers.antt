@@ -1,7 +1,7 @@
 use Rattle.std.proofs.Common.{sym, ◌∙◌}
 use Rattle.raw_document.specs.Raw.{raw_view}
 use Rattle.plan_doc.specs.Links.{names_view}
-use Rattle.plan_doc.specs.NumbersView.{numbers_view}
+use Rattle.doc_passes.specs.NumbersView.{numbers_view}
 use Rattle.plan_doc.proofs.DocumentFacts.{passed_of}
 use Rattle.plan_doc.proofs.document.document_from_raw.Goals as goal
 

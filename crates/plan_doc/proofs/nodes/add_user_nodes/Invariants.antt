@@ -1,7 +1,7 @@
 use Rattle.std.proofs.Common.{◌≡◌, ◌+◌, drop, map}
 use Rattle.raw_document.specs.Raw.{user_view}
-use Rattle.plan_doc.specs.Limits.{sum_of}
-use Rattle.plan_doc.specs.Counts.{user_nodes}
+use Rattle.doc_passes.specs.Limits.{sum_of}
+use Rattle.doc_passes.specs.Counts.{user_nodes}
 use Rattle.plan_doc.proofs.nodes.add_user_nodes.Given as goal
 
 abbrev pub invariant-loop-user : goal.invariant-loop-user

@@ -1,7 +1,7 @@
 use Rattle.std.proofs.Common.{◌≡◌, ℕ, ◌+◌, arith, rules}
 use Rattle.raw_document.specs.Raw.{group_view}
-use Rattle.plan_doc.specs.Counts.{group_nodes}
-use Rattle.plan_doc.proofs.Loops.{sum_later, sum_whole}
+use Rattle.doc_passes.specs.Counts.{group_nodes}
+use Rattle.doc_passes.proofs.Loops.{sum_later, sum_whole}
 use Rattle.plan_doc.proofs.nodes.count_nodes.Goals as goal
 
 zero_start : {n : ℕ} {m : ℕ} → n ≡ 0 + m → n ≡ m

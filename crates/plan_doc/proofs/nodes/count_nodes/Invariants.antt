@@ -1,7 +1,7 @@
 use Rattle.std.proofs.Common.{◌≡◌, ◌+◌, drop, map}
 use Rattle.raw_document.specs.Raw.{group_view}
-use Rattle.plan_doc.specs.Limits.{sum_of}
-use Rattle.plan_doc.specs.Counts.{group_nodes}
+use Rattle.doc_passes.specs.Limits.{sum_of}
+use Rattle.doc_passes.specs.Counts.{group_nodes}
 use Rattle.plan_doc.proofs.nodes.count_nodes.Given as goal
 
 abbrev pub invariant-loop-group : goal.invariant-loop-group

@@ -1,0 +1,14 @@
+use Rattle.std.proofs.Common.{arith}
+use Rattle.raw_document.specs.Raw.{task_view}
+use Rattle.doc_passes.specs.Numbers.{add_task_owner}
+use Rattle.doc_passes.proofs.Folds.{fold_later_at, fold_fails_at, fold_whole}
+use Rattle.doc_passes.proofs.numbers.add_tasks_owners.Goals as goal
+
+pub returns-in-Err : goal.returns-in-Err
+returns-in-Err c = fold_fails_at task_view (add_task_owner c.args.reporters.now) c.args.tasks.now c.loop-place.place _ c.loop-place.owners.items c.in-Err.fault c.under.result _ c.in-Err.ensures (omega arith) c.under.ensures c.loop-place.invariant
+
+pub loop-place-preserved : goal.loop-place-preserved
+loop-place-preserved c = fold_later_at task_view (add_task_owner c.args.reporters.now) c.args.tasks.now c.loop-place.place _ c.loop-place.owners.items c.add_task_owner.new.owners.items _ c.in-Ok.ensures (omega arith) c.loop-place.invariant
+
+pub returns : goal.returns
+returns c = fold_whole task_view (add_task_owner c.args.reporters.now) c.args.tasks.now c.loop-place.place c.loop-place.owners.items _ (omega arith) c.loop-place.invariant

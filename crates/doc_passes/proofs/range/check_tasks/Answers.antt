@@ -1,0 +1,11 @@
+use Rattle.std.proofs.Common.{rules, map}
+use Rattle.raw_document.specs.declared.key.DocKey.TheVariants as keys
+use Rattle.raw_document.specs.declared.doc_path.PathStep.TheVariants.{Key}
+use Rattle.raw_document.specs.Reading.{check_each}
+use Rattle.raw_document.specs.Raw.{task_view}
+use Rattle.doc_passes.specs.Ranges.{task_range}
+use Rattle.raw_document.proofs.Lists.{under_gives, checks_give}
+use Rattle.doc_passes.proofs.range.check_tasks.Goals as goal
+
+pub returns : goal.returns
+returns c = under_gives (λ nothing. nothing) (Key keys.Tasks) (check_each task_range (map task_view c.args.tasks.now)) c.check_each.result c.under.result (checks_give task_view (λ nothing. nothing) task_range _ (λ v r h. search rules) c.args.tasks.now c.check_each.result c.check_each.ensures) c.under.ensures

@@ -1,0 +1,22 @@
+//! The passes over a raw document before any builder: counts above their limits, ranges, repeated names, unknown names.
+//!
+//! `plan_doc` calls them in this order, which is that of the refusals' numbers, and hands what they leave to the builders.
+//! Each answers what its definition says (`Limits`, `Ranges`, `Names` and `Numbers` of `specs/`): nothing, the names in
+//! their order, numbers in place of names, or the place of the first fault in the walk.
+//! Nothing is promised of time. Each name is hashed once where it stands and once where it is referred to.
+#![tactic(auto)]
+
+mod limit;
+mod name_table;
+mod numbers;
+mod range;
+mod repeats;
+
+pub use limit::{Overrun, What, find_overrun};
+pub use name_table::NameTable;
+pub use numbers::{DocumentNumbers, document_numbers};
+pub use range::check_ranges;
+pub use repeats::fill_tables;
+
+#[cfg(test)]
+mod tests;

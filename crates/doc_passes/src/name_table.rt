@@ -1,0 +1,97 @@
+//! Names in the order in which they stand, each with its number.
+
+ghost use Rattle.std.specs.Prelude.{◌≡◌, [], map, string_bytes, IfOk};
+ghost use Rattle.raw_document.specs.Reading.{Gives};
+ghost use Rattle.raw_document.specs.Raw.{name_view};
+ghost use Rattle.doc_passes.specs.Names.{fresh, number_in};
+
+use indexmap::IndexSet;
+use raw_document::Fault;
+use std::alloc::{AllocError, Global};
+use std::marker::Model;
+
+/// Names that differ, which contracts see as a list. A name's number is its place in the list. Names are lent by the document.
+#[derive(Drop)]
+pub struct NameTable<'a> {
+    names: IndexSet<&'a str>,
+}
+
+impl<'a> Model for NameTable<'a> {
+    ghost use Rattle.std.specs.Prelude.{ℕ, List, map};
+    ghost use Rattle.raw_document.specs.Raw.{name_view};
+
+    ghost Value = { List (List ℕ) };
+
+    ghost view = { λ table. map name_view table.names.keys };
+}
+
+impl<'a> NameTable<'a> {
+    pub fn new(alloc: Global) -> NameTable<'a>
+        ensures { result ≡ [] }
+    {
+        NameTable {
+            names: IndexSet::new(alloc),
+        }
+    }
+
+    /// Adds a name at the end, or answers a fault here where it stood before. Takes about the time of one hash.
+    pub fn add(&mut self, alloc: Global, name: &'a str) -> Result<(), Fault>
+        ensures { Gives (λ _. self.new) result (fresh self.old name.now) }
+    {
+        insert(alloc, &mut self.names, name)
+    }
+
+    /// Copies of the names, in their order.
+    pub fn copies(&self, alloc: Global) -> Result<Vec<String>, AllocError>
+        ensures { IfOk result (λ copies. map string_bytes copies.items ≡ self.now) }
+    {
+        copies_of(alloc, self.names.as_slice())
+    }
+
+    /// The number of a name, or a fault here where it does not stand. Takes about the time of one hash.
+    pub fn number(&self, alloc: Global, name: &str) -> Result<u32, Fault>
+        ensures { Gives (λ number. number) result (number_in self.now name.now) }
+    {
+        number_of(alloc, &self.names, name)
+    }
+}
+
+fn insert<'a>(alloc: Global, names: &mut IndexSet<&'a str>, name: &'a str) -> Result<(), Fault>
+    ensures { Gives (λ _. map name_view names.new.keys) result
+        (fresh (map name_view names.old.keys) name.now) }
+{
+    match names.insert_full(name) {
+        Ok((_, is_new)) => {
+            if is_new {
+                return Ok(());
+            }
+            Err(Fault::here(alloc))
+        }
+        Err(_) => Err(Fault::OutOfMemory),
+    }
+}
+
+/// No memory holds so many names that a number does not fit 32 bits.
+fn number_of(alloc: Global, names: &IndexSet<&str>, name: &str) -> Result<u32, Fault>
+    ensures { Gives (λ number. number) result (number_in (map name_view names.now.keys) name.now) }
+{
+    match names.get_index_of(name) {
+        Some(number) => match u32::try_from(number) {
+            Ok(number) => Ok(number),
+            Err(_) => Err(Fault::OutOfMemory),
+        },
+        None => Err(Fault::here(alloc)),
+    }
+}
+
+// Copies of names.
+fn copies_of(alloc: Global, names: &[&str]) -> Result<Vec<String>, AllocError>
+    ensures { IfOk result
+        (λ copies. map string_bytes copies.items ≡ map name_view names.now) }
+{
+    let mut copies = Vec::with_capacity(alloc, names.len())?;
+    for name in names {
+        copies.push(String::from_str(alloc, name)?)?;
+    }
+    Ok(copies)
+}

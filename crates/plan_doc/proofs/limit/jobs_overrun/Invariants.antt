@@ -1,7 +1,0 @@
-use Rattle.std.proofs.Common.{◌≡◌, drop, map}
-use Rattle.raw_document.specs.Raw.{job_view}
-use Rattle.plan_doc.specs.Limits.{first_some, job_overrun}
-use Rattle.plan_doc.proofs.limit.jobs_overrun.Given as goal
-
-abbrev pub invariant-loop-job : goal.invariant-loop-job
-invariant-loop-job l = first_some job_overrun (map job_view (drop l.job-index l.jobs)) ≡ first_some job_overrun (map job_view l.jobs)

@@ -1,7 +1,0 @@
-use Rattle.std.proofs.Common.{◌≡◌, drop, map}
-use Rattle.raw_document.specs.Raw.{user_view}
-use Rattle.plan_doc.specs.Limits.{first_some, user_overrun}
-use Rattle.plan_doc.proofs.limit.users_overrun.Given as goal
-
-abbrev pub invariant-loop-user : goal.invariant-loop-user
-invariant-loop-user l = first_some user_overrun (map user_view (drop l.user-index l.users)) ≡ first_some user_overrun (map user_view l.users)

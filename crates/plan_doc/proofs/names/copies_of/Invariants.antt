@@ -1,6 +1,0 @@
-use Rattle.std.proofs.Common.{◌≡◌, ◌++◌, drop, map, string_bytes}
-use Rattle.raw_document.specs.Raw.{name_view}
-use Rattle.plan_doc.proofs.names.copies_of.Given as goal
-
-abbrev pub invariant-loop-name : goal.invariant-loop-name
-invariant-loop-name l = map string_bytes l.copies.items ++ map name_view (drop l.name-index l.names) ≡ map name_view l.names
