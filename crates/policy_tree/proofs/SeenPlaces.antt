@@ -1,5 +1,5 @@
 -- A place among the nodes of one item is a place among those of all.
-use Rattle.std.proofs.Common.{◌≡◌, ℕ, ◌+◌, ◌<◌, ◌≤◌, List, length, get_or, flat_map, take, sym, ap, ◌∙◌, arith}
+use Rattle.std.proofs.Common.{◌≡◌, ℕ, ◌+◌, ◌<◌, List, length, get_or, flat_map, take, sym, ap, ◌∙◌, arith}
 use Rattle.std.proofs.lemmas.List.Concat.{get_or-flat_map}
 use Rattle.std.proofs.lemmas.List.Folds.{length-flat_map-take}
 use Rattle.policy_tree.specs.Seen.{Seen, seen_at}

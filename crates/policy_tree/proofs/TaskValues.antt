@@ -1,19 +1,15 @@
 -- Where a task is, its value stands in the list of all tasks' values at its number.
-use Rattle.std.proofs.Common.{◌≡◌, ℕ, ◌+◌, ◌<◌, List, [], ◌∷◌, ◌++◌, length, get_or, map, take, flat_map, sum_by, All, refl, sym, ◌∙◌, ap, ap₂, arith, subst}
+use Rattle.std.proofs.Common.{◌≡◌, ℕ, ◌+◌, ◌<◌, List, [], ◌∷◌, ◌++◌, length, get_or, take, flat_map, refl, sym, ◌∙◌, ap, ap₂, arith, subst}
 use Rattle.std.proofs.lemmas.List.{length-map, length-append, get_or-map}
 use Rattle.std.proofs.lemmas.List.Concat.{get_or-flat_map}
 use Rattle.std.proofs.lemmas.List.Folds.{length-flat_map-take}
-use Rattle.std.proofs.lemmas.List.Elements.{All-head, All-tail}
 use Rattle.bwe_specs.specs.Tree.{task_value, task_values}
-use Rattle.capped_sum.specs.declared.task.Task.{Task}
-use Rattle.capped_sum.specs.CappedSum.{task_at}
 use Rattle.policy_tree.specs.declared.home.Home.{Home}
 use Rattle.policy_tree.specs.States.{JobState, UserState, ClusterState, job_tasks, user_tasks, cluster_tasks}
 use Rattle.policy_tree.specs.Changes.{job_at, user_at, cluster_at}
 use Rattle.policy_tree.specs.Numbering.{numbered, numbered_job, numbered_user, numbered_cluster, numbered_clusters, job_demands, user_demands, cluster_demands, demands_of}
-use Rattle.policy_tree.specs.Kept.{HaveJobTop, HaveUserTop, HaveClusterTop}
 use Rattle.policy_tree.specs.Nodes.{Agrees}
-use Rattle.policy_tree.specs.Trees.{Tree, demand_in, tree_of}
+use Rattle.policy_tree.specs.Trees.{demand_in, tree_of}
 use Rattle.policy_tree.specs.Seen.{user_task_values, cluster_task_values, task_value_in, value_at, job_task_values}
 use Rattle.policy_tree.proofs.Numbers.{agrees-left, agrees-right}
 use Rattle.policy_tree.proofs.Agreement.{tasks-agree, length-job_demands, length-user_demands, length-cluster_demands}

@@ -1,5 +1,5 @@
 -- The nodes in the order of their numbers are those that the code goes through.
-use Rattle.std.proofs.Common.{◌≡◌, ℕ, ◌+◌, ◌<◌, List, [], ◌∷◌, ◌++◌, length, get_or, map, flat_map, All, refl, sym, ◌∙◌, ap, ap₂, arith, subst}
+use Rattle.std.proofs.Common.{◌≡◌, ℕ, ◌+◌, ◌<◌, List, [], ◌∷◌, ◌++◌, length, map, flat_map, All, refl, sym, ◌∙◌, ap, ap₂, arith, subst}
 use Rattle.std.proofs.lemmas.List.{length-map, map-append, get_or-map}
 use Rattle.std.proofs.lemmas.List.Elements.{All-head, All-tail}
 use Rattle.policy_tree.specs.declared.kind.Kind.TheVariants as kinds
@@ -8,7 +8,7 @@ use Rattle.policy_tree.specs.Numbering.{numbered, numbered_job, numbered_user, n
 use Rattle.policy_tree.specs.Kept.{HaveJobTop, HaveUserTop, HaveClusterTop}
 use Rattle.policy_tree.specs.Nodes.{Agrees}
 use Rattle.policy_tree.specs.Trees.{Tree, demand_in, tree_of}
-use Rattle.policy_tree.specs.Walk.{Node, OfJob, job_nodes, user_nodes, cluster_nodes, walk}
+use Rattle.policy_tree.specs.Walk.{Node, job_nodes, user_nodes, cluster_nodes, walk}
 use Rattle.policy_tree.specs.Seen.{Seen, node_in, kind_of, value_of, job_seen, user_seen, cluster_seen, seen_at}
 use Rattle.policy_tree.proofs.Numbers.{agrees-left, agrees-right}
 use Rattle.policy_tree.proofs.Agreement.{job-agrees, user-agrees, cluster-agrees, length-job_demands, length-user_demands, length-cluster_demands}

@@ -1,11 +1,10 @@
 -- The numbers of the children of each node.
-use Rattle.std.specs.Prelude.{ℕ, suc, ◌+◌, List, [], ◌∷◌, ◌++◌, length, map, sum_by, Vec}
+use Rattle.std.specs.Prelude.{ℕ, ◌+◌, List, [], ◌∷◌, ◌++◌, length, map, sum_by, Vec}
 use Rattle.std.specs.Global.{Global}
-use Rattle.bwe_specs.specs.Tree.{Cluster}
 use Rattle.policy_tree.specs.States.{JobState, UserState, ClusterState}
 use Rattle.policy_tree.specs.Numbering.{numbered_job, numbered_user, numbered_cluster}
 use Rattle.policy_tree.specs.Trees.{job_numbers}
-use Rattle.policy_tree.specs.Walk.{Node, OfCluster, OfUser, OfJob, job_nodes, user_nodes, cluster_nodes, walk}
+use Rattle.policy_tree.specs.Walk.{Node, OfCluster, OfUser, OfJob, job_nodes, user_nodes, cluster_nodes}
 
 -- the numbers of nodes, of which each has so many nodes with it: the next one comes after those
 unfoldable pub numbers_from : ℕ → List ℕ → List ℕ

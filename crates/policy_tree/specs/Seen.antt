@@ -1,6 +1,6 @@
 -- The nodes of a tree by their numbers: of which kind they are, and what they may have at each share.
 use Rattle.std.specs.Prelude.{◌≡◌, ℕ, ◌+◌, ◌<◌, List, [], ◌∷◌, length, map, flat_map, take, None, Result, Ok, Err, slice_index_or}
-use Rattle.bwe_specs.specs.Tree.{Job, User, Cluster, task_value, task_values, job_value, user_value, cluster_value}
+use Rattle.bwe_specs.specs.Tree.{User, Cluster, task_value, task_values, job_value, user_value, cluster_value}
 use Rattle.capped_sum.specs.CappedSum.{task_at}
 use Rattle.policy_tree.specs.declared.kind.Kind.{Kind}
 use Rattle.policy_tree.specs.declared.kind.Kind.TheVariants as kinds

@@ -1,4 +1,4 @@
-use Rattle.std.proofs.Common.{◌≡◌, ◌++◌, ℕ, List, Vec, length, map, sum_by, sym, ap, ◌∙◌, arith}
+use Rattle.std.proofs.Common.{◌++◌, ℕ, List, Vec, length, map, sym, ap, ◌∙◌, arith}
 use Rattle.std.specs.Global.{Global}
 use Rattle.policy_tree.specs.States.{cluster_tasks}
 use Rattle.policy_tree.specs.Children.{child_lists, all_nodes, nodes_of_cluster}

@@ -1,4 +1,4 @@
-use Rattle.std.proofs.Common.{◌≡◌, ◌+◌, ℕ, List, length, get_or, take, sum_by, sym, ap, ◌∙◌, arith}
+use Rattle.std.proofs.Common.{length, sym, ap, arith}
 use Rattle.std.proofs.lemmas.List.Sums.{sum_by_more}
 use Rattle.policy_tree.specs.Children.{lists_of}
 use Rattle.policy_tree.proofs.ChildLists.{length-lists_of, lists-more, lists-none}

@@ -1,4 +1,4 @@
-use Rattle.std.proofs.Common.{◌≡◌, ap, ◌∙◌, sym}
+use Rattle.std.proofs.Common.{ap, ◌∙◌, sym}
 use Rattle.policy_tree.proofs.SeenPlaces.{inside}
 use Rattle.policy_tree.proofs.walked.value_among.Goals as goal
 

@@ -1,4 +1,4 @@
-use Rattle.std.proofs.Common.{◌≡◌, ◌+◌, ◌<◌, List, length, flat_map, ap, sym, subst, ◌∙◌, arith}
+use Rattle.std.proofs.Common.{◌<◌, List, length, flat_map, ap, sym, subst, ◌∙◌, arith}
 use Rattle.policy_tree.specs.States.{ClusterState}
 use Rattle.policy_tree.specs.Seen.{Seen, value_of, node_in, cluster_seen, seen_at}
 use Rattle.policy_tree.specs.Trees.{Tree, tree_of}
