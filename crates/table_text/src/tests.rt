@@ -1,5 +1,5 @@
-use super::table_text;
-use bwe_specs::{Closing, OutOfMemory};
+use super::{check_text, table_text};
+use bwe_specs::{Cause, Closing, OutOfMemory, Verdict};
 use doc_names::Names;
 use limit_table::{GroupLine, LimitTable, PlaceLine};
 
@@ -11,16 +11,20 @@ fn named(rt: &HostRuntime, texts: &[&str]) -> Result<Vec<String>, OutOfMemory> {
     Ok(names)
 }
 
+fn names(rt: &HostRuntime) -> Result<Names, OutOfMemory> {
+    Ok(Names {
+        links: named(rt, &["l0", "l1"])?,
+        groups: named(rt, &["g0"])?,
+        tasks: named(rt, &["t0"])?,
+        reporters: named(rt, &["r0"])?,
+    })
+}
+
 // The table of the case "Second path group", with a third path group that is open.
 #[test]
 fn a_table_is_printed_line_by_line(rt: HostRuntime) -> Result<(), OutOfMemory> {
     let alloc = rt.alloc();
-    let names = Names {
-        links: named(&rt, &["l0", "l1"])?,
-        groups: named(&rt, &["g0"])?,
-        tasks: named(&rt, &["t0"])?,
-        reporters: named(&rt, &["r0"])?,
-    };
+    let names = names(&rt)?;
     let places = vec![in alloc;
         PlaceLine {
             amount: 30,
@@ -56,5 +60,44 @@ fn a_table_is_printed_line_by_line(rt: HostRuntime) -> Result<(), OutOfMemory> {
         group g0 share 50 amount 50\nplace 0 amount 30 closed by l0\nplace 1 amount 20 closed by l1\n\
         place 2 amount 0 open\ntask t0 limit 50\ntotal 50\n";
     assert_eq!(rt; text.as_slice(), wanted.as_bytes());
+    Ok(())
+}
+
+// The lines of the cases "Certificates": each cause has its own.
+#[test]
+fn each_cause_has_its_line(rt: HostRuntime) -> Result<(), OutOfMemory> {
+    let alloc = rt.alloc();
+    let names = names(&rt)?;
+    let right = check_text(alloc, &Verdict::Right, &names)?;
+    assert_eq!(rt; right.as_slice(), b"right\n".as_slice());
+    for (at, cause, line) in [
+        (0, Cause::NoSuchLink, "wrong at 0: no such link\n"),
+        (1, Cause::Reclosed, "wrong at 1: link closed before\n"),
+        (12, Cause::ShareFalls, "wrong at 12: share falls\n"),
+        (0, Cause::ShareAtTop, "wrong at 0: share at top\n"),
+        (
+            0,
+            Cause::OverBefore { link: 1 },
+            "wrong at 0: link l1 is over at the share\n",
+        ),
+        (
+            0,
+            Cause::FitsAfter,
+            "wrong at 0: link fits at the next share\n",
+        ),
+        (
+            2,
+            Cause::LowerLink { link: 0 },
+            "wrong at 2: lower link l0 is over\n",
+        ),
+        (
+            3,
+            Cause::OverAtTop { link: 1 },
+            "wrong at 3: link l1 is over at top\n",
+        ),
+    ] {
+        let text = check_text(alloc, &Verdict::Wrong { at, cause }, &names)?;
+        assert_eq!(rt; text.as_slice(), line.as_bytes());
+    }
     Ok(())
 }
