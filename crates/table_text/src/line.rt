@@ -41,8 +41,8 @@ pub(crate) fn push_word_and_name(
     text.push_str(name_of(names, number))
 }
 
-// The name of the number, an empty text where it has none.
-fn name_of(names: &[String], number: u32) -> &str
+/// The name of the number, an empty text where it has none.
+pub fn name_of(names: &[String], number: u32) -> &str
     ensures { result.now ≡ name_at (map string_bytes names.now) number }
 {
     let number = number as usize;
