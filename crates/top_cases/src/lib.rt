@@ -1,0 +1,5 @@
+//! Whole runs of the top call in memory, as tests. Nothing stands on this crate.
+#![tactic(auto)]
+
+#[cfg(test)]
+mod tests;
