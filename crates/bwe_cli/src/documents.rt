@@ -6,7 +6,7 @@ ghost use Rattle.plan_doc.specs.RefusalLines.{error_line};
 use crate::check::check;
 use crate::solve::solve;
 use bwe_specs::OutOfMemory;
-use command_line::Line;
+use command_line::{Line, line_of_words};
 use one_run::{Answer, Work};
 use plan_doc::{DocError, read_document, refusal_line};
 use std::alloc::Global;
@@ -15,9 +15,18 @@ use std::alloc::Global;
 pub(crate) struct Documents;
 
 impl Work for Documents {
+    ghost use Rattle.command_line.specs.Lines.{line_of};
     ghost use Rattle.bwe_cli.specs.Replies.{reply};
 
-    ghost reply = { λ _ line input. reply line input };
+    type Line = Line;
+
+    ghost line_of = { line_of };
+
+    ghost replies = { λ _ line input given. given ≡ reply line input };
+
+    fn line_of_words(&self, alloc: Global, words: &[String]) -> Result<Option<Line>, OutOfMemory> {
+        line_of_words(alloc, words)
+    }
 
     fn answer(&self, alloc: Global, line: Line, input: &[u8]) -> Result<Answer, OutOfMemory> {
         match read_document(alloc, input) {

@@ -33,7 +33,7 @@ pub fn bwe_once<S: Source, K: Sink>(
 ) -> u8
     ensures { Ending (record {
       line = line_of (texts_of words.now);
-      reply = reply;
+      replies = λ line input given. given ≡ reply line input;
       left = S.left source.old;
       left_after = S.left source.new;
       read_faults = S.faults source.old;

@@ -1,7 +1,6 @@
 -- How a run may end: a row of the table of statuses for each way.
 use Rattle.std.specs.Prelude.{◌≡◌, ℕ, ◌+◌, ◌≤◌, List, length, Option, Some, None}
 use Rattle.std.specs.Io.KnownBytes.{Appends, Consumes, IsAtEnd, Keeps}
-use Rattle.command_line.specs.declared.Line.{Line}
 use Rattle.bwe_io.specs.Faults.{HasRisen}
 use Rattle.bwe_io.specs.Bytes.{AppendsPrefix, Takes}
 
@@ -10,11 +9,11 @@ pub record Reply : Type 0 where
   pub status : ℕ
   pub text : List ℕ
 
--- a run as it is seen from outside: the line that the words are, what each input of a line gets, and the source and the sink
--- before and after. What they don't tell is None.
-pub record Run : Type 0 where
+-- a run as it is seen from outside: the line that the words are, what each input of a line may get, and the source and the
+-- sink before and after. What they don't tell is None.
+pub record Run (Line : Type 0) : Type 1 where
   pub line : Option Line
-  pub reply : Line → List ℕ → Reply
+  pub replies : Line → List ℕ → Reply → Type 0
   pub left : Option (List ℕ)
   pub left_after : Option (List ℕ)
   pub read_faults : ℕ
@@ -25,19 +24,19 @@ pub record Run : Type 0 where
   pub write_faults_after : ℕ
 
 -- the run was due to write this text, and to end with this status
-pub data IsDue (run : Run) (limit : ℕ) (usage too_long : List ℕ) : ℕ → List ℕ → Type 0 where
+pub data IsDue {Line : Type 0} (run : Run Line) (limit : ℕ) (usage too_long : List ℕ) : ℕ → List ℕ → Type 0 where
   -- the words are no line: nothing is read
   no_line : run.line ≡ None → run.left_after ≡ run.left → IsDue run limit usage too_long 2 usage
   -- the input was read to its end: what the line gives for it
-  read_whole : {line : Line} {input : List ℕ} → run.line ≡ Some line → Consumes run.left run.left_after input
-      → IsAtEnd run.left_after → length input ≤ limit
-      → IsDue run limit usage too_long (run.reply line input).status (run.reply line input).text
+  read_whole : {line : Line} {input : List ℕ} {reply : Reply} → run.line ≡ Some line → Consumes run.left run.left_after input
+      → IsAtEnd run.left_after → length input ≤ limit → run.replies line input reply
+      → IsDue run limit usage too_long reply.status reply.text
   -- the source gave a byte more than an input may have, and that was all that was taken
   read_too_much : {line : Line} → run.line ≡ Some line → Takes (limit + 1) run.left run.left_after
       → IsDue run limit usage too_long 8 too_long
 
 -- the run ended with this status
-pub data Ending (run : Run) (limit : ℕ) (usage too_long : List ℕ) : ℕ → Type 0 where
+pub data Ending {Line : Type 0} (run : Run Line) (limit : ℕ) (usage too_long : List ℕ) : ℕ → Type 0 where
   -- the text was written whole
   done : {status : ℕ} {text : List ℕ} → IsDue run limit usage too_long status text → Appends run.written run.written_after text
       → Ending run limit usage too_long status

@@ -1,21 +1,20 @@
 //! One run: words, reading, work, one text, and the status.
 //!
 //! `serve` keeps the order of work and answers the status, for any work that a line may be. The top call above
-//! says what the work is: it hands in the answers of documents and tables. The whole text is made before the first
+//! says what the work is: which lines are served, and what the input of each may get. The whole text is made before the first
 //! byte is written. Nothing is promised of which answers the work gives, nor that memory is there.
 #![tactic(auto)]
 
-ghost use Rattle.std.specs.Prelude.{◌≡◌, ◌≤◌, ℕ, List, length, IfOk, OnErr, OnOk};
+ghost use Rattle.std.specs.Prelude.{◌≡◌, ◌≤◌, ℕ, List, Option, length, IfOk, OnErr, OnOk};
 ghost use Rattle.std.specs.Io.KnownBytes.{Appends};
 ghost use Rattle.bwe_io.specs.Faults.{HasRisen};
 ghost use Rattle.bwe_io.specs.Bytes.{AppendsPrefix};
-ghost use Rattle.command_line.specs.Lines.{line_of, texts_of};
-ghost use Rattle.command_line.specs.declared.Line.{Line};
+ghost use Rattle.command_line.specs.Lines.{texts_of};
 ghost use Rattle.one_run.specs.Endings.{Ending, Reply, Run, Writes};
 
 use bwe_io::{ReadError, Sink, Source, read_all, write_all};
 use bwe_specs::OutOfMemory;
-use command_line::{Line, USAGE, line_of_words};
+use command_line::USAGE;
 use std::alloc::Global;
 
 /// The most bytes of an input.
@@ -33,14 +32,28 @@ pub struct Answer {
 
 /// What the lines do with their input.
 pub trait Work {
-    /// What the input of a line gets.
-    ghost reply: { Self → Line → List ℕ → Reply };
+    /// A command line that is served.
+    type Line: Copy + Drop;
+
+    /// The line that words are, `None` where they are none that is served.
+    ghost line_of: { List (List ℕ) → Option Self.Line };
+
+    /// What the input of a line may get.
+    ghost replies: { Self → Self.Line → List ℕ → Reply → Type 0 };
+
+    /// The line that the words are, `None` where they are none that is served.
+    fn line_of_words(
+        &self,
+        alloc: Global,
+        words: &[String],
+    ) -> Result<Option<Self::Line>, OutOfMemory>
+        ensures { IfOk result (λ line. line ≡ line_of (texts_of words.now)) };
 
     /// Answers the input of a line.
-    fn answer(&self, alloc: Global, line: Line, input: &[u8]) -> Result<Answer, OutOfMemory>
+    fn answer(&self, alloc: Global, line: Self::Line, input: &[u8]) -> Result<Answer, OutOfMemory>
         requires { length input.now ≤ MAX_INPUT }
         ensures { IfOk result (λ answer.
-            record { status = answer.status; text = answer.text.items } ≡ reply self.now line input.now) };
+            replies self.now line input.now (record { status = answer.status; text = answer.text.items })) };
 }
 
 /// Serves one command line, and answers the status. `words` are those after the program's name.
@@ -54,8 +67,8 @@ pub fn serve<W: Work, S: Source, K: Sink>(
     sink: &mut K,
 ) -> u8
     ensures { Ending (record {
-      line = line_of (texts_of words.now);
-      reply = W.reply work.now;
+      line = W.line_of (texts_of words.now);
+      replies = W.replies work.now;
       left = S.left source.old;
       left_after = S.left source.new;
       read_faults = S.faults source.old;
@@ -67,7 +80,7 @@ pub fn serve<W: Work, S: Source, K: Sink>(
     })
         MAX_INPUT USAGE.now TOO_LONG.now result }
 {
-    let line = match line_of_words(alloc, words) {
+    let line = match work.line_of_words(alloc, words) {
         Ok(Some(line)) => line,
         Ok(None) => return write_text(sink, USAGE.as_bytes(), 2),
         Err(OutOfMemory) => return 6,

@@ -1,12 +1,24 @@
+ghost use Rattle.std.specs.Prelude.{◌≡◌};
+ghost use Rattle.command_line.specs.Lines.{line_of};
+
 use super::*;
 use bwe_io::{MemorySink, MemorySource, SureSink, SureSource};
+use command_line::{Line, line_of_words};
 use std::test::Fail;
 
 // Gives the input back.
 struct Echo;
 
 impl Work for Echo {
-    ghost reply = { λ _ _ input. record { status = 0; text = input } };
+    type Line = Line;
+
+    ghost line_of = { line_of };
+
+    ghost replies = { λ _ _ input reply. reply ≡ record { status = 0; text = input } };
+
+    fn line_of_words(&self, alloc: Global, words: &[String]) -> Result<Option<Line>, OutOfMemory> {
+        line_of_words(alloc, words)
+    }
 
     fn answer(&self, alloc: Global, _line: Line, input: &[u8]) -> Result<Answer, OutOfMemory> {
         Ok(Answer {
