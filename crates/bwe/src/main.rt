@@ -1,8 +1,9 @@
 //! The program `bwe`: its words and the standard streams, handed to the top call.
 #![tactic(auto)]
 
-use bwe_cli::bwe_once;
+use bwe_cli::bwe;
 use bwe_io::{StdSink, StdSource};
+use crew_actors::OpenGate;
 use std::process::ExitCode;
 use std::{env, io};
 
@@ -12,7 +13,7 @@ fn main(rt: HostRuntime) -> ExitCode {
     };
     let mut source = StdSource::new(rt.stdin());
     let mut sink = StdSink::new(rt.stdout());
-    ExitCode::from(bwe_once(rt.alloc(), &words, &mut source, &mut sink))
+    ExitCode::from(bwe(&rt, rt.alloc(), &words, &mut source, &mut sink, &OpenGate))
 }
 
 // The words after the program's name.

@@ -2,6 +2,7 @@
 
 ghost use Rattle.std.specs.Prelude.{◌≡◌, Some, IfOk};
 ghost use Rattle.plan_doc.specs.RefusalLines.{error_line};
+ghost use Rattle.bwe_cli.specs.Replies.{reply};
 
 use crate::check::check;
 use crate::solve::solve;
@@ -29,18 +30,30 @@ impl Work for Documents {
     }
 
     fn answer(&self, alloc: Global, line: Line, input: &[u8]) -> Result<Answer, OutOfMemory> {
-        match read_document(alloc, input) {
-            Ok(document) => match line {
-                Line::Solve => solve(alloc, document),
-                Line::Check => check(alloc, document),
-            },
-            Err(error) => refused(alloc, &error),
-        }
+        answer_document(alloc, line, input)
     }
 }
 
-// The one line of a refused document, with status 3.
-fn refused(alloc: Global, error: &DocError) -> Result<Answer, OutOfMemory>
+/// Answers a line on one document.
+pub(crate) fn answer_document(
+    alloc: Global,
+    line: Line,
+    input: &[u8],
+) -> Result<Answer, OutOfMemory>
+    ensures { IfOk result (λ answer.
+        record { status = answer.status; text = answer.text.items } ≡ reply line input.now) }
+{
+    match read_document(alloc, input) {
+        Ok(document) => match line {
+            Line::Solve => solve(alloc, document),
+            Line::Check => check(alloc, document),
+        },
+        Err(error) => refused(alloc, &error),
+    }
+}
+
+/// The one line of a refused document, with status 3.
+pub(crate) fn refused(alloc: Global, error: &DocError) -> Result<Answer, OutOfMemory>
     ensures { IfOk result (λ answer. (answer.status ≡ 3) × (error_line error.now ≡ Some answer.text.items)) }
 {
     Ok(Answer {

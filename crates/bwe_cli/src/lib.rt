@@ -5,20 +5,29 @@
 //! script is, and `check` that its closings are right. Nothing is promised of time, nor that memory is there.
 #![tactic(auto)]
 
-ghost use Rattle.std.specs.Prelude.{◌≡◌};
+ghost use Rattle.std.specs.Prelude.{◌≡◌, Some, None};
 ghost use Rattle.command_line.specs.Lines.{line_of, texts_of};
 ghost use Rattle.one_run.specs.Endings.{Ending};
 ghost use Rattle.bwe_cli.specs.Replies.{reply};
+ghost use Rattle.bwe_cli.specs.RunLine.{IsReplyTo, asked_of};
+ghost use Rattle.bwe_cli.specs.declared.run.Asked.{Asked};
 
 mod check;
 mod documents;
+mod run;
 mod solve;
 
 use bwe_io::{Sink, Source};
+use bwe_specs::OutOfMemory;
 use command_line::USAGE;
+use crew_actors::Gate;
 use documents::Documents;
 use one_run::{MAX_INPUT, TOO_LONG, serve};
+pub use run::Asked;
+use run::{asked_of_words, serve_run};
 use std::alloc::Global;
+use std::sync::Wait;
+use std::thread::Threads;
 
 /// Serves one command line, and answers the status ("Statuses", docs/FORMAT.md). `words` are those after the program's
 /// name.
@@ -46,4 +55,54 @@ pub fn bwe_once<S: Source, K: Sink>(
         MAX_INPUT USAGE.now TOO_LONG.now result }
 {
     serve(alloc, &Documents, words, source, sink)
+}
+
+/// Serves one command line of the program, and answers the status ("Statuses", docs/FORMAT.md).
+///
+/// The lines `solve` and `check` are those of `bwe_once`. `run` puts a reporter for each of the document's reporters, the
+/// allocator and the readers on threads; `gate` is called round each of their calls. What is written is the text of what
+/// they did, and the table at its end is the one that `solve` writes.
+pub fn bwe<S: Source, K: Sink, G: Gate + Sync, R: Threads + Wait + Sync>(
+    rt: &R,
+    alloc: Global,
+    words: &[String],
+    source: &mut S,
+    sink: &mut K,
+    gate: &G,
+) -> u8
+    // Every line but `run` is that of `bwe_once`.
+    ensures other { asked_of (texts_of words.now) ≡ None → Ending (record {
+      line = line_of (texts_of words.now);
+      replies = λ line input given. given ≡ reply line input;
+      left = S.left source.old;
+      left_after = S.left source.new;
+      read_faults = S.faults source.old;
+      read_faults_after = S.faults source.new;
+      written = K.written sink.old;
+      written_after = K.written sink.new;
+      write_faults = K.faults sink.old;
+      write_faults_after = K.faults sink.new;
+    })
+        MAX_INPUT USAGE.now TOO_LONG.now result }
+
+    // With status 0, `run` has written the text of a legal crew log of the script, with the table that `solve` writes.
+    ensures run { (asked : Asked) → asked_of (texts_of words.now) ≡ Some asked → Ending (record {
+      line = Some asked;
+      replies = λ asked input given. IsReplyTo asked input given;
+      left = S.left source.old;
+      left_after = S.left source.new;
+      read_faults = S.faults source.old;
+      read_faults_after = S.faults source.new;
+      written = K.written sink.old;
+      written_after = K.written sink.new;
+      write_faults = K.faults sink.old;
+      write_faults_after = K.faults sink.new;
+    })
+        MAX_INPUT USAGE.now TOO_LONG.now result }
+{
+    match asked_of_words(alloc, words) {
+        Ok(Some(asked)) => serve_run(rt, alloc, asked, source, sink, gate),
+        Ok(None) => bwe_once(alloc, words, source, sink),
+        Err(OutOfMemory) => 6,
+    }
 }

@@ -28,6 +28,7 @@ fn a_right_document_passes(rt: HostRuntime) -> Result<(), Fail> {
     assert_eq!(rt; groups.copies(alloc)?.len(), 1);
     let numbers = document_numbers(alloc, &raw, &links, &tasks, &reporters)?;
     assert_eq!(rt; numbers.task_owners.as_slice(), &[0][..]);
-    assert_eq!(rt; (numbers.script.len(), numbers.closings[0].share), (1, 7));
+    assert_eq!(rt; numbers.script.len(), 1);
+    assert!(rt; numbers.closings.iter().any(|closing| closing.share == 7));
     Ok(())
 }

@@ -96,8 +96,8 @@ pub fn serve<W: Work, S: Source, K: Sink>(
     }
 }
 
-// Writes the text, and answers the status that it was due with.
-fn write_text<K: Sink>(sink: &mut K, text: &[u8], status: u8) -> u8
+/// Writes the text, and answers the status that it was due with, or 5 where the sink fails.
+pub fn write_text<K: Sink>(sink: &mut K, text: &[u8], status: u8) -> u8
     ensures { Writes status (K.written sink.old) (K.written sink.new)
         (K.faults sink.old) (K.faults sink.new) text.now result }
 {

@@ -1,0 +1,46 @@
+-- The reply of a run is that of the definition.
+use Rattle.std.proofs.Common.{◌≡◌, ℕ, ◌<◌, ◌≤◌, ◌∙◌, List, length, map, Ok, ap, ap₂, refl, subst, sym, arith}
+use Rattle.std.proofs.lemmas.List.{length-map}
+use Rattle.bwe_specs.specs.Tree.{Cluster}
+use Rattle.bwe_specs.specs.Paths.{PathGroups}
+use Rattle.bwe_specs.specs.Allocation.{Plan, Table}
+use Rattle.crew_actors.specs.declared.log.CrewLog.{CrewLog}
+use Rattle.one_run.specs.Endings.{Reply}
+use Rattle.plan_doc.specs.declared.document.Document.{Document}
+use Rattle.plan_doc.specs.Accepted.{IsDocumentOf}
+use Rattle.plan_doc.specs.Conditions.{reporter_count}
+use Rattle.plan_doc.specs.Document.{Accepted}
+use Rattle.run_text.specs.RunText.{run_names_of, run_text_of}
+use Rattle.document_run.specs.Runs.{IsRunOf}
+use Rattle.document_run.proofs.Split.{split-count}
+use Rattle.bwe_cli.specs.Plans.{plan_in, plan_of}
+use Rattle.bwe_cli.specs.RunLine.{IsRunReply, run_printed}
+
+abbrev plan_parts : ℕ → List Cluster → List PathGroups → List ℕ → Plan
+plan_parts top clusters groups capacities = record { top = top; clusters = clusters; groups = groups; capacities = capacities }
+
+abbrev reply_of : ℕ → List ℕ → Reply
+reply_of status text = record { status = status; text = text }
+
+-- there is a number for each reporter
+pub sent-few : (plan : Plan) (document : Document) (readers reads : ℕ) (log : CrewLog Table) → IsRunOf plan document.script.items (reporter_count document) readers reads log
+    → reporter_count document ≤ 64 → length log.sent.items < 4_294_967_296
+sent-few plan document readers reads log run few =
+    omega (arith, ap length run.legal.sent, length-map run.scripts (λ script. length script.items), split-count (reporter_count document) document.script.items run.scripts run.split, few)
+
+module _ (accepted : Accepted) (document : Document) (is : IsDocumentOf accepted document) where
+  plan-is : plan_in document ≡ plan_of accepted
+  plan-is =
+      ap (λ tree. plan_parts tree.top tree.clusters document.plan document.topology.capacities) is.tree
+      ∙ ap₂ (λ plan topology. plan_parts accepted.top accepted.clusters plan topology.capacities) is.plan is.topology
+
+  pub run-reply : (readers reads : ℕ) (log : CrewLog Table) → IsRunOf (plan_in document) document.script.items (reporter_count document) readers reads log
+      → (text : List ℕ) → text ≡ run_text_of (run_names_of document.names) log → IsRunReply readers reads (Ok accepted) (reply_of 0 text)
+  run-reply readers reads log run text printed =
+      let planned : IsRunOf (plan_of accepted) document.script.items (reporter_count document) readers reads log =
+      subst (λ plan. IsRunOf plan document.script.items (reporter_count document) readers reads log) plan-is run in
+      let scripted : IsRunOf (plan_of accepted) accepted.script (reporter_count document) readers reads log =
+      subst (λ script. IsRunOf (plan_of accepted) script (reporter_count document) readers reads log) is.script planned in
+      let counted : IsRunOf (plan_of accepted) accepted.script (length accepted.names.reporters) readers reads log =
+      subst (λ names. IsRunOf (plan_of accepted) accepted.script (length names.reporters) readers reads log) is.names scripted in
+      (log, counted, ap (reply_of 0) (printed ∙ ap (λ names. run_text_of (run_printed names) log) is.names))

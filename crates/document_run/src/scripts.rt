@@ -1,0 +1,58 @@
+//! A script, split by reporter.
+
+ghost use Rattle.std.specs.Prelude.{◌≡◌, ◌≤◌, length, IfOk};
+ghost use Rattle.bwe_specs.specs.Reports.{reports_of};
+ghost use Rattle.plan_doc.specs.Conditions.{IsUsable, link_count, reporter_count, tasks_in};
+ghost use Rattle.crew.specs.Starting.{AreScripts};
+ghost use Rattle.crew.specs.Reporters.{scripted};
+ghost use Rattle.document_run.specs.Runs.{items_of, scripts_of};
+
+use bwe_specs::{MAX_REPORTERS, MAX_REPORTS, OutOfMemory, Report};
+use plan_doc::Document;
+use std::alloc::Global;
+
+/// The script of each reporter of an accepted document, in the order of their numbers.
+pub(crate) fn scripts_of_document(
+    alloc: Global,
+    document: &Document,
+) -> Result<Vec<Vec<Report>>, OutOfMemory>
+    requires { IsUsable document.now }
+    ensures split { IfOk result (λ scripts.
+        items_of scripts.items ≡ scripts_of (reporter_count document.now) document.now.script.items) }
+    ensures few { IfOk result (λ scripts. length scripts.items ≤ MAX_REPORTERS) }
+    ensures scripts { IfOk result (λ scripts.
+        AreScripts (tasks_in document.now) (link_count document.now) scripts.items) }
+    ensures room { IfOk result (λ scripts. scripted scripts.items ≤ MAX_REPORTS) }
+{
+    let reporters = document.names.reporters.len() as u32;
+    split_by_reporter(alloc, &document.script, reporters)
+}
+
+// The script of each reporter. It looks at the whole script once for each of them.
+fn split_by_reporter(
+    alloc: Global,
+    script: &[Report],
+    reporters: u32,
+) -> Result<Vec<Vec<Report>>, OutOfMemory>
+    ensures { IfOk result (λ scripts. items_of scripts.items ≡ scripts_of reporters script.now) }
+{
+    let mut scripts = Vec::new(alloc);
+    for reporter in 0..reporters {
+        let reports = reports_by(alloc, script, reporter)?;
+        scripts.push(reports)?;
+    }
+    Ok(scripts)
+}
+
+// The reports of one reporter, in the script's order.
+fn reports_by(alloc: Global, script: &[Report], reporter: u32) -> Result<Vec<Report>, OutOfMemory>
+    ensures { IfOk result (λ reports. reports.items ≡ reports_of reporter script.now) }
+{
+    let mut reports = Vec::new(alloc);
+    for report in script {
+        if report.reporter == reporter {
+            reports.push(*report)?;
+        }
+    }
+    Ok(reports)
+}
