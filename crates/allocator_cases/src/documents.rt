@@ -39,3 +39,10 @@ pub const WEIGHTS_IN_ONE_JOB: &str =
 /// The document of the case "Zero function".
 pub const ZERO_FUNCTION: &str =
     "{\"version\":1,\"top\":100,\"links\":[{\"name\":\"l0\",\"from\":\"a\",\"to\":\"b\",\"capacity\":100}],\"groups\":[{\"name\":\"g0\",\"from\":\"a\",\"to\":\"b\",\"paths\":[[{\"weight\":1,\"links\":[\"l0\"]}]],\"users\":[{\"name\":\"u0\",\"jobs\":[{\"name\":\"j0\",\"task\":[[0,0],[100,100]],\"tasks\":[{\"name\":\"t0\",\"reporter\":\"r0\"}]}],\"function\":[[0,0]]}]},{\"name\":\"g1\",\"from\":\"a\",\"to\":\"b\",\"paths\":[[{\"weight\":1,\"links\":[\"l0\"]}]],\"users\":[{\"name\":\"u0\",\"jobs\":[{\"name\":\"j0\",\"task\":[[0,0],[100,100]],\"tasks\":[{\"name\":\"t1\",\"reporter\":\"r0\"}]}]}]}],\"reporters\":[\"r0\"],\"script\":[{\"reporter\":\"r0\",\"task\":\"t0\",\"demand\":80},{\"reporter\":\"r0\",\"task\":\"t1\",\"demand\":80}]}";
+
+/// The document of the case "Twenty thousand tasks", but for its tasks and its script, which stand between these texts.
+pub const TWENTY_THOUSAND_TASKS: (&str, &str, &str) = (
+    "{\"version\":1,\"top\":1,\"links\":[{\"name\":\"l0\",\"from\":\"a\",\"to\":\"b\",\"capacity\":1000000000000}],\"groups\":[{\"name\":\"g0\",\"from\":\"a\",\"to\":\"b\",\"paths\":[[{\"weight\":1,\"links\":[\"l0\"]}]],\"users\":[{\"name\":\"u0\",\"jobs\":[{\"name\":\"j0\",\"task\":[[0,0],[1,1000000000000]],\"tasks\":[",
+    "]}]}]}],\"reporters\":[\"r0\"],\"script\":[",
+    "]}",
+);

@@ -45,7 +45,10 @@ fn each_case_has_its_table(rt: HostRuntime) -> Result<(), Fail> {
         (WEIGHTS_IN_ONE_JOB, 2, &[75, 25][..], 100, 1),
     ] {
         let table = table_of(alloc, text)?;
-        assert_eq!(rt; (table.prefix(), table.total(), table.closings.len()), (prefix, total, closings));
+        assert_eq!(rt;
+            (table.prefix(), table.total(), table.closings.len()),
+            (prefix, total, closings)
+        );
         assert_eq!(rt; table.limits.as_slice(), limits);
     }
     Ok(())
@@ -67,9 +70,52 @@ fn a_repeated_demand_sends_no_entry(rt: HostRuntime) -> Result<(), Fail> {
     let again = script[0];
     let allocator = Allocator::new(alloc, tree, topology, plan);
     let (applied, later, change) = change_by(alloc, allocator, &script, again)?;
-    assert_eq!(rt; (change.prefix, change.limits.len(), change.groups.len()), (3, 0, 0));
+    assert_eq!(rt;
+        (change.prefix, change.limits.len(), change.groups.len()),
+        (3, 0, 0)
+    );
     assert_eq!(rt; (change.loads.len(), change.closings.is_none()), (0, true));
-    assert_eq!(rt; (applied.prefix, applied.limits.as_slice()), (3, &[50, 50][..]));
-    assert_eq!(rt; later.copy(alloc)?.limits.as_slice(), applied.limits.as_slice());
+    assert_eq!(rt;
+        (applied.prefix, applied.limits.as_slice()),
+        (3, &[50, 50][..])
+    );
+    assert_eq!(rt;
+        later.copy(alloc)?.limits.as_slice(),
+        applied.limits.as_slice()
+    );
+    Ok(())
+}
+
+// The document of the case "Twenty thousand tasks": one job whose tasks each ask for all of the link, up to share 1.
+fn twenty_thousand_tasks(alloc: Global) -> Result<String, Fail> {
+    let mut tasks = String::new(alloc);
+    let mut script = String::new(alloc);
+    let mut comma = "";
+    for number in 0..20_000u32 {
+        write!(
+            tasks,
+            "{comma}{{\"name\":\"t{number}\",\"reporter\":\"r0\"}}"
+        )?;
+        write!(
+            script,
+            "{comma}{{\"reporter\":\"r0\",\"task\":\"t{number}\",\"demand\":1000000000000}}"
+        )?;
+        comma = ",";
+    }
+    let (before, between, after) = TWENTY_THOUSAND_TASKS;
+    Ok(format!(in alloc; "{before}{tasks}{between}{script}{after}")?)
+}
+
+#[test]
+fn twenty_thousand_tasks_close_their_link_at_once(rt: HostRuntime) -> Result<(), Fail> {
+    let alloc = rt.alloc();
+    let text = twenty_thousand_tasks(alloc)?;
+    let table = table_of(alloc, text.as_str())?;
+    assert_eq!(rt;
+        (table.prefix(), table.total(), table.closings.len()),
+        (20_000, 0, 1)
+    );
+    assert_eq!(rt; table.limits.len(), 20_000);
+    assert!(rt; table.limits.iter().all(|limit| *limit == 0));
     Ok(())
 }
