@@ -5,6 +5,7 @@ ghost use Rattle.path_groups.specs.Plan.{IsBuiltOn};
 ghost use Rattle.mpfa_fill.specs.GroupValues.{Values};
 
 use super::*;
+use bottleneck_cert::{Verdict, check};
 use bwe_specs::OutOfMemory;
 use fill_cases::{Line, Slope, Slopes, path, plan_over, topology_of};
 use mono_search::Steps;
@@ -64,8 +65,31 @@ fn are_equal(filling: &Filling, other: &Filling) -> bool {
             .all(|(row, other)| row.as_slice() == other.as_slice())
 }
 
+// Whether the check says Right of these closings, and of none that differ from them in one share, by one.
+fn are_right_alone<V: GroupValues>(
+    alloc: Global,
+    values: &V,
+    topology: &Topology,
+    plan: &PathPlan,
+    closings: &[Closing],
+) -> Result<bool, OutOfMemory>
+    requires built_on { IsBuiltOn topology.now plan.now }
+    requires groups { (V.meaning values.now).groups ≡ length plan.now }
+{
+    for place in 0..closings.len() {
+        let mut moved = Vec::from_slice(alloc, closings)?;
+        if let Some(closing) = moved.get_mut(place) {
+            closing.share = closing.share.wrapping_add(1);
+        }
+        if check(alloc, values, topology, plan, &moved)? == Verdict::Right {
+            return Ok(false);
+        }
+    }
+    Ok(check(alloc, values, topology, plan, closings)? == Verdict::Right)
+}
+
 // Small networks made by the numbers from 0 on, each solved without hints, from the hints of the network before, and
-// from its own closings.
+// from its own closings. The check says Right of the solver's closings alone.
 #[test]
 fn both_fillings_agree(rt: HostRuntime) -> Result<(), Fail> {
     let alloc = rt.alloc();
@@ -89,6 +113,8 @@ fn both_fillings_agree(rt: HostRuntime) -> Result<(), Fail> {
         for hints in [[].as_slice(), before.as_slice(), right] {
             let filling = solved(&rt, alloc, &values, &topology, &plan, hints)?;
             assert!(rt; are_equal(&filling, &stepped), "at {seed}");
+            assert!(rt; values.groups() == plan.groups());
+            assert!(rt; are_right_alone(alloc, &values, &topology, &plan, &filling.closings)?);
         }
         before = stepped.closings;
     }
