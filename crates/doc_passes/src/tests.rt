@@ -28,7 +28,6 @@ fn a_right_document_passes(rt: HostRuntime) -> Result<(), Fail> {
     assert_eq!(rt; groups.copies(alloc)?.len(), 1);
     let numbers = document_numbers(alloc, &raw, &links, &tasks, &reporters)?;
     assert_eq!(rt; numbers.task_owners.as_slice(), &[0][..]);
-    assert_eq!(rt; numbers.script.len(), 1);
-    assert!(rt; numbers.closings.iter().any(|closing| closing.share == 7));
+    assert_eq!(rt; (numbers.script.len(), numbers.closings.len()), (1, 1));
     Ok(())
 }
