@@ -61,11 +61,15 @@ group_value group = object_with ((keys.From, string group.from) ∷ with_functio
     (keys.Name, string group.name) ∷ (keys.Paths, list_value (list_value path_value) group.path_groups)
     ∷ (keys.To, string group.to) ∷ (keys.Users, list_value user_value group.users) ∷ []))
 
-abbrev pub report_value : Report → Data
-report_value (record { reporter = reporter; target = of_task task; amount = amount }) = object_with (
+-- an amount that a reporter told of a task or a link
+abbrev pub told_value : List ℕ → ℕ → Target → Data
+told_value reporter amount (of_task task) = object_with (
     (keys.Demand, whole_value amount) ∷ (keys.Reporter, string reporter) ∷ (keys.Task, string task) ∷ [])
-report_value (record { reporter = reporter; target = of_link link; amount = amount }) = object_with (
+told_value reporter amount (of_link link) = object_with (
     (keys.Capacity, whole_value amount) ∷ (keys.Link, string link) ∷ (keys.Reporter, string reporter) ∷ [])
+
+abbrev pub report_value : Report → Data
+report_value report = told_value report.reporter report.amount report.target
 
 -- a document without closings
 abbrev pub document_value : Raw → Data

@@ -1,6 +1,6 @@
 -- Made document: the document of a seed, a number of groups and a number of tasks.
 use Rattle.std.specs.Prelude.{ℕ, ◌+◌, ◌*◌, ◌/◌, ◌%◌, ◌==◌, ◌≤◌, List, [], ◌∷◌, ◌++◌, map, codes, decimal, Option, Some, None, if◌then◌else◌}
-use Rattle.std.specs.List.{filter, range_with_len}
+use Rattle.std.specs.List.{filter}
 use Rattle.serde_json.specs.Written.{compact_text}
 use Rattle.bwe_specs.specs.Reports.{numbers}
 use Rattle.raw_document.specs.Raw.{Link, Path, Task, Job, User, Group, of_task, Report, Raw}
