@@ -1,4 +1,14 @@
 //! Large valid documents from three numbers: the line `make`, and what the line `bulk` solves.
 //!
 //! The top call uses `make_document`, whose clause is the whole document ("The made document", docs/FORMAT.md).
+//! It costs by the length of the text: the tasks of a group are met by steps, so nothing is looked at twice.
 #![tactic(auto)]
+
+mod document;
+mod network;
+mod size;
+#[cfg(test)]
+mod tests;
+mod tree;
+
+pub use document::make_document;

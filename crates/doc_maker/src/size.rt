@@ -1,0 +1,70 @@
+//! What a document is made from, and what is drawn and named from that.
+
+ghost use Rattle.std.specs.Prelude.{◌≡◌, IfOk, string_bytes};
+ghost use Rattle.doc_maker.specs.Made.{drawn, numbered as numbered_text};
+
+use std::alloc::{AllocError, Global};
+use std::marker::Model;
+
+/// The three numbers of a made document, in their ranges.
+#[derive(Drop)]
+pub(crate) struct DocumentSize {
+    seed: u64,
+    groups: u32,
+    tasks: u32,
+}
+
+impl Model for DocumentSize {
+    ghost use Rattle.doc_maker.specs.Made.{Size, IsSize};
+
+    ghost Value = { Size };
+
+    ghost view = { λ size. record { seed = size.seed; groups = size.groups; tasks = size.tasks } };
+
+    ghost invariant = { λ size. IsSize (record { seed = size.seed; groups = size.groups; tasks = size.tasks }) };
+}
+
+impl DocumentSize {
+    ghost use Rattle.doc_maker.specs.Made.{IsSize};
+
+    pub(crate) fn new(seed: u64, groups: u32, tasks: u32) -> DocumentSize
+        requires { IsSize (record { seed = seed; groups = groups; tasks = tasks }) }
+        ensures { result ≡ record { seed = seed; groups = groups; tasks = tasks } }
+    {
+        DocumentSize {
+            seed,
+            groups,
+            tasks,
+        }
+    }
+
+    /// How many groups and links there are.
+    pub(crate) fn groups(&self) -> u32
+        ensures groups { result ≡ self.now.groups }
+        ensures in_range { IsSize self.now }
+    {
+        self.groups
+    }
+
+    /// How many tasks there are.
+    pub(crate) fn tasks(&self) -> u32
+        ensures tasks { result ≡ self.now.tasks }
+        ensures in_range { IsSize self.now }
+    {
+        self.tasks
+    }
+
+    /// The number that is drawn at a place, below 10,007.
+    pub(crate) fn drawn(&self, place: u32) -> u64
+        ensures { result ≡ drawn self.now place }
+    {
+        ((self.seed % 1_000_003) * 7_919 + u64::from(place) * 104_729) % 10_007
+    }
+}
+
+/// A letter and a number.
+pub(crate) fn numbered(alloc: Global, letter: &str, number: u32) -> Result<String, AllocError>
+    ensures { IfOk result (λ name. string_bytes name ≡ numbered_text letter.now number) }
+{
+    format!(in alloc; "{letter}{number}")
+}
