@@ -1,6 +1,5 @@
 -- The text of a table, line by line. A text is the list of its bytes.
-use Rattle.std.specs.Prelude.{ℕ, ◌++◌, List, [], length, map, flat_map, slice_index, slice_index_or, sum_by, codes, decimal, string_bytes, Option, Some, None, String}
-use Rattle.std.specs.declared.alloc.Global.{Global}
+use Rattle.std.specs.Prelude.{ℕ, ◌++◌, List, [], length, map, flat_map, slice_index, slice_index_or, sum_by, codes, decimal, string_bytes, Option, Some, None}
 use Rattle.bwe_specs.specs.declared.network.Closing.{Closing}
 use Rattle.bwe_specs.specs.Allocation.{Table, GroupLine, PlaceLine}
 use Rattle.bwe_specs.specs.Reports.{numbers}

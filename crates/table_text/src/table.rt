@@ -30,8 +30,8 @@ pub fn table_text(alloc: Global, table: &LimitTable, names: &Names) -> Result<Ve
     Ok(text.into_bytes())
 }
 
-// What the groups get together.
-fn total(lines: &[GroupLine]) -> u64
+/// What the groups get together.
+pub(crate) fn total(lines: &[GroupLine]) -> u64
     requires { sum_by (λ line. line.amount) lines.now ≤ MAX_TOTAL }
     ensures { result ≡ sum_by (λ line. line.amount) lines.now }
 {

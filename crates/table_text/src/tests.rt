@@ -1,4 +1,4 @@
-use super::{check_text, table_text};
+use super::{bulk_text, check_text, table_text};
 use bwe_specs::{Cause, Closing, OutOfMemory, Verdict};
 use doc_names::Names;
 use limit_table::{GroupLine, LimitTable, PlaceLine};
@@ -99,5 +99,40 @@ fn each_cause_has_its_line(rt: HostRuntime) -> Result<(), OutOfMemory> {
         let text = check_text(alloc, &Verdict::Wrong { at, cause }, &names)?;
         assert_eq!(rt; text.as_slice(), line.as_bytes());
     }
+    Ok(())
+}
+
+// The case "Two made groups".
+#[test]
+fn a_summary_has_four_lines(rt: HostRuntime) -> Result<(), OutOfMemory> {
+    let alloc = rt.alloc();
+    let table = LimitTable {
+        prefix: 2,
+        limits: vec![in alloc; 173, 827]?,
+        groups: vec![in alloc;
+            GroupLine {
+                share: 86_993,
+                amount: 173,
+                places: Vec::new(alloc)
+            },
+            GroupLine {
+                share: 86_993,
+                amount: 827,
+                places: Vec::new(alloc)
+            },
+        ]?,
+        loads: vec![in alloc; 1_000, 0]?,
+        closings: vec![in alloc;
+            Closing {
+                link: 0,
+                share: 86_993
+            },
+        ]?,
+    };
+    let text = bulk_text(alloc, 2, 2, &table)?;
+    assert_eq!(rt;
+        text.as_slice(),
+        b"groups 2\ntasks 2\nclosings 1\ntotal 1000\n".as_slice()
+    );
     Ok(())
 }

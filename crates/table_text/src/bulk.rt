@@ -1,0 +1,37 @@
+//! The summary of a table.
+
+ghost use Rattle.std.specs.Prelude.{◌≡◌, ◌++◌, IfOk, OnOk, codes, decimal, string_bytes};
+ghost use Rattle.table_text.specs.BulkText.{bulk_text_of};
+
+use crate::line::push_word_and_number;
+use crate::table::total;
+use bwe_specs::OutOfMemory;
+use limit_table::LimitTable;
+use std::alloc::{AllocError, Global};
+
+/// The summary of the table of a document that has so many groups and tasks ("Bulk text", docs/FORMAT.md).
+#[tactic(auto, unfolding(crate::specs::BulkText::bulk_text_of))]
+pub fn bulk_text(
+    alloc: Global,
+    groups: u32,
+    tasks: u32,
+    table: &LimitTable,
+) -> Result<Vec<u8>, OutOfMemory>
+    ensures { IfOk result (λ text. text.items ≡ bulk_text_of groups tasks table.now) }
+{
+    let mut text = String::new(alloc);
+    push_line(alloc, &mut text, "groups ", u64::from(groups))?;
+    push_line(alloc, &mut text, "tasks ", u64::from(tasks))?;
+    push_line(alloc, &mut text, "closings ", table.closings.len() as u64)?;
+    push_line(alloc, &mut text, "total ", total(&table.groups))?;
+    Ok(text.into_bytes())
+}
+
+// A line of a word and a number.
+fn push_line(alloc: Global, text: &mut String, word: &str, number: u64) -> Result<(), AllocError>
+    ensures { OnOk result
+        (string_bytes text.new ≡ string_bytes text.old ++ word.now ++ decimal number ++ codes "\n") }
+{
+    push_word_and_number(alloc, text, word, number)?;
+    text.push_str("\n")
+}
