@@ -1,5 +1,8 @@
+mod told;
+
 use super::change_by;
 use crate::documents::*;
+use crate::tests::told::tell_one_of_two;
 use allocator::{Allocator, after_script};
 use bwe_specs::{Report, Target};
 use demand_book::{Maker, Posted};
@@ -84,6 +87,20 @@ fn a_repeated_demand_sends_no_entry(rt: HostRuntime) -> Result<(), Fail> {
         applied.limits.as_slice()
     );
     Ok(())
+}
+
+// The case "Told and untold readers", on the plan of the case "Shared link".
+#[test]
+fn an_untold_reader_sees_the_limits_too(rt: HostRuntime) -> Result<(), Fail> {
+    let alloc = rt.alloc();
+    let Document {
+        tree,
+        topology,
+        plan,
+        ..
+    } = read_document(alloc, SHARED_LINK.as_bytes())?;
+    let allocator = Allocator::new(alloc, tree, topology, plan);
+    tell_one_of_two(&rt, alloc, allocator)
 }
 
 // The document of the case "Twenty thousand tasks": one job whose tasks each ask for all of the link, up to share 1.

@@ -17,6 +17,9 @@ use std::sync::atomic::Ordering;
 use std::test::*;
 use std::thread::Threads;
 
+// How often the case with threads is played.
+const RUNS: u64 = 100;
+
 /// What is played on a board with two reporters and two readers.
 #[derive(Clone, Copy)]
 pub enum Case<'a> {
@@ -41,14 +44,9 @@ fn a_full_log_takes_no_piece_of_two_but_one_of_one(rt: HostRuntime) -> Result<()
 // The case "Solve beside a report".
 #[test]
 fn a_report_is_answered_while_a_table_is_made(rt: HostRuntime) -> Result<(), Fail> {
-    let meeting = Meeting::new();
-    on_board::<Brand, _>(
-        &rt,
-        rt.alloc(),
-        TestMaker::new(None, Some(&meeting)),
-        Case::Beside { meeting: &meeting },
-    )?;
-    assert_eq!(rt; meeting.missed.load(Ordering::SeqCst), 0);
+    for _ in 0..RUNS {
+        meet(&rt, rt.alloc())?;
+    }
     Ok(())
 }
 
@@ -63,6 +61,18 @@ fn each_refusal_of_the_maker_leaves_the_board_usable(rt: HostRuntime) -> Result<
             Case::Memory { refused },
         )?;
     }
+    Ok(())
+}
+
+fn meet<R: Wait + Threads + Abort + Sync>(rt: &R, alloc: Global) -> Result<(), Fail> {
+    let meeting = Meeting::new();
+    on_board::<Brand, _>(
+        rt,
+        alloc,
+        TestMaker::new(None, Some(&meeting)),
+        Case::Beside { meeting: &meeting },
+    )?;
+    assert_eq!(rt; meeting.missed.load(Ordering::SeqCst), 0);
     Ok(())
 }
 

@@ -5,7 +5,7 @@ ghost use Rattle.board.specs.Reporting.{AreFresh, AreInOrder};
 
 use crate::tests::Case;
 use crate::tests::maker::{Meeting, TestMaker};
-use crate::{AllocatorPass, Bases, Board, Profile, ReaderPass, ReportError, ReporterPass};
+use crate::{AllocatorPass, Bases, Board, Profile, ReaderPass, ReportError, ReporterPass, View};
 use bwe_specs::{Report, Target};
 use demand_book::SmallTable;
 use std::alloc::Global;
@@ -55,7 +55,7 @@ pub fn play<
         }
     }
     let passes = in_order(rt, alloc, first, second)?;
-    end(rt, alloc, board, passes)
+    end(rt, alloc, board, passes, case)
 }
 
 fn in_order<B: Bases, R: Abort>(
@@ -96,27 +96,29 @@ fn tell<N: Profile<SmallTable>, B: Bases, R: Wait + Abort>(
     assert_eq!(rt; ack.prefix(), 1);
     pass.learn(&ack)?;
     one.learn(alloc, &ack)?;
-    let view = one.read(alloc);
-    assert_eq!(rt;
-        (
-            view.prefix(),
-            view.log_length(),
-            view.total(),
-            view.limit(1)
-        ),
-        (1, 1, 80, 0)
-    );
-    assert_eq!(rt; (view.entry(0), view.entry(1)), (Some(report), None));
-    let view = other.read(alloc);
-    assert_eq!(rt;
-        (view.prefix(), view.log_length(), view.table().total),
-        (1, 1, 80)
-    );
+    see(rt, &one.read(alloc), report);
+    see(rt, &other.read(alloc), report);
     assert_eq!(rt;
         (one.reads(), one.floor(), board.round(rt, alloc, allocator)?),
         (2, 1, 1)
     );
     Ok(())
+}
+
+// What a reader is shown after the report of 80.
+fn see<N: Profile<SmallTable>, B: Bases, R: Abort>(
+    rt: &R,
+    view: &View<'_, SmallTable, N, B>,
+    report: Report,
+)
+    requires tasks { 2 ≡ N.tasks }
+{
+    assert_eq!(rt;
+        (view.prefix(), view.log_length(), view.total()),
+        (1, 1, 80)
+    );
+    assert_eq!(rt; (view.limit(1), view.table().total), (0, 80));
+    assert_eq!(rt; (view.entry(0), view.entry(1)), (Some(report), None));
 }
 
 fn fill_log<N: Profile<SmallTable>, B: Bases, R: Wait + Abort>(
@@ -171,7 +173,7 @@ fn settle_three<N: Profile<SmallTable>, B: Bases, R: Wait + Abort>(
             refusals = refusals.saturating_add(1);
         }
     }
-    assert_eq!(rt; refusals, if refused < 7 { 1 } else { 0 });
+    assert_eq!(rt; refusals, if refused > 0 && refused < 7 { 1 } else { 0 });
     Ok(())
 }
 
@@ -278,26 +280,45 @@ fn read_often<N: Profile<SmallTable>, B: Bases>(
     }
 }
 
-// The end, which may be refused once.
+// The end, which is refused once where the maker refuses its call 7, the first that no settle makes.
 fn end<N: Profile<SmallTable>, B: Bases, R: Wait + Abort>(
     rt: &R,
     alloc: Global,
     board: &Board<TestMaker<'_>, N, B>,
     passes: Vec<ReporterPass<B>>,
+    case: Case<'_>,
 ) -> Result<(), Fail>
     requires count { length passes.items ≡ N.reporters }
     requires order { AreInOrder passes.items }
 {
     let ended = match board.finish(rt, alloc, passes) {
         Ok(ended) => Ok(ended),
-        Err(refused) => board.finish(rt, alloc, refused.passes),
+        Err(refused) => {
+            assert!(rt; matches!(case, Case::Memory { refused: 7 }));
+            board.finish(rt, alloc, refused.passes)
+        }
     };
     let ended = ended.ok().ok_or("memory")?;
     assert_eq!(rt;
-        (ended.ack.prefix(), ended.table.prefix),
-        (ended.length, ended.length)
+        (
+            ended.ack.prefix(),
+            ended.length,
+            ended.table.prefix,
+            ended.table.total
+        ),
+        end_of(case)
     );
     Ok(())
+}
+
+// How many reports the acknowledgement, the log and the table of the end have, and the table's total.
+fn end_of(case: Case<'_>) -> (u64, u64, u64, u64) {
+    match case {
+        Case::Told => (1, 1, 1, 80),
+        Case::FullLog => (200_000, 200_000, 200_000, 200_000),
+        Case::Beside { meeting: _ } => (2, 2, 2, 12),
+        Case::Memory { refused: _ } => (3, 3, 3, 15),
+    }
 }
 
 // A demand of the task that has the reporter's number.

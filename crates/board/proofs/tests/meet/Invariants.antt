@@ -1,6 +1,6 @@
 use Rattle.std.proofs.Common.{◌≡◌}
 use Rattle.demand_book.specs.Small.{small_table}
-use Rattle.board.proofs.tests.a_report_is_answered_while_a_table_is_made.Given as goal
+use Rattle.board.proofs.tests.meet.Given as goal
 
 -- the tables of two tasks, for two reporters and one link
 abbrev pub ghosts-on_board : goal.ghosts-on_board
