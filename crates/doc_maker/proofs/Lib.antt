@@ -1,3 +1,4 @@
 pub mod Lists
 pub mod NoFloat
 pub mod Steps
+pub mod accepting

@@ -5,6 +5,7 @@
 #![tactic(auto)]
 
 mod document;
+mod laws;
 mod network;
 mod size;
 #[cfg(test)]
@@ -12,3 +13,4 @@ mod tests;
 mod tree;
 
 pub use document::make_document;
+pub use laws::{made_documents_are_accepted, made_documents_have_their_counts};
