@@ -53,11 +53,11 @@ unfolding job_at text field optional object is_one_of has_only has_all word
 job_back size group = rw (function_back size group, list_back (task_at 1) task_value made_task made_task task_back (tasks_of size group)) refl
 
 -- a user with a function or without
-user_with : Size → ℕ → Bool → User
+abbrev pub user_with : Size → ℕ → Bool → User
 user_with size group capped = record { name = codes "u0"; function = if capped then Some ((0, 0) ∷ (1_000_000, 2_000) ∷ []) else None; jobs = made_job size group ∷ [] }
 
 user_back : (size : Size) (group : ℕ) → user_at 1 (user_value (made_user size group)) ≡ Ok (made_user size group)
-unfolding user_at user_with list_of each point pair_of text field optional object is_one_of has_only has_all word
+unfolding user_at list_of each point pair_of text field optional object is_one_of has_only has_all word
 user_back size group = go (group % 3 == 0) where
   go : (capped : Bool) → user_at 1 (user_value (user_with size group capped)) ≡ Ok (user_with size group capped)
   go true = rw (job_back size group) refl

@@ -19,11 +19,12 @@ use Rattle.doc_maker.specs.Accepting.{made_names}
 use Rattle.doc_maker.proofs.accepting.Walks.{tasks_below}
 use Rattle.doc_maker.proofs.accepting.Names.{named, bytes_eq-named}
 
--- another number, and both below a limit
+-- the other number is another, and small
 pub record IsOther (number other : ℕ) : Type 0 where
   pub small : other < 100_000
   pub different : number ≢ other
 
+-- a name does not stand among those of other numbers
 pub absent : (letter : ℕ) (before : List ℕ) (number : ℕ) → number < 100_000 → All (IsOther number) before → list_any (bytes_eq (named letter number)) (map (named letter) before) ≡ false
 absent letter before number small others =
     list_any_none (bytes_eq (named letter number)) (map (named letter) before)
@@ -64,7 +65,7 @@ module _ {S A : Type 0} (step : S → A → Result S (List PathStep)) (item : �
     | inr fails ↦ rw fails (puts_all place (low + 1) n before (omega arith) (All-weaker (IsEarlier test low) (IsEarlier test (low + 1)) (later test low) before earlier))
   ]
 
--- ---- the names of the groups' tasks, group by group
+-- ---- one name more
 
 pub filter_all : (xs : List ℕ) → filter (λ _. true) xs ≡ xs
 filter_all [] = refl
@@ -80,6 +81,8 @@ task_named : (before : List ℕ) (task : ℕ) → task < 100_000 → All (IsOthe
 task_named before task small others = named_ok (map task_name before) (map task_name (before ++ task ∷ [])) (task_name task) (fresh_named 116 before task small others)
 
 module _ (size : Size) (right : IsSize size) where
+  -- ---- the names of the groups' tasks, group by group
+
   -- a task of another group
   record IsElsewhere (group task : ℕ) : Type 0 where
     small : task < 100_000

@@ -1,16 +1,16 @@
 -- The text of a made document is read back as its value.
-use Rattle.std.proofs.Common.{◌≡◌, ℕ, suc, ◌+◌, ◌*◌, ◌^◌, ◌<◌, ◌/◌, ◌%◌, ◌==◌, Bool, true, false, List, [], ◌∷◌, map, Some, None, IsUtf8, decimal, refl, arith}
-use Rattle.std.specs.Prelude.{codes, if◌then◌else◌}
+use Rattle.std.proofs.Common.{◌≡◌, ℕ, suc, ◌+◌, ◌*◌, ◌^◌, ◌<◌, ◌/◌, ◌%◌, ◌==◌, Bool, true, false, List, [], ◌∷◌, map, Some, IsUtf8, decimal, refl, arith}
+use Rattle.std.specs.Prelude.{codes}
 use Rattle.std.proofs.lemmas.Fmt.{IsAscii-decimal}
 use Rattle.std.proofs.lemmas.Str.{IsUtf8-append, IsUtf8-from_ascii}
 use Rattle.json.proofs.Printed.Utf8.{are_ascii, IsUtf8-are_ascii}
 use Rattle.serde_json.specs.Data.{string}
 use Rattle.bwe_specs.specs.Reports.{numbers}
 use Rattle.raw_document.specs.Words.{word}
-use Rattle.raw_document.specs.Raw.{User}
 use Rattle.raw_document.specs.Json.{json}
 use Rattle.doc_maker.specs.Layout.{point_value, function_value, list_value, link_value, path_value, task_value, job_value, user_value, group_value, report_value, document_value}
 use Rattle.doc_maker.specs.Made.{Size, IsSize, drawn, link_name, task_name, reporter_name, made_link, made_path, made_path_groups, tasks_of, made_task, made_function, made_job, made_user, made_group, made_report, made, made_document}
+use Rattle.doc_maker.proofs.accepting.Layouts.{user_with}
 use Rattle.doc_maker.proofs.accepting.Names.{named}
 use Rattle.doc_maker.proofs.accepting.Walks.{numbers_below, tasks_below}
 use Rattle.doc_maker.proofs.accepting.Printed.{IsPrinted, whole_printed, text_printed, array_printed, list_printed, object_printed, json_back}
@@ -74,14 +74,10 @@ module _ (size : Size) (right : IsSize size) where
   jobs_printed : (group : ℕ) → IsPrinted 4 (list_value job_value (made_job size group ∷ []))
   jobs_printed group = array_printed _ (job_printed group, tt)
 
-  -- a user with a function or without
-  abbrev user_with : ℕ → Bool → User
-  user_with group capped = record { name = codes "u0"; function = if capped then Some ((0, 0) ∷ (1_000_000, 2_000) ∷ []) else None; jobs = made_job size group ∷ [] }
-
   user_printed : (group : ℕ) → IsPrinted 5 (user_value (made_user size group))
   unfolding word
   user_printed group = go (group % 3 == 0) where
-    go : (capped : Bool) → IsPrinted 5 (user_value (user_with group capped))
+    go : (capped : Bool) → IsPrinted 5 (user_value (user_with size group capped))
     go true = object_printed _ refl refl (
       array_printed _ (point_printed 0 0 (omega arith) (omega arith), (point_printed 1_000_000 2_000 (omega arith) (omega arith), tt)),
       (jobs_printed group, (plain_printed (codes "u0") refl, tt)),

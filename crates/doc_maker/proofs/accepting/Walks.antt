@@ -13,6 +13,7 @@ use Rattle.doc_maker.specs.Accepting.{walked_tasks}
 
 -- ---- lists that have an item
 
+-- the numbers below a number are in their list
 pub contains_number : (n number : ℕ) → number < n → Contains (numbers n) number
 contains_number n number below = (number, omega (arith, length-range_with_len 0 n), get_or-range_with_len 0 n number number below ∙ omega arith)
 
@@ -22,7 +23,7 @@ contains_here x y xs same = (0, omega arith, same)
 contains_later : {A : Type 0} (x y : A) (xs : List A) → Contains xs y → Contains (x ∷ xs) y
 contains_later x y xs found = (suc found.0, omega (arith, found.1), found.2)
 
--- what an item of a longer list is
+-- an item of a longer list is its first, or one of the rest
 contains_cases : {A : Type 0} (P : Type 0) (x y : A) (xs : List A) → (x ≡ y → P) → (Contains xs y → P) → Contains (x ∷ xs) y → P
 contains_cases {A = A} P x y xs here later found = go found.0 found.1 found.2 where
   go : (k : ℕ) → k < length (x ∷ xs) → get_or (x ∷ xs) k y ≡ y → P
@@ -69,10 +70,11 @@ walked_below size = All-flat_map (λ task. task < size.tasks) (tasks_of size) (t
 
 -- ---- how many there are
 
--- one of the numbers from a first one on is this one
+-- one where the test passes
 abbrev as_one : Bool → ℕ
 as_one b = cond b 1 0
 
+-- no number from one on is below it
 none_of : (low n number : ℕ) → number < low → sum_by (λ other. as_one (number == other)) (range_with_len low n) ≡ 0
 none_of low zero number below = refl
 none_of low (suc n) number below =
@@ -80,6 +82,7 @@ none_of low (suc n) number below =
     let later : sum_by (λ other. as_one (number == other)) (range_with_len (low + 1) n) ≡ 0 = none_of (low + 1) n number (omega arith) in
     sum_by-cons (λ other. as_one (number == other)) low (range_with_len (low + 1) n) ∙ omega arith
 
+-- among so many numbers from one on, one is this one
 one_of : (low n number : ℕ) → low ≤ number → number < low + n → sum_by (λ other. as_one (number == other)) (range_with_len low n) ≡ 1
 one_of low zero number above below = absurd (omega arith)
 one_of low (suc n) number above below = sum_by-cons (λ other. as_one (number == other)) low (range_with_len (low + 1) n) ∙ (elim (cases_eq number low) as (λ _. as_one (number == low) + sum_by (λ other. as_one (number == other)) (range_with_len (low + 1) n) ≡ 1) [
@@ -98,27 +101,28 @@ sum_by-plus f g h splits [] = refl
 sum_by-plus f g h splits (x ∷ xs) = let here : h x ≡ f x + g x = splits x in let later : sum_by h xs ≡ sum_by f xs + sum_by g xs = sum_by-plus f g h splits xs in omega (arith, sum_by-cons f x xs, sum_by-cons g x xs, sum_by-cons h x xs)
 
 module _ (groups : ℕ) (some : 0 < groups) where
-  abbrev Of : ℕ → ℕ → Bool
-  Of group task = task % groups == group
+  abbrev is_of : ℕ → ℕ → Bool
+  is_of group task = task % groups == group
 
-  length-filter-cons : (task group : ℕ) (later : List ℕ) → length (filter (Of group) (task ∷ later)) ≡ as_one (Of group task) + length (filter (Of group) later)
-  length-filter-cons task group later = go (Of group task) where
-    go : (b : Bool) → length (cond b (task ∷ filter (Of group) later) (filter (Of group) later)) ≡ as_one b + length (filter (Of group) later)
+  length-filter-cons : (task group : ℕ) (later : List ℕ) → length (filter (is_of group) (task ∷ later)) ≡ as_one (is_of group task) + length (filter (is_of group) later)
+  length-filter-cons task group later = go (is_of group task) where
+    go : (b : Bool) → length (cond b (task ∷ filter (is_of group) later) (filter (is_of group) later)) ≡ as_one b + length (filter (is_of group) later)
     go true = omega arith
     go false = omega arith
 
   -- the groups' tasks from a number on are together as many as those tasks
-  count_from : (low n : ℕ) → sum_by (λ group. length (filter (Of group) (range_with_len low n))) (numbers groups) ≡ n
+  count_from : (low n : ℕ) → sum_by (λ group. length (filter (is_of group) (range_with_len low n))) (numbers groups) ≡ n
   count_from low zero = none (numbers groups) where
     none : (gs : List ℕ) → sum_by (λ group. 0) gs ≡ 0
     none [] = refl
     none (g ∷ gs) = none gs
   count_from low (suc n) =
-      let split : sum_by (λ group. length (filter (Of group) (range_with_len low (suc n)))) (numbers groups) ≡ sum_by (λ group. as_one (low % groups == group)) (numbers groups) + sum_by (λ group. length (filter (Of group) (range_with_len (low + 1) n))) (numbers groups)
-      = sum_by-plus (λ group. as_one (low % groups == group)) (λ group. length (filter (Of group) (range_with_len (low + 1) n))) (λ group. length (filter (Of group) (range_with_len low (suc n)))) (λ group. length-filter-cons low group (range_with_len (low + 1) n)) (numbers groups) in
+      let split : sum_by (λ group. length (filter (is_of group) (range_with_len low (suc n)))) (numbers groups) ≡ sum_by (λ group. as_one (low % groups == group)) (numbers groups) + sum_by (λ group. length (filter (is_of group) (range_with_len (low + 1) n))) (numbers groups)
+      = sum_by-plus (λ group. as_one (low % groups == group)) (λ group. length (filter (is_of group) (range_with_len (low + 1) n))) (λ group. length (filter (is_of group) (range_with_len low (suc n)))) (λ group. length-filter-cons low group (range_with_len (low + 1) n)) (numbers groups) in
       let one : sum_by (λ group. as_one (low % groups == group)) (numbers groups) ≡ 1 = one_of 0 groups (low % groups) (omega arith) (omega arith) in
-      let rest : sum_by (λ group. length (filter (Of group) (range_with_len (low + 1) n))) (numbers groups) ≡ n = count_from (low + 1) n in
+      let rest : sum_by (λ group. length (filter (is_of group) (range_with_len (low + 1) n))) (numbers groups) ≡ n = count_from (low + 1) n in
       omega arith
 
+-- the walk has as many tasks as the document
 pub length-walked : (size : Size) → 0 < size.groups → length (walked_tasks size) ≡ size.tasks
 length-walked size some = length-flat_map (tasks_of size) (numbers size.groups) ∙ count_from size.groups some 0 size.tasks
