@@ -7,5 +7,7 @@
 
 mod run;
 mod scripts;
+#[cfg(test)]
+mod tests;
 
 pub use run::run_document;
