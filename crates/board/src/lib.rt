@@ -9,6 +9,13 @@
 //! A board is opened by `Opened::new` and `Opened::named`, under two names: `Profile`, the plan, and `Bases`, the log.
 //! `read` and `learn` of a reader take no lock and don't wait. `report` waits for the log lock, which nobody holds while a table is made.
 //! Not promised: that a reader sees what nobody told it, waiting, fairness, and that memory is there.
+//!
+//! Some bodies meet every clause and are wrong. Tests refuse them:
+//! - a `read` that enters no published copy and shows what the last `learn` brought: `a_told_reader_and_an_untold_one_see_the_report`, by its second reader;
+//! - a call that always answers want of memory: the same test, which makes each of them;
+//! - a solve under the log lock: `a_report_is_answered_while_a_table_is_made`, whose turns run out.
+//!
+//! One lock round everything, which `read` takes too, cannot be written: a lock is taken by a handle, and `read` is given none.
 #![tactic(auto)]
 
 mod ack;
