@@ -4,11 +4,13 @@ ghost use Rattle.std.specs.Prelude.{◌≡◌, ℕ, ◌+◌, ◌<◌, ◌≤◌,
 ghost use Rattle.function_sum.specs.Meaning.{IsMeaning};
 ghost use Rattle.capped_sum.specs.CappedSum.{tasks_value, task_at, with_demand, without_demand};
 
-use crate::index::{RankedTask, SumsBefore, indexed_sum, plain_sum, rebuild};
+use crate::index::{
+    IndexedSum, RankedTask, SumsBefore, indexed_sum, per_weight_guess, plain_sum, rebuild,
+};
 use crate::task::Task;
 use bw_function::BwFunction;
 use bwe_specs::{MAX_AMOUNT, MAX_TASKS, MAX_WEIGHT, OutOfMemory};
-use function_sum::ShareFunction;
+use function_sum::{Look, ShareFunction, last_share_guess};
 use std::alloc::{AllocError, Global};
 use std::marker::Model;
 
@@ -133,9 +135,62 @@ impl ShareFunction for CappedSum {
                 self.before.as_slice(),
                 per_weight,
             )
+            .sum
         } else {
             plain_sum(self.tasks.as_slice(), per_weight)
         }
+    }
+
+    fn look(&self, share: u64) -> Look {
+        let per_weight = self.function.value(share);
+        let last = last_share_guess(&self.function, per_weight).max(share);
+        if !self.is_fresh {
+            let value = plain_sum(self.tasks.as_slice(), per_weight);
+            return Look {
+                value,
+                last,
+                next: value,
+            };
+        }
+        let found = indexed_sum(
+            self.tasks.as_slice(),
+            self.ranked.as_slice(),
+            self.before.as_slice(),
+            per_weight,
+        );
+        look_by_index(&self.function, found, per_weight, last)
+    }
+
+    fn guess(&self, amount: u64) -> Option<u64> {
+        // The proof learns here that the tasks' function is one of a document.
+        let _ = self.function.top();
+        if !self.is_fresh {
+            return None;
+        }
+        let per_weight = per_weight_guess(self.ranked.as_slice(), self.before.as_slice(), amount);
+        Some(last_share_guess(&self.function, per_weight))
+    }
+}
+
+// What an indexed sum says of the shares after it. Where all tasks are full it stays for good.
+fn look_by_index(function: &BwFunction, found: IndexedSum, per_weight: u64, last: u64) -> Look
+    ensures { result.value ≡ found.sum }
+{
+    if found.open_weights == 0 {
+        return Look {
+            value: found.sum,
+            last: last.max(function.top()),
+            next: found.sum,
+        };
+    }
+    let rise = function
+        .value(last.saturating_add(1))
+        .saturating_sub(per_weight);
+    let more = rise.saturating_mul(found.open_weights);
+    Look {
+        value: found.sum,
+        last,
+        next: found.sum.saturating_add(more),
     }
 }
 

@@ -12,9 +12,9 @@ use crate::job::transform_of;
 use crate::siblings::Siblings;
 use crate::spec::{ClusterSpec, UserSpec};
 use crate::user::UserNode;
-use crate::value::{rebuild, value_at};
+use crate::value::{guess_at, look_at, rebuild, value_at};
 use bwe_specs::{MAX_AMOUNT, MAX_TASKS, OutOfMemory};
-use function_sum::ShareFunction;
+use function_sum::{Look, ShareFunction};
 use share_transform::Transform;
 use std::alloc::Global;
 use std::marker::Model;
@@ -121,6 +121,20 @@ impl ShareFunction for ClusterNode {
             nodes: self.users.as_slice(),
         };
         value_at(&self.transform, &users, share)
+    }
+
+    fn look(&self, share: u64) -> Look {
+        let users = Siblings {
+            nodes: self.users.as_slice(),
+        };
+        look_at(&self.transform, &users, share)
+    }
+
+    fn guess(&self, amount: u64) -> Option<u64> {
+        let users = Siblings {
+            nodes: self.users.as_slice(),
+        };
+        guess_at(&self.transform, &users, amount)
     }
 }
 

@@ -9,11 +9,11 @@ ghost use Rattle.policy_tree.specs.Changes.{job_with};
 ghost use Rattle.policy_tree.specs.Seen.{value_at};
 
 use crate::spec::JobSpec;
-use crate::value::{rebuild, value_at};
+use crate::value::{guess_at, look_at, rebuild, value_at};
 use bw_function::BwFunction;
 use bwe_specs::{MAX_AMOUNT, MAX_TASKS, OutOfMemory};
 use capped_sum::CappedSum;
-use function_sum::ShareFunction;
+use function_sum::{Look, ShareFunction};
 use share_transform::Transform;
 use std::alloc::Global;
 use std::marker::Model;
@@ -113,6 +113,14 @@ impl ShareFunction for JobNode {
 
     fn value(&self, share: u64) -> u64 {
         value_at(&self.transform, &self.sum, share)
+    }
+
+    fn look(&self, share: u64) -> Look {
+        look_at(&self.transform, &self.sum, share)
+    }
+
+    fn guess(&self, amount: u64) -> Option<u64> {
+        guess_at(&self.transform, &self.sum, amount)
     }
 }
 

@@ -4,7 +4,7 @@ ghost use Rattle.std.specs.Prelude.{◌≡◌, ℕ, map};
 ghost use Rattle.bwe_specs.specs.Distribution.{children_sum};
 ghost use Rattle.function_sum.specs.Meaning.{IsMeaning};
 
-use function_sum::{ShareFunction, sum_at};
+use function_sum::{Look, ShareFunction, look_at, sum_at};
 
 /// Nodes that are the children of one, so that their sum is a share function.
 #[derive(Drop)]
@@ -18,5 +18,17 @@ impl<C: ShareFunction> ShareFunction for Siblings<'_, C> {
 
     fn value(&self, share: u64) -> u64 {
         sum_at(self.nodes, share)
+    }
+
+    fn look(&self, share: u64) -> Look {
+        look_at(self.nodes, share)
+    }
+
+    fn guess(&self, amount: u64) -> Option<u64> {
+        if self.nodes.len() == 1 {
+            self.nodes[0].guess(amount)
+        } else {
+            None
+        }
     }
 }

@@ -11,9 +11,9 @@ ghost use Rattle.policy_tree.specs.Changes.{job_at, user_with};
 use crate::job::{JobNode, transform_of};
 use crate::siblings::Siblings;
 use crate::spec::{JobSpec, UserSpec};
-use crate::value::{rebuild, value_at};
+use crate::value::{guess_at, look_at, rebuild, value_at};
 use bwe_specs::{MAX_AMOUNT, MAX_TASKS, OutOfMemory};
-use function_sum::ShareFunction;
+use function_sum::{Look, ShareFunction};
 use share_transform::Transform;
 use std::alloc::Global;
 use std::marker::Model;
@@ -109,6 +109,20 @@ impl ShareFunction for UserNode {
             nodes: self.jobs.as_slice(),
         };
         value_at(&self.transform, &jobs, share)
+    }
+
+    fn look(&self, share: u64) -> Look {
+        let jobs = Siblings {
+            nodes: self.jobs.as_slice(),
+        };
+        look_at(&self.transform, &jobs, share)
+    }
+
+    fn guess(&self, amount: u64) -> Option<u64> {
+        let jobs = Siblings {
+            nodes: self.jobs.as_slice(),
+        };
+        guess_at(&self.transform, &jobs, amount)
     }
 }
 

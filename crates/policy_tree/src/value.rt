@@ -1,11 +1,10 @@
 //! The value of a node, by its configured function and its children's sum.
 
 ghost use Rattle.std.specs.Prelude.{◌≡◌, ℕ, ◌<◌, ◌≤◌, Some};
-ghost use Rattle.bwe_specs.specs.Tree.{inner_share};
 ghost use Rattle.function_sum.specs.Meaning.{IsMeaning};
 ghost use Rattle.policy_tree.specs.States.{transformed, configured_by, IsKeptFunction};
 
-use function_sum::ShareFunction;
+use function_sum::{Look, ShareFunction, last_share_guess};
 use mono_search::Steps;
 use share_transform::Transform;
 use std::marker::Brand;
@@ -20,10 +19,37 @@ pub(crate) fn value_at<P: ShareFunction>(transform: &Option<Transform>, sum: &P,
 {
     match transform {
         None => sum.value(share),
-        Some(transform) => {
-            let inner = inner_share_at::<P, Brand>(transform, sum, share, Blank::new(1));
-            sum.value(inner)
-        }
+        Some(transform) => transformed_look::<P, Brand>(transform, sum, share, Blank::new(1)).value,
+    }
+}
+
+/// The same with guesses of what comes after.
+pub(crate) fn look_at<P: ShareFunction>(transform: &Option<Transform>, sum: &P, share: u64) -> Look
+    requires { IsKeptFunction (configured_by transform.now) }
+    ensures value { result.value
+        ≡ transformed (configured_by transform.now) (P.meaning sum.now) share }
+    ensures meaning { IsMeaning (transformed (configured_by transform.now) (P.meaning sum.now)) }
+{
+    match transform {
+        None => sum.look(share),
+        Some(transform) => transformed_look::<P, Brand>(transform, sum, share, Blank::new(1)),
+    }
+}
+
+/// A guess of the last share at which the value is at most so much: where the configured function
+/// is, or without one the children's sum.
+pub(crate) fn guess_at<P: ShareFunction>(
+    transform: &Option<Transform>,
+    sum: &P,
+    amount: u64,
+) -> Option<u64>
+    requires { IsKeptFunction (configured_by transform.now) }
+    ensures meaning { IsMeaning (transformed (configured_by transform.now) (P.meaning sum.now)) }
+{
+    let of_sum = sum.guess(amount);
+    match transform {
+        None => of_sum,
+        Some(transform) => Some(last_share_guess(transform.parent(), amount)),
     }
 }
 
@@ -36,21 +62,22 @@ pub(crate) fn rebuild<P: ShareFunction>(transform: &mut Option<Transform>, sum: 
     }
 }
 
-// The inner share, on a counter of its own. Past the top it is that at the top.
-fn inner_share_at<P: ShareFunction, L: Ledger>(
+// The sum at the inner share, on a counter of its own. Past the top it is that at the top.
+fn transformed_look<P: ShareFunction, L: Ledger>(
     transform: &Transform,
     sum: &P,
     share: u64,
     blank: Blank,
-) -> u64
+) -> Look
     requires kept { IsKeptFunction (configured_by (Some transform.now)) }
     requires name { blank.name ≡ L.name }
     requires parts { blank.parts ≡ L.parts }
     requires some { 0 < L.parts }
-    ensures { result
-        ≡ inner_share transform.now.parent.top transform.now.parent.points (P.meaning sum.now) share }
+    ensures value { result.value
+        ≡ transformed (configured_by (Some transform.now)) (P.meaning sum.now) share }
+    ensures meaning { IsMeaning (P.meaning sum.now) }
 {
     let mut steps: Steps<L> = Steps::new(blank);
     let within = share.min(transform.parent().top());
-    transform.inner_share(sum, within, &mut steps)
+    transform.look(sum, within, &mut steps)
 }

@@ -8,7 +8,7 @@ half_of before rest low high low' high' is within half =
     let power : 2 ^ before ≡ 2 ^ rest * 2 = rw is (pow-suc 2 rest) in omega arith
 
 -- what is left between the ends is not too much for the looks to come
-pub halves_left : (look low high low' high' : ℕ) → look < 58 → high' ≤ 1_000_000_000
+pub halves_left : (look low high low' high' : ℕ) → look < 58 → high' ≤ 1_000_000_001
     → (28 ≤ look → high ≤ low + 2 ^ (58 - look)) → (28 ≤ look → 2 * high' + low ≤ 2 * low' + high + 1)
     → 28 ≤ look + 1 → high' ≤ low' + 2 ^ (58 - (look + 1))
 halves_left look low high low' high' lt small within half late =

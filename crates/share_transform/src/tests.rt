@@ -6,7 +6,7 @@ ghost use Rattle.std.specs.Prelude.{◌≡◌, ◌<◌};
 
 use crate::Transform;
 use bw_function::BwFunction;
-use function_sum::ShareFunction;
+use function_sum::{Look, ShareFunction};
 use mono_search::Steps;
 use std::cell::Cell;
 use std::marker::Brand;
@@ -78,6 +78,15 @@ impl<P: ShareFunction> ShareFunction for Counted<'_, P> {
     fn value(&self, share: u64) -> u64 {
         self.looks.set(self.looks.get().wrapping_add(1));
         self.sum.value(share)
+    }
+
+    fn look(&self, share: u64) -> Look {
+        self.looks.set(self.looks.get().wrapping_add(1));
+        self.sum.look(share)
+    }
+
+    fn guess(&self, amount: u64) -> Option<u64> {
+        self.sum.guess(amount)
     }
 }
 

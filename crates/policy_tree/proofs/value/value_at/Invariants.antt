@@ -1,4 +1,4 @@
 use Rattle.policy_tree.proofs.value.value_at.Given as goal
 
-abbrev pub ghosts-inner_share_at : goal.ghosts-inner_share_at
-ghosts-inner_share_at g a = record { name = a.blank.name; parts = a.blank.parts }
+abbrev pub ghosts-transformed_look : goal.ghosts-transformed_look
+ghosts-transformed_look g a = record { name = a.blank.name; parts = a.blank.parts }

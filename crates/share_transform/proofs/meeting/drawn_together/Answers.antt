@@ -1,50 +1,39 @@
-use Rattle.std.proofs.Common.{◌≡◌, ◌+◌, ◌-◌, ◌/◌, ◌<◌, ◌≤◌, ◌∙◌, ap, arith}
+use Rattle.std.proofs.Common.{◌≡◌, ◌∙◌, ◌+◌, ◌*◌, ◌-◌, ◌/◌, ◌<◌, ◌≤◌, inl, inr, arith}
 use Rattle.share_transform.proofs.Halves.{halves_left}
 use Rattle.share_transform.proofs.meeting.drawn_together.Goals as goal
-use Rattle.share_transform.proofs.meeting.drawn_together.Goals.{then-look-lt-LOOKS_BY_PROPORTION, else-look-lt-LOOKS_BY_PROPORTION, then-value-amount, else-value-amount}
+use Rattle.share_transform.proofs.meeting.drawn_together.Goals.{then-look-lt-LOOKS_BY_LINE, else-look-lt-LOOKS_BY_LINE}
 
 pub loop-look-preserved : goal.loop-look-preserved
 loop-look-preserved g c =
     let v = c.loop-look.invariant in
-    let ends = c.loop-look.ends in
-    let share = c.if-look-lt-LOOKS_BY_PROPORTION.share in
-    let between : (ends.low < share) × (share < ends.high) × (28 ≤ c.loop-look.look → share ≡ ends.low + (ends.high - ends.low) / 2) =
-    elim c.if-look-lt-LOOKS_BY_PROPORTION.branch [
-      | then-look-lt-LOOKS_BY_PROPORTION w ↦
-          let early = w.if-look-lt-LOOKS_BY_PROPORTION.true in
-          let found = w.by_proportion-share.ensures in
-          (omega (arith, found.from, w.share-is), omega (arith, found.upto, w.share-is), λ late. absurd (omega arith))
-      | else-look-lt-LOOKS_BY_PROPORTION w ↦
-          let found = w.middle-share.ensures in
-          (omega (arith, found, w.share-is, v.order, c.if-ends-eq1.false), omega (arith, found, w.share-is, v.order, c.if-ends-eq1.false), λ late. omega (arith, found, w.share-is))
+    let old = c.loop-look.ends in
+    let new = c.looked-ends.result in
+    let share = c.if-look-lt-LOOKS_BY_LINE.share in
+    let after = c.looked-ends.ensures in
+    let middle : 28 ≤ c.loop-look.look → share ≡ old.low + (old.high - old.low) / 2 =
+    elim c.if-look-lt-LOOKS_BY_LINE.branch [
+      | then-look-lt-LOOKS_BY_LINE w ↦ let early = w.if-look-lt-LOOKS_BY_LINE.true in λ late. absurd (omega arith)
+      | else-look-lt-LOOKS_BY_LINE w ↦ let found = w.middle-share.ensures in λ late. omega (arith, found, w.share-is)
     ] in
-    let from = between.0 in
-    let upto = between.1 in
-    let middle = between.2 in
-    let value = c.value-value.ensures.value in
-    elim c.if-value-amount.branch [
-      | then-value-amount w ↦
-          let low : c.if-value-amount.ends.low ≡ share = ap (λ e. e.low) w.ends-is ∙ w.with_low-ends.ensures.low in
-          let high : c.if-value-amount.ends.high ≡ ends.high = ap (λ e. e.high) w.ends-is ∙ w.with_low-ends.ensures.high in
-          record {
-            order = omega arith;
-            inside = omega (arith, v.inside);
-            fits = rw low (omega (arith, value, w.if-value-amount.true));
-            over = rw high v.over;
-            ticks = omega (arith, v.ticks, c.tick.ensures);
-            halves = halves_left c.loop-look.look ends.low ends.high c.if-value-amount.ends.low c.if-value-amount.ends.high (omega (arith, c.loop-look-test.true)) (omega (arith, v.inside, c.requires.high)) v.halves
-                (λ late. let at = middle late in omega arith);
-          }
-      | else-value-amount w ↦
-          let low : c.if-value-amount.ends.low ≡ ends.low = ap (λ e. e.low) w.ends-is ∙ w.with_high-ends.ensures.low in
-          let high : c.if-value-amount.ends.high ≡ share = ap (λ e. e.high) w.ends-is ∙ w.with_high-ends.ensures.high in
-          record {
-            order = omega arith;
-            inside = omega (arith, v.inside);
-            fits = rw low v.fits;
-            over = rw high (omega (arith, value, w.if-value-amount.false));
-            ticks = omega (arith, v.ticks, c.tick.ensures);
-            halves = halves_left c.loop-look.look ends.low ends.high c.if-value-amount.ends.low c.if-value-amount.ends.high (omega (arith, c.loop-look-test.true)) (omega (arith, v.inside, c.requires.high)) v.halves
-                (λ late. let at = middle late in omega arith);
-          }
-    ]
+    let order = v.ends.order in
+    let between : (old.low < share) × (share < old.high) =
+    elim c.if-look-lt-LOOKS_BY_LINE.branch [
+      | then-look-lt-LOOKS_BY_LINE w ↦ let found = w.guessed-share.ensures in (omega (arith, found.from, w.share-is), omega (arith, found.upto, w.share-is))
+      | else-look-lt-LOOKS_BY_LINE w ↦
+          let found = w.middle-share.ensures in
+          (omega (arith, found, w.share-is, order, c.if-ends-eq1.false), omega (arith, found, w.share-is, order, c.if-ends-eq1.false))
+    ] in
+    let closer : (old.low ≤ new.low) × (new.high ≤ old.high) × (28 ≤ c.loop-look.look → 2 * new.high + old.low ≤ 2 * new.low + old.high + 1) =
+    elim after.moved [
+      | inl moved ↦ (omega (arith, moved.0, between.0), omega (arith, moved.1), λ late. omega (arith, moved.0, moved.1, middle late, order))
+      | inr moved ↦ (omega (arith, moved.0), omega (arith, moved.1, between.1), λ late. omega (arith, moved.0, moved.1, middle late, order))
+    ] in
+    record {
+      ends = after.ends;
+      top = after.top ∙ v.top;
+      from = omega (arith, v.from, closer.0);
+      upto = omega (arith, v.upto, closer.1);
+      ticks = omega (arith, v.ticks, after.ticks);
+      none = λ at. absurd (let near = (v.none at).1 in c.if-ends-eq1.false (omega arith));
+      halves = halves_left c.loop-look.look old.low old.high new.low new.high (omega (arith, c.loop-look-test.true)) (omega (arith, after.ends.upto, after.top, v.top, c.requires.high)) v.halves closer.2;
+    }

@@ -1,0 +1,23 @@
+use Rattle.std.proofs.Common.{◌∙◌, ap, sym, Option}
+use Rattle.share_transform.specs.Transform.{Transformation}
+use Rattle.policy_tree.specs.States.{transformed, configured_by}
+use Rattle.policy_tree.proofs.Transforms.{transformed-meaning, transformed-none}
+use Rattle.policy_tree.proofs.value.look_at.Goals as goal
+
+pub returns-in-None-clause-value : goal.returns-in-None-clause-value
+returns-in-None-clause-value g c =
+    let meaning = g.P.ShareFunction.meaning c.args.sum.now in
+    c.look.ensures.value
+    ∙ sym (transformed-none meaning c.args.share)
+    ∙ ap (λ (t : Option Transformation). transformed (configured_by t) meaning c.args.share) (sym c.in-None.is)
+
+pub returns-in-None-clause-meaning : goal.returns-in-None-clause-meaning
+returns-in-None-clause-meaning g c = transformed-meaning _ _ c.requires c.look.ensures.meaning
+
+pub returns-in-Some-clause-value : goal.returns-in-Some-clause-value
+returns-in-Some-clause-value g c =
+    let meaning = g.P.ShareFunction.meaning c.args.sum.now in
+    c.transformed_look.ensures.value ∙ ap (λ (t : Option Transformation). transformed (configured_by t) meaning c.args.share) (sym c.in-Some.is)
+
+pub returns-in-Some-clause-meaning : goal.returns-in-Some-clause-meaning
+returns-in-Some-clause-meaning g c = transformed-meaning _ _ c.requires c.transformed_look.ensures.meaning
