@@ -46,6 +46,25 @@ fn weights_multiply_the_function(rt: HostRuntime) -> Result<(), Fail> {
     Ok(())
 }
 
+// The tasks of the case "Sated group" again: two tasks rise up to share 10, then one.
+#[test]
+fn a_fresh_index_tells_where_the_sum_changes(rt: HostRuntime) -> Result<(), Fail> {
+    let alloc = rt.alloc();
+    let function = BwFunction::new(alloc, &[(0, 0), (100, 50)], 100)?;
+    let mut sum = CappedSum::new(alloc, function, &[1, 1])?;
+    let _ = sum.set(0, 5)?;
+    let _ = sum.set(1, 30)?;
+    assert_eq!(rt; sum.guess(8), None);
+    sum.refresh();
+    assert_eq!(rt; (sum.guess(8), sum.guess(9)), (Some(9), Some(9)));
+    assert_eq!(rt; (sum.guess(12), sum.guess(35)), (Some(15), Some(100)));
+    let look = sum.look(4);
+    assert_eq!(rt; (look.value, look.last, look.next), (4, 5, 6));
+    let look = sum.look(90);
+    assert_eq!(rt; (look.value, look.last, look.next), (35, 100, 35));
+    Ok(())
+}
+
 // The two groups of the case "Two weighted tasks": weights 2 and 1, and a link of 90.
 #[test]
 fn weights_divide_a_link(rt: HostRuntime) -> Result<(), Fail> {

@@ -1,6 +1,6 @@
 //! Sums and merged shares, run on the code.
 
-use crate::{merged_shares, sum_at};
+use crate::{Look, ShareFunction, look_at, merged_shares, sum_at};
 use bw_function::BwFunction;
 use std::test::Fail;
 
@@ -30,4 +30,28 @@ fn values_of_parts_add_up(rt: HostRuntime) -> Result<(), Fail> {
     assert_eq!(rt; alone, 60);
     assert_eq!(rt; sum, 60);
     Ok(())
+}
+
+// A function that rises by one at each second share, alone and beside one that rises by five at
+// each: the sum stays as long as both do.
+#[test]
+fn a_look_tells_where_a_value_changes(rt: HostRuntime) -> Result<(), Fail> {
+    let alloc = rt.alloc();
+    let slow = BwFunction::new(alloc, &[(0, 0), (10, 5)], 10)?;
+    let fast = BwFunction::new(alloc, &[(0, 0), (10, 50)], 10)?;
+    let values = (slow.value(4), fast.value(4));
+    let alone = slow.look(4);
+    let guesses = (slow.guess(2), slow.guess(4), slow.guess(5));
+    let parts = [slow, fast];
+    let sum = look_at(&parts, 4);
+    let [_, _] = parts;
+    assert_eq!(rt; values, (2, 20));
+    assert_eq!(rt; alone, look(2, 5, 3));
+    assert_eq!(rt; guesses, (Some(5), Some(9), Some(10)));
+    assert_eq!(rt; sum, look(22, 4, 27));
+    Ok(())
+}
+
+fn look(value: u64, last: u64, next: u64) -> Look {
+    Look { value, last, next }
 }

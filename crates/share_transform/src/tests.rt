@@ -65,6 +65,20 @@ fn a_right_pair_takes_two_looks(rt: HostRuntime) -> Result<(), Fail> {
     Ok(())
 }
 
+// The case "Configured user": at share 5 the user gives 30, which its jobs have at inner share 2.
+// They have 45 at the next one, which the user gives from share 8 on.
+#[test]
+fn a_look_tells_where_the_value_changes(rt: HostRuntime) -> Result<(), Fail> {
+    let alloc = rt.alloc();
+    let parent = BwFunction::new(alloc, &[(0, 0), (10, 60)], 10)?;
+    let sum = BwFunction::new(alloc, &[(0, 0), (10, 150)], 10)?;
+    let mut transform = Transform::new(alloc, parent, 10)?;
+    transform.rebuild(&sum);
+    let found = look(&transform, &sum);
+    assert_eq!(rt; (found.value, found.last, found.next), (30, 7, 45));
+    Ok(())
+}
+
 /// A sum that counts the looks at it.
 #[derive(Drop)]
 struct Counted<'a, P: ShareFunction> {
@@ -110,4 +124,22 @@ fn counted_inner_share<P: ShareFunction, L: Ledger>(
     }
     let mut steps: Steps<L> = Steps::new(blank);
     transform.inner_share(sum, 10, &mut steps)
+}
+
+// The look at 5.
+fn look<P: ShareFunction>(transform: &Transform, sum: &P) -> Look {
+    counted_look::<P, Brand>(transform, sum, Blank::new(1))
+}
+
+// The same with a counter made on the spot.
+fn counted_look<P: ShareFunction, L: Ledger>(transform: &Transform, sum: &P, blank: Blank) -> Look
+    requires name { blank.name ≡ L.name }
+    requires parts { blank.parts ≡ L.parts }
+    requires some { 0 < L.parts }
+{
+    if transform.parent().top() < 5 {
+        return sum.look(0);
+    }
+    let mut steps: Steps<L> = Steps::new(blank);
+    transform.look(sum, 5, &mut steps)
 }

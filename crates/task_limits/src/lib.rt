@@ -5,5 +5,7 @@
 #![tactic(auto)]
 
 mod limits;
+#[cfg(test)]
+mod tests;
 
 pub use limits::all_limits;
