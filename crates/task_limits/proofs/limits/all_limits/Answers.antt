@@ -1,4 +1,4 @@
-use Rattle.std.proofs.Common.{◌≡◌, ◌<◌, ◌≤◌, ℕ, rules, length, sym, ◌∙◌, ap, arith}
+use Rattle.std.proofs.Common.{rules}
 use Rattle.task_limits.proofs.Steps.{limits_more, limits_all}
 use Rattle.task_limits.proofs.limits.all_limits.Goals as goal
 
