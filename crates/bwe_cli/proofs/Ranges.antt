@@ -1,5 +1,5 @@
 -- The numbers of the lines that words are, are in range.
-use Rattle.std.proofs.Common.{◌≡◌, ℕ, ◌≤◌, Bool, true, false, ◌&&◌, List, [], ◌∷◌, length, Option, Some, None, option_and_then, option_map, refl, sym, subst, arith}
+use Rattle.std.proofs.Common.{◌≡◌, ℕ, ◌≤◌, Bool, true, false, ◌&&◌, List, [], ◌∷◌, Option, Some, None, option_and_then, option_map, refl, subst, arith}
 use Rattle.std.specs.Prelude.{if◌then◌else◌, nat_le, codes}
 use Rattle.std.specs.List.{list_any}
 use Rattle.std.specs.Str.{bytes_eq}
@@ -7,9 +7,12 @@ use Rattle.std.specs.Str.Parse.{digits_value}
 use Rattle.std.proofs.lemmas.Bool.{and_parts, leb-true}
 use Rattle.command_line.specs.declared.CommandLine.{CommandLine}
 use Rattle.command_line.specs.declared.CommandLine.TheVariants as commands
-use Rattle.command_line.specs.Lines.{Text, Given, is_number, is_hyphens, number_in, number_given, run_line, alone, line_named, line_of_texts, command_line_of, options_of, nothing_given, size_of}
+use Rattle.command_line.specs.Lines.{Text, Given, is_number, is_hyphens, number_in, number_given, run_line, alone, line_of_texts, command_line_of, options_of, nothing_given, size_of}
 use Rattle.bwe_cli.specs.declared.run.Asked.{Asked}
 use Rattle.bwe_cli.specs.RunLine.{IsInRange, asked_by, asked_of}
+use Rattle.doc_maker.specs.Made.{IsSize}
+use Rattle.bwe_cli.specs.declared.made.MadeLine.{MadeLine}
+use Rattle.bwe_cli.specs.MadeLines.{made_by, made_line_of, made_size}
 
 abbrev IsBetween : ℕ → ℕ → Option ℕ → Type 0
 IsBetween least most None = Unit {0}
@@ -29,54 +32,75 @@ given-between default least most [] low high = (low, high)
 given-between default least most (text ∷ []) low high = number-between least most text
 given-between default least most (text ∷ (other ∷ more)) low high = tt
 
-abbrev IsRunInRange : Option CommandLine → Type 0
-IsRunInRange None = Unit {0}
-IsRunInRange (Some (commands.Document line)) = Unit {0}
-IsRunInRange (Some (commands.Run readers reads)) = (1 ≤ readers) × (readers ≤ 64) × (reads ≤ 1000)
-IsRunInRange (Some (commands.Make seed groups tasks)) = Unit {0}
-IsRunInRange (Some (commands.Bulk seed groups tasks)) = Unit {0}
+abbrev IsLineInRange : Option CommandLine → Type 0
+IsLineInRange None = Unit {0}
+IsLineInRange (Some (commands.Document line)) = Unit {0}
+IsLineInRange (Some (commands.Run readers reads)) = (1 ≤ readers) × (readers ≤ 64) × (reads ≤ 1000)
+IsLineInRange (Some (commands.Make seed groups tasks)) = IsSize (record { seed = seed; groups = groups; tasks = tasks })
+IsLineInRange (Some (commands.Bulk seed groups tasks)) = IsSize (record { seed = seed; groups = groups; tasks = tasks })
 
-either-in_range : (b : Bool) (x y : Option CommandLine) → IsRunInRange x → IsRunInRange y → IsRunInRange (if b then x else y)
+either-in_range : (b : Bool) (x y : Option CommandLine) → IsLineInRange x → IsLineInRange y → IsLineInRange (if b then x else y)
 either-in_range true x y p q = p
 either-in_range false x y p q = q
 
-run-in_range : (given : Given) → IsRunInRange (run_line given)
+run-in_range : (given : Given) → IsLineInRange (run_line given)
 run-in_range given = go (number_given 2 1 64 given.readers) (given-between 2 1 64 given.readers (omega arith) (omega arith)) (number_given 4 0 1000 given.reads) (given-between 4 0 1000 given.reads (omega arith) (omega arith)) where
   go : (readers : Option ℕ) → IsBetween 1 64 readers → (reads : Option ℕ) → IsBetween 0 1000 reads
-      → IsRunInRange (option_and_then (λ readers. option_map (λ reads. commands.Run readers reads) reads) readers)
+      → IsLineInRange (option_and_then (λ readers. option_map (λ reads. commands.Run readers reads) reads) readers)
   go None p reads q = tt
   go (Some readers) p None q = tt
   go (Some readers) p (Some reads) q = (p.0, p.1, q.1)
 
-options-in_range : (options : Option Given) → IsRunInRange (option_and_then run_line options)
+options-in_range : (options : Option Given) → IsLineInRange (option_and_then run_line options)
 options-in_range None = tt
 options-in_range (Some given) = run-in_range given
 
-alone-in_range : (line : CommandLine) (rest : List Text) → IsRunInRange (Some line) → IsRunInRange (alone line rest)
+alone-in_range : (line : CommandLine) (rest : List Text) → IsLineInRange (Some line) → IsLineInRange (alone line rest)
 alone-in_range line [] p = p
 alone-in_range line (word ∷ rest) p = tt
 
-mapped-in_range : {X : Type 0} (line : X → CommandLine) (found : Option X) → ((x : X) → IsRunInRange (Some (line x))) → IsRunInRange (option_map line found)
-mapped-in_range line None each = tt
-mapped-in_range line (Some x) each = each x
+-- a size that words give is in range
+sized-in_range : (line : ℕ → ℕ → ℕ → CommandLine) → ((s g t : ℕ) → IsSize (record { seed = s; groups = g; tasks = t }) → IsLineInRange (Some (line s g t)))
+    → (words : List Text) → IsLineInRange (option_map (λ size. line size.seed size.groups size.tasks) (size_of words))
+sized-in_range line each [] = tt
+sized-in_range line each (seed ∷ []) = tt
+sized-in_range line each (seed ∷ (groups ∷ [])) = tt
+sized-in_range line each (seed ∷ (groups ∷ (tasks ∷ []))) = by_seed (number_in 0 18446744073709551615 seed) refl where
+  by_tasks : (s g : ℕ) → number_in 0 18446744073709551615 seed ≡ Some s → number_in 1 1024 groups ≡ Some g → (1 ≤ g) × (g ≤ 1024)
+      → (read : Option ℕ) → number_in g 20000 tasks ≡ read → IsBetween g 20000 read
+      → IsLineInRange (option_map (λ size. line size.seed size.groups size.tasks) (size_of (seed ∷ (groups ∷ (tasks ∷ [])))))
+  by_tasks s g e f p None h q = rw (e, f, h) tt
+  by_tasks s g e f p (Some t) h q = rw (e, f, h) (each s g t (record { some_groups = p.0; few_groups = p.1; enough_tasks = q.0; few_tasks = q.1 }))
 
-texts-in_range : (texts : List Text) → IsRunInRange (line_of_texts texts)
+  by_groups : (s : ℕ) → number_in 0 18446744073709551615 seed ≡ Some s
+      → (read : Option ℕ) → number_in 1 1024 groups ≡ read → IsBetween 1 1024 read
+      → IsLineInRange (option_map (λ size. line size.seed size.groups size.tasks) (size_of (seed ∷ (groups ∷ (tasks ∷ [])))))
+  by_groups s e None f p = rw (e, f) tt
+  by_groups s e (Some g) f p = by_tasks s g e f p (number_in g 20000 tasks) refl (number-between g 20000 tasks)
+
+  by_seed : (read : Option ℕ) → number_in 0 18446744073709551615 seed ≡ read
+      → IsLineInRange (option_map (λ size. line size.seed size.groups size.tasks) (size_of (seed ∷ (groups ∷ (tasks ∷ [])))))
+  by_seed None e = rw e tt
+  by_seed (Some s) e = by_groups s e (number_in 1 1024 groups) refl (number-between 1 1024 groups)
+sized-in_range line each (seed ∷ (groups ∷ (tasks ∷ (other ∷ more)))) = tt
+
+texts-in_range : (texts : List Text) → IsLineInRange (line_of_texts texts)
 texts-in_range [] = tt
 texts-in_range (word ∷ rest) =
     either-in_range (bytes_eq (codes "solve") word) _ _ (alone-in_range _ rest tt)
     (either-in_range (bytes_eq (codes "check") word) _ _ (alone-in_range _ rest tt)
     (either-in_range (bytes_eq (codes "run") word) _ _ (options-in_range (options_of nothing_given None rest))
-    (either-in_range (bytes_eq (codes "make") word) _ _ (mapped-in_range _ (size_of rest) (λ size. tt))
-    (either-in_range (bytes_eq (codes "bulk") word) _ _ (mapped-in_range _ (size_of rest) (λ size. tt)) tt))))
+    (either-in_range (bytes_eq (codes "make") word) _ _ (sized-in_range commands.Make (λ s g t p. p) rest)
+    (either-in_range (bytes_eq (codes "bulk") word) _ _ (sized-in_range commands.Bulk (λ s g t p. p) rest) tt))))
 
-command-in_range : (words : List Text) → IsRunInRange (command_line_of words)
+command-in_range : (words : List Text) → IsLineInRange (command_line_of words)
 command-in_range words = either-in_range (list_any is_hyphens words) None (line_of_texts words) tt (texts-in_range words)
 
 abbrev IsAskedInRange : Option Asked → Type 0
 IsAskedInRange None = Unit {0}
 IsAskedInRange (Some asked) = IsInRange asked
 
-asked-in_range : (line : Option CommandLine) → IsRunInRange line → IsAskedInRange (option_and_then asked_by line)
+asked-in_range : (line : Option CommandLine) → IsLineInRange line → IsAskedInRange (option_and_then asked_by line)
 asked-in_range None p = tt
 asked-in_range (Some (commands.Document line)) p = tt
 asked-in_range (Some (commands.Run readers reads)) p = record { some_readers = p.0; few_readers = p.1; few_reads = p.2 }
@@ -86,3 +110,18 @@ asked-in_range (Some (commands.Bulk seed groups tasks)) p = tt
 -- what words ask for is in range
 pub words-in_range : (words : List Text) (asked : Asked) → asked_of words ≡ Some asked → IsInRange asked
 words-in_range words asked is = subst IsAskedInRange is (asked-in_range (command_line_of words) (command-in_range words))
+
+abbrev IsMadeInRange : Option MadeLine → Type 0
+IsMadeInRange None = Unit {0}
+IsMadeInRange (Some line) = IsSize (made_size line)
+
+made-in_range : (line : Option CommandLine) → IsLineInRange line → IsMadeInRange (option_and_then made_by line)
+made-in_range None p = tt
+made-in_range (Some (commands.Document line)) p = tt
+made-in_range (Some (commands.Run readers reads)) p = tt
+made-in_range (Some (commands.Make seed groups tasks)) p = p
+made-in_range (Some (commands.Bulk seed groups tasks)) p = p
+
+-- the size of a made document is in range
+pub made_words-in_range : (words : List Text) (line : MadeLine) → made_line_of words ≡ Some line → IsSize (made_size line)
+made_words-in_range words line is = subst IsMadeInRange is (made-in_range (command_line_of words) (command-in_range words))

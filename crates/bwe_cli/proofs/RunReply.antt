@@ -1,5 +1,5 @@
 -- The reply of a run is that of the definition.
-use Rattle.std.proofs.Common.{◌≡◌, ℕ, ◌<◌, ◌≤◌, ◌∙◌, List, length, map, Ok, ap, ap₂, refl, subst, sym, arith}
+use Rattle.std.proofs.Common.{◌≡◌, ℕ, ◌<◌, ◌≤◌, ◌∙◌, List, length, Ok, ap, ap₂, subst, arith}
 use Rattle.std.proofs.lemmas.List.{length-map}
 use Rattle.bwe_specs.specs.Tree.{Cluster}
 use Rattle.bwe_specs.specs.Paths.{PathGroups}

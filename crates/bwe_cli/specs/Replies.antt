@@ -4,7 +4,7 @@ use Rattle.bwe_specs.specs.declared.network.Closing.{Closing}
 use Rattle.bwe_specs.specs.declared.network.Verdict.{Verdict}
 use Rattle.bwe_specs.specs.declared.network.Verdict.TheVariants.{Right, Wrong}
 use Rattle.bwe_specs.specs.declared.report.Report.{Report}
-use Rattle.bwe_specs.specs.Allocation.{Plan, Table, allocation, wan_after}
+use Rattle.bwe_specs.specs.Allocation.{Plan, allocation, wan_after}
 use Rattle.bwe_specs.specs.RightClosings.{verdict}
 use Rattle.command_line.specs.declared.Line.{Line}
 use Rattle.command_line.specs.declared.Line.TheVariants.{Solve, Check}

@@ -2,18 +2,23 @@
 //!
 //! The program calls `bwe_once` with the standard streams. Its contract (`specs/Replies.antt`, and `Ending` of `one_run`)
 //! carries the bytes: with status 0, `solve` has written the text of the table that the allocation of the document's
-//! script is, and `check` that its closings are right. Nothing is promised of time, nor that memory is there.
+//! script is, and `check` that its closings are right. `make` and `bulk` read nothing (`specs/MadeLines.antt`): `make` writes
+//! the made document, `bulk` the summary of its table, and they never refuse it. Nothing is promised of time, nor that
+//! memory is there.
 #![tactic(auto)]
 
 ghost use Rattle.std.specs.Prelude.{◌≡◌, Some, None};
 ghost use Rattle.command_line.specs.Lines.{line_of, texts_of};
-ghost use Rattle.one_run.specs.Endings.{Ending};
+ghost use Rattle.one_run.specs.Endings.{Ending, UnreadEnding};
 ghost use Rattle.bwe_cli.specs.Replies.{reply};
 ghost use Rattle.bwe_cli.specs.RunLine.{IsReplyTo, asked_of};
 ghost use Rattle.bwe_cli.specs.declared.run.Asked.{Asked};
+ghost use Rattle.bwe_cli.specs.MadeLines.{made_line_of, made_reply};
+ghost use Rattle.bwe_cli.specs.declared.made.MadeLine.{MadeLine};
 
 mod check;
 mod documents;
+mod made;
 mod run;
 mod solve;
 
@@ -22,6 +27,8 @@ use bwe_specs::OutOfMemory;
 use command_line::USAGE;
 use crew_actors::Gate;
 use documents::Documents;
+pub use made::MadeLine;
+use made::{made_line_of_words, serve_made};
 use one_run::{MAX_INPUT, TOO_LONG, serve};
 pub use run::Asked;
 use run::{asked_of_words, serve_run};
@@ -40,7 +47,8 @@ pub fn bwe_once<S: Source, K: Sink>(
     source: &mut S,
     sink: &mut K,
 ) -> u8
-    ensures { Ending (record {
+    // Every line but `make` and `bulk`, and words that are no line.
+    ensures other { made_line_of (texts_of words.now) ≡ None → Ending (record {
       line = line_of (texts_of words.now);
       replies = λ line input given. given ≡ reply line input;
       left = S.left source.old;
@@ -53,13 +61,24 @@ pub fn bwe_once<S: Source, K: Sink>(
       write_faults_after = K.faults sink.new;
     })
         MAX_INPUT USAGE.now TOO_LONG.now result }
+
+    // With status 0, `make` has written the made document and `bulk` the summary of its table. Neither reads anything.
+    ensures made { (line : MadeLine) → made_line_of (texts_of words.now) ≡ Some line →
+        UnreadEnding (made_reply line) (K.written sink.old) (K.written sink.new)
+        (K.faults sink.old) (K.faults sink.new) result }
+    ensures unread { (line : MadeLine) → made_line_of (texts_of words.now) ≡ Some line →
+        source.new ≡ source.old }
 {
-    serve(alloc, &Documents, words, source, sink)
+    match made_line_of_words(alloc, words) {
+        Ok(Some(line)) => serve_made(alloc, line, sink),
+        Ok(None) => serve(alloc, &Documents, words, source, sink),
+        Err(OutOfMemory) => 6,
+    }
 }
 
 /// Serves one command line of the program, and answers the status ("Statuses", docs/FORMAT.md).
 ///
-/// The lines `solve` and `check` are those of `bwe_once`. `run` puts a reporter for each of the document's reporters, the
+/// The lines `solve`, `check`, `make` and `bulk` are those of `bwe_once`. `run` puts a reporter for each of the document's reporters, the
 /// allocator and the readers on threads; `gate` is called round each of their calls. What is written is the text of what
 /// they did, and the table at its end is the one that `solve` writes.
 pub fn bwe<S: Source, K: Sink, G: Gate + Sync, R: Threads + Wait + Sync>(
@@ -70,8 +89,8 @@ pub fn bwe<S: Source, K: Sink, G: Gate + Sync, R: Threads + Wait + Sync>(
     sink: &mut K,
     gate: &G,
 ) -> u8
-    // Every line but `run` is that of `bwe_once`.
-    ensures other { asked_of (texts_of words.now) ≡ None → Ending (record {
+    // Every line but `run`, `make` and `bulk`, and words that are no line, as `bwe_once`.
+    ensures other { asked_of (texts_of words.now) ≡ None → made_line_of (texts_of words.now) ≡ None → Ending (record {
       line = line_of (texts_of words.now);
       replies = λ line input given. given ≡ reply line input;
       left = S.left source.old;
@@ -99,6 +118,13 @@ pub fn bwe<S: Source, K: Sink, G: Gate + Sync, R: Threads + Wait + Sync>(
       write_faults_after = K.faults sink.new;
     })
         MAX_INPUT USAGE.now TOO_LONG.now result }
+
+    // `make` and `bulk` as `bwe_once`.
+    ensures made { (line : MadeLine) → made_line_of (texts_of words.now) ≡ Some line →
+        UnreadEnding (made_reply line) (K.written sink.old) (K.written sink.new)
+        (K.faults sink.old) (K.faults sink.new) result }
+    ensures unread { (line : MadeLine) → made_line_of (texts_of words.now) ≡ Some line →
+        source.new ≡ source.old }
 {
     match asked_of_words(alloc, words) {
         Ok(Some(asked)) => serve_run(rt, alloc, asked, source, sink, gate),

@@ -1,6 +1,7 @@
-//! The line `solve`.
+//! The line `solve`, and the table of a document.
 
 ghost use Rattle.std.specs.Prelude.{◌≡◌, IfOk};
+ghost use Rattle.bwe_specs.specs.Allocation.{allocation};
 ghost use Rattle.table_text.specs.TableText.{texts_of};
 ghost use Rattle.plan_doc.specs.Conditions.{IsUsable};
 ghost use Rattle.bwe_cli.specs.Plans.{plan_in};
@@ -9,6 +10,8 @@ ghost use Rattle.bwe_cli.specs.Replies.{table_reply};
 use allocator::{Allocator, after_script};
 use bwe_specs::OutOfMemory;
 use demand_book::Maker;
+use doc_names::Names;
+use limit_table::LimitTable;
 use one_run::Answer;
 use plan_doc::Document;
 use std::alloc::Global;
@@ -19,6 +22,22 @@ pub(crate) fn solve(alloc: Global, document: Document) -> Result<Answer, OutOfMe
     requires { IsUsable document }
     ensures { IfOk result (λ answer. record { status = answer.status; text = answer.text.items }
         ≡ table_reply (texts_of document.names) (plan_in document) document.script.items) }
+{
+    let (table, names) = table_of(alloc, document)?;
+    Ok(Answer {
+        status: 0,
+        text: table_text(alloc, &table, &names)?,
+    })
+}
+
+/// The table of the document's script, with the document's names.
+pub(crate) fn table_of(
+    alloc: Global,
+    document: Document,
+) -> Result<(LimitTable, Names), OutOfMemory>
+    requires { IsUsable document }
+    ensures table { IfOk result (λ solved. solved.0 ≡ allocation (plan_in document) document.script.items) }
+    ensures names { IfOk result (λ solved. solved.1 ≡ document.names) }
 {
     let Document {
         tree,
@@ -31,8 +50,5 @@ pub(crate) fn solve(alloc: Global, document: Document) -> Result<Answer, OutOfMe
     let allocator = Allocator::new(alloc, tree, topology, plan);
     let mut allocator = after_script(alloc, allocator, &script)?;
     let table = allocator.table(alloc)?;
-    Ok(Answer {
-        status: 0,
-        text: table_text(alloc, &table, &names)?,
-    })
+    Ok((table, names))
 }

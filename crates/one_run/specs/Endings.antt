@@ -56,3 +56,10 @@ pub data Writes (status : ℕ) (written written_after : Option (List ℕ)) (faul
   whole : Appends written written_after text → Writes status written written_after faults faults_after text status
   partly : HasRisen faults faults_after → AppendsPrefix written written_after text
       → Writes status written written_after faults faults_after text 5
+
+-- the run of a line that reads nothing ended with this status: its reply was written, or its text in part; or memory was
+-- wanting, and nothing was written
+pub data UnreadEnding (reply : Reply) (written written_after : Option (List ℕ)) (faults faults_after : ℕ) : ℕ → Type 0 where
+  told : {status : ℕ} → Writes reply.status written written_after faults faults_after reply.text status
+      → UnreadEnding reply written written_after faults faults_after status
+  untold : Keeps written written_after → UnreadEnding reply written written_after faults faults_after 6

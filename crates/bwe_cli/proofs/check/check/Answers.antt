@@ -1,6 +1,5 @@
 use Rattle.std.proofs.Common.{◌≡◌, ℕ, List, ap, ap₂, ◌∙◌}
-use Rattle.bwe_specs.specs.declared.network.Verdict.{Verdict}
-use Rattle.bwe_specs.specs.Allocation.{Plan, wan_after}
+use Rattle.bwe_specs.specs.Allocation.{wan_after}
 use Rattle.bwe_specs.specs.RightClosings.{verdict}
 use Rattle.one_run.specs.Endings.{Reply}
 use Rattle.table_text.specs.TableText.{texts_of}

@@ -1,4 +1,4 @@
-use Rattle.std.proofs.Common.{◌≡◌, ◌∙◌, Ok, ap, subst, sym}
+use Rattle.std.proofs.Common.{◌∙◌, ap, subst, sym}
 use Rattle.run_text.specs.RunText.{run_names_of, run_text_of}
 use Rattle.bwe_cli.specs.Plans.{plan_in}
 use Rattle.bwe_cli.specs.RunLine.{IsRunReply}
