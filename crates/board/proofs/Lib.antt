@@ -1,4 +1,3 @@
 pub mod Sending
 pub mod Totals
-pub mod Plans
 pub mod Absorbing

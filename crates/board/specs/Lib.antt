@@ -1,5 +1,4 @@
 pub mod Plan
-pub mod Pair
 pub mod Reading
 pub mod Reporting
 pub mod Refusals

@@ -4,7 +4,7 @@ use Rattle.logbook.specs.Pages.{Book}
 use Rattle.atomic_table.specs.Seated.{TableId}
 use Rattle.bwe_specs.specs.declared.report.Report.{Report}
 use Rattle.bwe_specs.specs.declared.limits.TheConstants.{MAX_REPORTERS, MAX_READERS}
-use Rattle.board.specs.Plan.{NamesTables}
+use Rattle.board_pair.specs.Plan.{NamesTables}
 
 -- the identities of the bases, and for how many readers they are
 pub record Opening : Type 0 where

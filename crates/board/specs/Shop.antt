@@ -5,7 +5,7 @@ use Rattle.bwe_specs.specs.declared.report.Report.{Report}
 use Rattle.bwe_specs.specs.declared.limits.TheConstants.{MAX_REPORTS}
 use Rattle.demand_book.specs.Fit.{IsFit}
 use Rattle.board_core.specs.Core.{IsAllowed}
-use Rattle.board.specs.Plan.{NamesTables}
+use Rattle.board_pair.specs.Plan.{NamesTables}
 
 -- the log that was seen is what the maker has absorbed, with what waits after it; and the maker's plan is the named one
 pub record IsShop {T : Type 0} (absorbed : List Report → Type 0) (table_of : List Report → T) (plan_tasks plan_links : ℕ)

@@ -1,17 +1,13 @@
 -- What the log lock holds.
-use Rattle.std.specs.Prelude.{ℕ, ◌≡◌, ◌≤◌, List, length, fold}
+use Rattle.std.specs.Prelude.{ℕ, ◌≡◌, ◌≤◌, List, length}
 use Rattle.std.specs.List.{All}
 use Rattle.bwe_specs.specs.declared.report.Report.{Report}
 use Rattle.bwe_specs.specs.declared.limits.TheConstants.{MAX_REPORTS}
 use Rattle.board_log.specs.Roll.{Rolled}
-use Rattle.board.specs.declared.pair.Posting.{Posting}
+use Rattle.board_pair.specs.declared.pair.Posting.{Posting}
+use Rattle.board_pair.specs.Desk.{Desk, last_of}
 use Rattle.demand_book.specs.Fit.{IsFit}
 use Rattle.board_core.specs.Core.{IsAllowed}
-
--- the value that readers take, and the operations that wait to be published
-pub record Desk (P O : Type 0) : Type 0 where
-  pub shown : P
-  pub waiting : List O
 
 -- what contracts see of the locked state: the log, how many reports the posted table covers,
 -- and how many the table that a refused publish left waiting covers, or the posted one where none waits
@@ -19,10 +15,6 @@ pub record Standing : Type 0 where
   pub log : List Report
   pub posted : ℕ
   pub pending : ℕ
-
--- the pair after all that waits
-abbrev pub last_of : {T : Type 0} → Desk (Posting T) (Posting T) → Posting T
-last_of desk = fold (λ before news. news) desk.shown desk.waiting
 
 -- the locked value ties the bases: the log, its history and its roll are one, and what is posted is a beginning of it
 pub record IsStanding {T : Type 0} (covers : T → ℕ) (reporters tasks links : ℕ)

@@ -10,15 +10,14 @@ ghost use Rattle.board_core.specs.Core.{IsAllowed};
 ghost use Rattle.board.specs.Refusals.{IsRefusalAt};
 ghost use Rattle.board.specs.Reporting.{AreInOrder};
 
-use crate::ack::Ack;
 use crate::allocator::AllocatorPass;
 use crate::ended::{Ended, FinishRefused};
-use crate::profile::Profile;
 use crate::refusal::ReportError;
 use crate::reporter::ReporterPass;
 use crate::steps::LogState;
 use crate::workshop::{Workshop, solve_and_post};
 use board_log::{Bases, Beginning};
+use board_pair::{Ack, Profile};
 use bwe_specs::{OutOfMemory, Report};
 use demand_book::Maker;
 use std::alloc::Global;
@@ -101,7 +100,7 @@ impl<M: Maker, N: Profile<M::Table>, B: Bases> Board<M, N, B> {
             solve_and_post(rt, alloc, &self.shop, &self.state)?;
         }
         let ack = self.state.lock(rt).ack(&pass.known)?;
-        pass.known = ack.known;
+        pass.known = ack.known().copy();
         Ok(pass.known.len())
     }
 

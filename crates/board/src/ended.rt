@@ -1,6 +1,6 @@
-use crate::ack::Ack;
 use crate::reporter::ReporterPass;
 use board_log::Bases;
+use board_pair::Ack;
 use bwe_specs::Report;
 use demand_book::Posted;
 

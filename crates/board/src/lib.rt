@@ -3,7 +3,7 @@
 //! `crew` runs reporters, readers and an allocator over it. It rests on four promises, each the contract of a call, for any `Maker`:
 //! `Board::report` puts a piece into the log once and keeps the reporter's own list exact;
 //! the ack of `Board::settle` holds all that its pass had seen, and a posted table covers it;
-//! `ReaderPass::read` shows a table that belongs to the first reports of a log which begins with all that the pass had seen, never older than its floor;
+//! `ReaderPass::read`, of `board_pair` below, shows a table that belongs to the first reports of a log which begins with all that the pass had seen, never older than its floor;
 //! `Board::finish` gives the whole log, each reporter's list in it, and its table.
 //!
 //! A board is opened by `Opened::new` and `Opened::named`, under two names: `Profile`, the plan, and `Bases`, the log.
@@ -18,28 +18,21 @@
 //! One lock round everything, which `read` takes too, cannot be written: a lock is taken by a handle, and `read` is given none.
 #![tactic(auto)]
 
-mod ack;
 mod allocator;
 mod board;
 mod ended;
 mod open;
-mod pair;
-mod poster;
-mod profile;
-mod reader;
 mod refusal;
 mod reporter;
 pub mod steps;
 mod workshop;
 
-pub use ack::Ack;
 pub use allocator::AllocatorPass;
 pub use board::Board;
 pub use board_log::Bases;
+pub use board_pair::{Ack, Profile, ReaderPass, View};
 pub use ended::{Ended, FinishRefused};
 pub use open::Opened;
-pub use profile::Profile;
-pub use reader::{ReaderPass, View};
 pub use refusal::ReportError;
 pub use reporter::ReporterPass;
 

@@ -4,21 +4,18 @@ ghost use Rattle.std.specs.List.{All};
 ghost use Rattle.bwe_specs.specs.declared.report.Report.{Report};
 ghost use Rattle.bwe_specs.specs.declared.limits.TheConstants.{MAX_REPORTERS, MAX_READERS};
 ghost use Rattle.board.specs.Reporting.{AreFresh, fresh_pass};
-ghost use Rattle.board.specs.Reading.{IsNewReader};
-ghost use Rattle.board.specs.Plan.{NamesTables, AreOfOnePlan};
+ghost use Rattle.board_pair.specs.Reading.{IsNewReader};
+ghost use Rattle.board_pair.specs.Plan.{NamesTables};
 
 use crate::allocator::AllocatorPass;
 use crate::board::Board;
-use crate::pair::{News, Pair};
-use crate::poster::Poster;
-use crate::profile::Profile;
-use crate::reader::ReaderPass;
 use crate::reporter::ReporterPass;
 use crate::steps::LogState;
 use crate::workshop::Workshop;
 use board_log::{Bases, OpenedLog, OpenedRoll, Roll, WholeLog};
+use board_pair::{Pair, Poster, Profile, ReaderPass, seat_all};
 use bwe_specs::OutOfMemory;
-use demand_book::{Maker, Posted};
+use demand_book::Maker;
 use std::alloc::Global;
 use std::marker::{Model, PhantomData};
 use std::sync::Wait;
@@ -113,12 +110,12 @@ impl<M: Maker, N: Profile<M::Table>> Opened<M, N> {
         let mut roll = roll.named::<B>();
         let passes = enroll_all(alloc, reporters, &whole, &mut roll)?;
         let table = maker.table(alloc)?;
-        let first: Pair<M::Table, N, B> = empty_pair(alloc, &whole, &table)?;
-        let second = empty_pair(alloc, &whole, &table)?;
+        let first: Pair<M::Table, N, B> = Pair::empty(alloc, whole.first(0), &table)?;
+        let second = Pair::empty(alloc, whole.first(0), &table)?;
         let poster = Poster::new(alloc, first, second, readers as usize)?;
-        match seat_all(alloc, readers, &whole, &table, &poster) {
+        let known = whole.first(0);
+        match seat_all(alloc, readers, &known, &table, &poster) {
             Ok(seats) => {
-                let known = whole.first(0);
                 let shop = Workshop::empty(alloc, maker, whole.first(0));
                 let state = LogState::empty(alloc, whole, roll, poster);
                 Ok((
@@ -165,65 +162,4 @@ fn enroll<B: Bases>(number: u32, whole: &WholeLog<B>, roll: &mut Roll<B>) -> Rep
 {
     let member = roll.enroll();
     ReporterPass::new(number, member, whole.first(0))
-}
-
-// The empty log and its table.
-fn empty_pair<T: Posted, N: Profile<T>, B: Bases>(
-    alloc: Global,
-    whole: &WholeLog<B>,
-    table: &T,
-) -> Result<Pair<T, N, B>, OutOfMemory>
-    requires whole { whole.now ≡ [] }
-    requires covers { T.covers table.now ≡ 0 }
-    requires belongs { N.belongs [] table.now }
-    requires one_plan { AreOfOnePlan T.frame T.tasks_of N.belongs N.tasks }
-    ensures pair { IfOk result (λ pair. pair ≡ record { log = []; table = table.now }) }
-{
-    let copy = table.copy(alloc)?;
-    Ok(Pair {
-        log: Vec::new(alloc),
-        table: copy,
-        known: whole.first(0),
-        of: PhantomData,
-    })
-}
-
-// So many readers, each with a copy of its own.
-fn seat_all<T: Posted, N: Profile<T>, B: Bases>(
-    alloc: Global,
-    readers: u32,
-    whole: &WholeLog<B>,
-    table: &T,
-    poster: &Poster<Pair<T, N, B>, News<T, N, B>>,
-) -> Result<Vec<ReaderPass<T, N, B>>, OutOfMemory>
-    requires whole { whole.now ≡ [] }
-    requires covers { T.covers table.now ≡ 0 }
-    requires belongs { N.belongs [] table.now }
-    requires one_plan { AreOfOnePlan T.frame T.tasks_of N.belongs N.tasks }
-    ensures count { IfOk result (λ seats. length seats.items ≡ readers) }
-    ensures new { IfOk result (λ seats. All (IsNewReader T.covers N.belongs) seats.items) }
-{
-    let mut seats = Vec::new(alloc);
-    for _ in 0..readers {
-        let seat = seat(alloc, whole, table, poster)?;
-        seats.push(seat)?;
-    }
-    Ok(seats)
-}
-
-fn seat<T: Posted, N: Profile<T>, B: Bases>(
-    alloc: Global,
-    whole: &WholeLog<B>,
-    table: &T,
-    poster: &Poster<Pair<T, N, B>, News<T, N, B>>,
-) -> Result<ReaderPass<T, N, B>, OutOfMemory>
-    requires whole { whole.now ≡ [] }
-    requires covers { T.covers table.now ≡ 0 }
-    requires belongs { N.belongs [] table.now }
-    requires one_plan { AreOfOnePlan T.frame T.tasks_of N.belongs N.tasks }
-    ensures new { IfOk result (IsNewReader T.covers N.belongs) }
-{
-    let copy = empty_pair(alloc, whole, table)?;
-    let home = poster.reader()?;
-    Ok(ReaderPass::new(home, copy))
 }

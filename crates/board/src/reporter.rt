@@ -6,8 +6,8 @@ ghost use Rattle.bwe_specs.specs.declared.limits.TheConstants.{MAX_REPORTS};
 ghost use Rattle.board_log.specs.Roll.{IsBy, placed, own_of};
 ghost use Rattle.board_log.specs.Laws.{StandIn};
 
-use crate::ack::Ack;
 use board_log::{Bases, Beginning, Member, Roll};
+use board_pair::Ack;
 use bwe_specs::{OutOfMemory, Report};
 use std::marker::Model;
 
@@ -69,8 +69,8 @@ impl<B: Bases> ReporterPass<B> {
         ensures number { self.new.number ≡ self.old.number }
         ensures own { self.new.own ≡ self.old.own }
     {
-        if self.known.begins(&ack.known) {
-            self.known = ack.known.copy();
+        if self.known.begins(ack.known()) {
+            self.known = ack.known().copy();
         }
         Ok(())
     }

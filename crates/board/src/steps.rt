@@ -13,19 +13,16 @@ ghost use Rattle.board.specs.Reporting.{AreInOrder};
 ghost use Rattle.board.specs.Standing.{IsRaised};
 ghost use Rattle.board.specs.CoreSteps.{IsReportStep, ArePostSteps};
 
-use crate::ack::Ack;
 use crate::ended::{Ended, FinishRefused};
-use crate::pair::{News, Pair};
-use crate::poster::Poster;
-use crate::profile::Profile;
 use crate::refusal::ReportError;
 use crate::reporter::ReporterPass;
 use crate::workshop::Workshop;
 use board_log::{Bases, Beginning, Roll, WholeLog};
+use board_pair::{Ack, News, Pair, Poster, Profile};
 use bwe_specs::{MAX_REPORTS, OutOfMemory, Report};
 use demand_book::{Maker, Posted};
 use std::alloc::Global;
-use std::marker::{Model, PhantomData};
+use std::marker::Model;
 use std::sync::Wait;
 
 type Desk<T, N, B> = Poster<Pair<T, N, B>, News<T, N, B>>;
@@ -163,7 +160,7 @@ impl<M: Maker, N: Profile<M::Table>, B: Bases> LogState<M, N, B> {
             return Err(OutOfMemory);
         }
         let known = whole.first(posted);
-        Ok(Ack { known })
+        Ok(Ack::new(known))
     }
 
     /// Whether the log has reports that the posted table doesn't cover.
@@ -237,7 +234,7 @@ impl<M: Maker, N: Profile<M::Table>, B: Bases> LogState<M, N, B> {
         compare_all(&mut self.roll, passes.as_mut_slice());
         match self.last_table(rt, alloc, shop) {
             Ok((history, table)) => Ok(Ended {
-                ack: Ack { known },
+                ack: Ack::new(known),
                 history,
                 length,
                 table,
@@ -267,7 +264,7 @@ impl<M: Maker, N: Profile<M::Table>, B: Bases> LogState<M, N, B> {
     {
         let poster = &self.poster;
         let pair = poster.shown();
-        pair.table.prefix()
+        pair.table().prefix()
     }
 
     // Publishes what waits.
@@ -296,14 +293,7 @@ impl<M: Maker, N: Profile<M::Table>, B: Bases> LogState<M, N, B> {
         let len = self.log.len() as u64;
         let more = Vec::from_slice(alloc, &self.log[from as usize..])?;
         let pending = table.prefix();
-        let news = News {
-            alloc,
-            from,
-            more,
-            table,
-            known: self.whole.first(len),
-            of: PhantomData,
-        };
+        let news = News::new(alloc, from, more, table, self.whole.first(len));
         if self.poster.append(news).is_err() {
             return Err(OutOfMemory);
         }

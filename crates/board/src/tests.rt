@@ -1,6 +1,6 @@
 ghost use Rattle.std.specs.Prelude.{◌≡◌, []};
 ghost use Rattle.demand_book.specs.Small.{HasSummed, small_table};
-ghost use Rattle.board.specs.Plan.{NamesTables};
+ghost use Rattle.board_pair.specs.Plan.{NamesTables};
 
 mod cases;
 mod maker;

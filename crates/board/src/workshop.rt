@@ -7,11 +7,11 @@ ghost use Rattle.bwe_specs.specs.declared.report.Report.{Report};
 ghost use Rattle.bwe_specs.specs.declared.limits.TheConstants.{MAX_REPORTS};
 ghost use Rattle.demand_book.specs.Fit.{IsFit};
 ghost use Rattle.board_core.specs.Core.{IsAllowed};
-ghost use Rattle.board.specs.Plan.{NamesTables};
+ghost use Rattle.board_pair.specs.Plan.{NamesTables};
 
-use crate::profile::Profile;
 use crate::steps::LogState;
 use board_log::{Bases, Beginning};
+use board_pair::Profile;
 use bwe_specs::{OutOfMemory, Report};
 use demand_book::Maker;
 use std::alloc::Global;

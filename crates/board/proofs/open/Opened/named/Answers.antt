@@ -1,5 +1,5 @@
 use Rattle.std.proofs.Common.{[], sym, subst}
-use Rattle.board.specs.Plan.{NamesTables}
+use Rattle.board_pair.specs.Plan.{NamesTables}
 use Rattle.board.proofs.open.Opened.named.Goals as goal
 
 pub empty-shop-requires-clause-absorbed : goal.empty-shop-requires-clause-absorbed

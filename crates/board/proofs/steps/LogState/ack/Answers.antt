@@ -16,4 +16,4 @@ returns-clause-known g c =
     let is : c.first-known.result ≡ take posted log = c.first-known.ensures.reports ∙ ap (take posted) whole in
     let within : posted ≤ length log = c.posted-posted.ensures.within in
     let enough : length known ≤ posted = omega (arith, c.len-else-not-begins.ensures.length, c.if-len-posted.false) in
-    subst (IsPrefix known) (sym is) (prefix_within known log posted begins enough within)
+    subst (IsPrefix known) (sym (c.new.ensures.reports ∙ is)) (prefix_within known log posted begins enough within)

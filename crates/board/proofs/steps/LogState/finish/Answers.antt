@@ -1,4 +1,4 @@
-use Rattle.std.proofs.Common.{◌≡◌, ◌∙◌, ap, subst, arith, length, List}
+use Rattle.std.proofs.Common.{◌≡◌, ◌∙◌, ap, sym, subst, arith, length, List}
 use Rattle.std.specs.List.{All}
 use mathlib.Core.List.{IsPrefix}
 use Rattle.bwe_specs.specs.declared.report.Report.{Report}
@@ -20,4 +20,6 @@ returns-in-Ok-clause-sent g c =
 
 pub returns-in-Ok-clause-seen : goal.returns-in-Ok-clause-seen
 returns-in-Ok-clause-seen g c =
-    subst (All (λ (pass : Reporting). IsPrefix pass.seen c.first-known.result)) c.as_slice.ensures.value c.if-not-each_begins.ensures.begins
+    let passes : List Reporting = c.args.passes.items in
+    let begun : All (λ (pass : Reporting). IsPrefix pass.seen c.first-known.result) passes = subst (All (λ (pass : Reporting). IsPrefix pass.seen c.first-known.result)) c.as_slice.ensures.value c.if-not-each_begins.ensures.begins in
+    subst (λ (ack : List Report). All (λ (pass : Reporting). IsPrefix pass.seen ack) passes) (sym c.new.ensures.reports) begun

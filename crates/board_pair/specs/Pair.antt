@@ -4,7 +4,7 @@ use Rattle.std.specs.List.{All}
 use Rattle.bwe_specs.specs.declared.report.Report.{Report}
 use Rattle.demand_book.specs.Fit.{IsFit}
 use Rattle.board_core.specs.Core.{IsAllowed}
-use Rattle.board.specs.Plan.{AreOfOnePlan}
+use Rattle.board_pair.specs.Plan.{AreOfOnePlan}
 
 -- the log is the one that is known, the table belongs to its first reports, and each report is allowed
 pub record IsPair {T F : Type 0} (covers : T → ℕ) (frame : T → F) (tasks_of : F → ℕ) (belongs : List Report → T → Type 0) (reporters tasks links : ℕ)

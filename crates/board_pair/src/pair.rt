@@ -1,10 +1,11 @@
 //! The published pair: a log, and the table of some of its first reports.
-ghost use Rattle.std.specs.Prelude.{◌≡◌, ◌≤◌, ◌++◌, length, take, drop, OnOk, OnErr};
+ghost use Rattle.std.specs.Prelude.{◌≡◌, ◌≤◌, ◌++◌, [], length, take, drop, IfOk, OnOk, OnErr};
 ghost use Rattle.std.specs.Bool.{OnTrue};
 ghost use Rattle.std.specs.List.{All};
 ghost use mathlib.Core.List.{IsPrefix};
 ghost use Rattle.demand_book.specs.Fit.{IsFit};
 ghost use Rattle.board_core.specs.Core.{IsAllowed};
+ghost use Rattle.board_pair.specs.Plan.{AreOfOnePlan};
 
 use crate::ack::Ack;
 use crate::profile::Profile;
@@ -27,13 +28,13 @@ pub struct Posting<T> {
 pub struct Pair<T: Posted, N: Profile<T>, B: Bases> {
     pub(crate) log: Vec<Report>,
     pub(crate) table: T,
-    pub(crate) known: Beginning<B>,
-    pub(crate) of: PhantomData<N>,
+    known: Beginning<B>,
+    of: PhantomData<N>,
 }
 
 impl<T: Posted, N: Profile<T>, B: Bases> Model for Pair<T, N, B> {
-    ghost use Rattle.board.specs.declared.pair.Posting.{Posting};
-    ghost use Rattle.board.specs.Pair.{IsPair};
+    ghost use Rattle.board_pair.specs.declared.pair.Posting.{Posting};
+    ghost use Rattle.board_pair.specs.Pair.{IsPair};
 
     ghost Value = { Posting T };
 
@@ -45,17 +46,17 @@ impl<T: Posted, N: Profile<T>, B: Bases> Model for Pair<T, N, B> {
 /// What a post brings: the reports from a place on, and the table. Contracts see the pair that it makes.
 #[derive(Drop)]
 pub struct News<T: Posted, N: Profile<T>, B: Bases> {
-    pub(crate) alloc: Global,
-    pub(crate) from: u64,
-    pub(crate) more: Vec<Report>,
-    pub(crate) table: T,
-    pub(crate) known: Beginning<B>,
-    pub(crate) of: PhantomData<N>,
+    alloc: Global,
+    from: u64,
+    more: Vec<Report>,
+    table: T,
+    known: Beginning<B>,
+    of: PhantomData<N>,
 }
 
 impl<T: Posted, N: Profile<T>, B: Bases> Model for News<T, N, B> {
-    ghost use Rattle.board.specs.declared.pair.Posting.{Posting};
-    ghost use Rattle.board.specs.Pair.{IsNews};
+    ghost use Rattle.board_pair.specs.declared.pair.Posting.{Posting};
+    ghost use Rattle.board_pair.specs.Pair.{IsNews};
 
     ghost Value = { Posting T };
 
@@ -64,7 +65,66 @@ impl<T: Posted, N: Profile<T>, B: Bases> Model for News<T, N, B> {
     ghost invariant = { λ news. IsNews T.covers N.belongs N.reporters N.tasks N.links news.from news.more.items news.known news.table };
 }
 
+impl<T: Posted, N: Profile<T>, B: Bases> News<T, N, B> {
+    /// The reports that the known log has from a place on, and the table of some of its first ones.
+    ///
+    /// `alloc` is what the copies take memory from. It takes none itself.
+    pub fn new(
+        alloc: Global,
+        from: u64,
+        more: Vec<Report>,
+        table: T,
+        known: Beginning<B>,
+    ) -> News<T, N, B>
+        requires from { from ≤ length known }
+        requires more { more.items ≡ drop from known }
+        requires covers { T.covers table ≤ length known }
+        requires belongs { N.belongs (take (T.covers table) known) table }
+        requires allowed { All (IsAllowed N.reporters (IsFit N.tasks N.links)) known }
+        ensures pair { result ≡ record { log = known; table = table } }
+    {
+        News {
+            alloc,
+            from,
+            more,
+            table,
+            known,
+            of: PhantomData,
+        }
+    }
+}
+
 impl<T: Posted, N: Profile<T>, B: Bases> Pair<T, N, B> {
+    /// The empty log, and a copy of its table.
+    pub fn empty(
+        alloc: Global,
+        known: Beginning<B>,
+        table: &T,
+    ) -> Result<Pair<T, N, B>, OutOfMemory>
+        requires known { known ≡ [] }
+        requires covers { T.covers table.now ≡ 0 }
+        requires belongs { N.belongs [] table.now }
+        requires one_plan { AreOfOnePlan T.frame T.tasks_of N.belongs N.tasks }
+        ensures pair { IfOk result (λ pair. pair ≡ record { log = []; table = table.now }) }
+    {
+        let copy = table.copy(alloc)?;
+        Ok(Pair {
+            log: Vec::new(alloc),
+            table: copy,
+            known,
+            of: PhantomData,
+        })
+    }
+
+    /// The table, which belongs to the log's first reports.
+    pub fn table(&self) -> &T
+        ensures table { result.now ≡ self.now.table }
+        ensures within { T.covers result.now ≤ length self.now.log }
+        ensures belongs { N.belongs (take (T.covers result.now) self.now.log) result.now }
+    {
+        &self.table
+    }
+
     // Takes the log to all that is known of it here, and the table to that one by their change.
     // `more` is what the known log has from the place `from` on, where this log ends.
     fn follow(
@@ -139,7 +199,7 @@ impl<T: Posted, N: Profile<T>, B: Bases> Pair<T, N, B> {
         ensures log { OnTrue result (IsPrefix ack.now self.now.log) }
         ensures covers { OnTrue result (length ack.now ≤ T.covers self.now.table) }
     {
-        ack.prefix() <= self.table.prefix() && ack.known.begins(&self.known)
+        ack.prefix() <= self.table.prefix() && ack.known().begins(&self.known)
     }
 
     /// Takes over a later pair that covers the ack. Another pair is refused.

@@ -3,7 +3,7 @@ use Rattle.std.proofs.lemmas.List.{take-append-le, take_all}
 use mathlib.Core.List.{IsPrefix}
 use Rattle.bwe_specs.specs.declared.report.Report.{Report}
 use Rattle.board_log.proofs.Prefixes.{followed, prefix_self}
-use Rattle.board.proofs.pair.Pair.follow.Goals as goal
+use Rattle.board_pair.proofs.pair.Pair.follow.Goals as goal
 
 pub change_to-requires : goal.change_to-requires
 change_to-requires g c =

@@ -21,7 +21,7 @@ pub struct Poster<P: Absorb<O> + Drop, O: Drop> {
 
 impl<P: Absorb<O> + Drop, O: Drop> Model for Poster<P, O> {
     ghost use Rattle.std.specs.Prelude.{drop};
-    ghost use Rattle.board.specs.Standing.{Desk};
+    ghost use Rattle.board_pair.specs.Desk.{Desk};
 
     ghost Value = { Desk P O };
 
@@ -46,8 +46,8 @@ impl<P: Absorb<O> + Drop, O: Drop> Poster<P, O> {
         })
     }
 
-    /// A reader's place, refused where all are taken.
-    pub fn reader(&self) -> Result<Reader<P, (), Unruled>, OutOfMemory> {
+    // A reader's place, refused where all are taken.
+    pub(crate) fn reader(&self) -> Result<Reader<P, (), Unruled>, OutOfMemory> {
         let writer = &self.writer;
         let reader = writer.factory().reader()?;
         Ok(reader)

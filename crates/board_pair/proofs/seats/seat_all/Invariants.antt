@@ -1,7 +1,7 @@
 use Rattle.std.proofs.Common.{◌≡◌, length}
 use Rattle.std.specs.List.{All}
-use Rattle.board.specs.Reading.{IsNewReader}
-use Rattle.board.proofs.open.seat_all.Given as goal
+use Rattle.board_pair.specs.Reading.{IsNewReader}
+use Rattle.board_pair.proofs.seats.seat_all.Given as goal
 
 abbrev pub invariant-loop : goal.invariant-loop
 invariant-loop g l = record {

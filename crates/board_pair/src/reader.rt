@@ -30,7 +30,7 @@ pub struct ReaderPass<T: Posted, N: Profile<T>, B: Bases> {
 }
 
 impl<T: Posted, N: Profile<T>, B: Bases> Model for ReaderPass<T, N, B> {
-    ghost use Rattle.board.specs.Reading.{Reading};
+    ghost use Rattle.board_pair.specs.Reading.{Reading};
 
     ghost Value = { Reading T };
 
@@ -52,7 +52,7 @@ impl<T: Posted, N: Profile<T>, B: Bases> ReaderPass<T, N, B> {
     ghost use denote.Follow.{follows_so};
     ghost use Rattle.demand_book.specs.Fit.{IsFit};
     ghost use Rattle.board_core.specs.Core.{IsAllowed};
-    ghost use Rattle.board.specs.contracts.reader.ReaderPass.{the_row};
+    ghost use Rattle.board_pair.specs.contracts.reader.ReaderPass.{the_row};
 
     // A pass that has read nothing yet.
     pub(crate) fn new(home: Home<T, N, B>, copy: Pair<T, N, B>) -> ReaderPass<T, N, B>
@@ -73,9 +73,7 @@ impl<T: Posted, N: Profile<T>, B: Bases> ReaderPass<T, N, B> {
         ensures within { result ≤ length self.now.log }
         ensures table { N.belongs (take result self.now.log) self.now.table }
     {
-        let copy = &self.copy;
-        let _ = &copy.log;
-        copy.table.prefix()
+        self.copy.table().prefix()
     }
 
     /// How often it has read. It stays at the last value once it is there.

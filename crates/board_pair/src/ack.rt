@@ -8,7 +8,7 @@ use std::marker::Model;
 /// It holds no table. Passes of its board `learn` it.
 #[derive(Drop)]
 pub struct Ack<B: Bases> {
-    pub(crate) known: Beginning<B>,
+    known: Beginning<B>,
 }
 
 impl<B: Bases> Model for Ack<B> {
@@ -21,10 +21,24 @@ impl<B: Bases> Model for Ack<B> {
 }
 
 impl<B: Bases> Ack<B> {
+    /// The ack of the first reports of a log. Whoever makes one has posted a table that covers them: no clause here can say so.
+    pub fn new(known: Beginning<B>) -> Ack<B>
+        ensures reports { result ≡ known }
+    {
+        Ack { known }
+    }
+
     /// How many reports it holds.
     pub fn prefix(&self) -> u64
         ensures prefix { result ≡ length self.now }
     {
         self.known.len()
+    }
+
+    /// The reports that it holds, as a beginning of their log.
+    pub fn known(&self) -> &Beginning<B>
+        ensures known { result.now ≡ self.now }
+    {
+        &self.known
     }
 }

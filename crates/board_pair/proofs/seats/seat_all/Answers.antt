@@ -1,9 +1,9 @@
 use Rattle.std.proofs.Common.{◌++◌, ◌∷◌, [], length, ap, sym, subst, arith, length-append}
 use Rattle.std.specs.List.{All}
 use Rattle.std.proofs.lemmas.List.Elements.{All-push}
-use Rattle.board.specs.declared.reader.ReaderPass.{ReaderPass}
-use Rattle.board.specs.Reading.{IsNewReader}
-use Rattle.board.proofs.open.seat_all.Goals as goal
+use Rattle.board_pair.specs.declared.reader.ReaderPass.{ReaderPass}
+use Rattle.board_pair.specs.Reading.{IsNewReader}
+use Rattle.board_pair.proofs.seats.seat_all.Goals as goal
 
 pub loop-preserved : goal.loop-preserved
 loop-preserved g c =

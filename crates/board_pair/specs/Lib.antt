@@ -1,0 +1,4 @@
+pub mod Plan
+pub mod Pair
+pub mod Reading
+pub mod Desk

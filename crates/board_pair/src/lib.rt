@@ -1,0 +1,24 @@
+//! What a board publishes: a log with the table of its first reports, in two copies, which readers enter without a lock.
+//!
+//! `board` above makes posts of `News` by a `Poster`; its readers are `ReaderPass`es, each with a copy of its own of what it saw.
+//! Three promises rest on this crate alone, for any kind of table: `ReaderPass::read` shows a table that belongs to the first reports
+//! of a log which begins with all that the pass had seen, never older than its floor; after `ReaderPass::learn` the pass has all that
+//! the ack holds; `Poster::publish` shows all that waited, or nothing of it.
+//! `read` and `learn` take no lock and wait for nobody: they are given no handle, and nothing that waits can be called without one.
+//! `publish` may wait for readers to leave a copy. A copy is brought up to date by the reports that are new and a change of the table.
+//! Nothing is known here of who adds to the log, of makers or of threads. Not promised: that a reader sees what nobody told it.
+#![tactic(auto)]
+
+mod ack;
+mod pair;
+mod poster;
+mod profile;
+mod reader;
+mod seats;
+
+pub use ack::Ack;
+pub use pair::{News, Pair, Posting};
+pub use poster::Poster;
+pub use profile::Profile;
+pub use reader::{ReaderPass, View};
+pub use seats::seat_all;
