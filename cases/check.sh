@@ -2,7 +2,8 @@
 # cases/check.sh [PROGRAM [CASE..]]: runs the built program on whole cases and compares every byte.
 #
 # A case is a folder: args (a word a line), stdin, stdout (what has to be printed, exactly) and status.
-# Nothing may come on standard error. The last line says how many passed; the status is 0 where all did.
+# Nothing may come on standard error. A line says how many passed; the status is 0 where all did.
+# Where no case is named, a few runs on threads are made and checked too: cases/runs.py.
 here=$(cd "$(dirname "${BASH_SOURCE[0]}")" && pwd)
 program=${1:-$here/../crates/bwe/out/bwe}
 shift
@@ -10,7 +11,11 @@ if [ ! -f "$program" ]; then
     echo "cases/check.sh: no program at $program" >&2
     exit 2
 fi
-[ $# -gt 0 ] || set -- $(cd "$here" && ls -d */ | tr -d /)
+runs=0
+if [ $# -eq 0 ]; then
+    runs=3
+    set -- $(cd "$here" && ls -d */ | tr -d /)
+fi
 work=$(mktemp -d)
 trap 'rm -rf "$work"' EXIT
 # A copy, so that a program that was handed on without its mode runs too.
@@ -33,4 +38,5 @@ for name in "$@"; do
     fi
 done
 echo "cases: $passed passed, $failed failed"
+[ "$runs" = 0 ] || python3 "$here/runs.py" "$work/bwe" "$runs" || failed=$((failed + 1))
 [ "$failed" = 0 ]
