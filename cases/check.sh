@@ -3,7 +3,8 @@
 #
 # A case is a folder: args (a word a line), stdin, stdout (what has to be printed, exactly) and status.
 # Nothing may come on standard error. A line says how many passed; the status is 0 where all did.
-# Where no case is named, a few runs on threads are made and checked too: cases/runs.py.
+# Where no case is named, made documents are compared with a second implementation too (cases/compare.py), and a few runs on
+# threads are made and checked (cases/runs.py).
 here=$(cd "$(dirname "${BASH_SOURCE[0]}")" && pwd)
 program=${1:-$here/../crates/bwe/out/bwe}
 shift
@@ -11,9 +12,9 @@ if [ ! -f "$program" ]; then
     echo "cases/check.sh: no program at $program" >&2
     exit 2
 fi
-runs=0
+is_whole=no
 if [ $# -eq 0 ]; then
-    runs=3
+    is_whole=yes
     set -- $(cd "$here" && ls -d */ | tr -d /)
 fi
 work=$(mktemp -d)
@@ -38,5 +39,8 @@ for name in "$@"; do
     fi
 done
 echo "cases: $passed passed, $failed failed"
-[ "$runs" = 0 ] || python3 "$here/runs.py" "$work/bwe" "$runs" || failed=$((failed + 1))
+if [ "$is_whole" = yes ]; then
+    python3 "$here/compare.py" "$work/bwe" 200 || failed=$((failed + 1))
+    python3 "$here/runs.py" "$work/bwe" 3 || failed=$((failed + 1))
+fi
 [ "$failed" = 0 ]

@@ -1,4 +1,5 @@
 mod documents;
+mod driven;
 mod gate;
 
 use crate::tests::documents::{SHARED_LINK, THREE_HOLDS};
