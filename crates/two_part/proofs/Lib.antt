@@ -1,0 +1,3 @@
+pub mod DigitFacts
+pub mod NumberFacts
+pub mod PartsFacts

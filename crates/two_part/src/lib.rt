@@ -1,0 +1,52 @@
+//! Where the document lies in an input of two parts.
+//!
+//! The lines that read a document and a second part ask `find_parts` before anything else, and read the document from
+//! `start` to before `end` and the second part from `end` on. `exact` says which answer comes; `found` and `complete`
+//! say that it is the one of the format's sentence (`specs/TwoPart.antt`). It takes no memory.
+//! Nothing is promised of what the two parts hold.
+#![tactic(auto)]
+
+ghost use Rattle.std.specs.Prelude.{◌≡◌, ◌==◌, List, ℕ, length, position, Some, IfSome};
+ghost use Rattle.two_part.specs.TwoPart.{AreParts, IsTwoPart, parts_behind, parts_of};
+
+mod digits;
+#[cfg(test)]
+mod tests;
+
+use crate::digits::number_in;
+
+/// Where the document lies, in bytes from the start of the input. The second part is what follows `end`.
+#[derive(Clone, Copy, Debug, PartialEq, Eq, Drop)]
+pub struct Parts {
+    pub start: u64,
+    pub end: u64,
+}
+
+/// The parts of the bytes ("Two-part inputs", docs/FORMAT.md), `None` where they do not begin so.
+///
+/// Leading zeros are allowed. A number that no 64 bits hold is more than the bytes that follow.
+pub fn find_parts(bytes: &[u8]) -> Option<Parts>
+    ensures exact { result ≡ parts_of bytes.now }
+    // The document lies where the bytes say.
+    ensures found { IfSome result (AreParts bytes.now) }
+    // The parts of every two-part input are found.
+    ensures complete { (digits document rest : List ℕ) → IsTwoPart bytes.now digits document rest
+        → result ≡ Some (parts_behind digits (length document)) }
+{
+    let line_feed = first_line_feed(bytes)?;
+    let number = number_in(&bytes[..line_feed])?;
+    let start = line_feed as u64 + 1;
+    if number > bytes.len() as u64 - start {
+        return None;
+    }
+    Some(Parts {
+        start,
+        end: start + number,
+    })
+}
+
+fn first_line_feed(bytes: &[u8]) -> Option<usize>
+    ensures { result ≡ position (λ byte. byte == 10) bytes.now }
+{
+    bytes.iter().position(|byte| *byte == b'\n')
+}
