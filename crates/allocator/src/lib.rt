@@ -18,6 +18,7 @@ mod values;
 pub use allocator::{Allocator, AllocatorPlan};
 pub use history::after_script;
 pub use line::{group_line, group_lines};
+pub use loads::loads_of;
 pub use reported::Reported;
-pub use table::make_table;
+pub use table::{limits_of, make_table};
 pub use values::TreeValues;

@@ -15,7 +15,7 @@ use wan_topology::Topology;
 
 /// The load of each link where the path groups of the plan have these amounts, by group and place. All are kilobits per
 /// second.
-pub(crate) fn loads_of(
+pub fn loads_of(
     alloc: Global,
     topology: &Topology,
     plan: &PathPlan,

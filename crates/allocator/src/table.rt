@@ -99,8 +99,8 @@ fn filling_of<L: Ledger>(
     solve(alloc, &values, reported.topology(), plan, hints, &mut steps)
 }
 
-// Each task's limit, where the groups have the amounts of these lines.
-fn limits_of(
+/// Each task's limit, where the groups have the amounts of these lines. All are kilobits per second.
+pub fn limits_of(
     alloc: Global,
     tree: &PolicyTree,
     groups: &[GroupLine],

@@ -1,0 +1,9 @@
+pub mod Tiers
+pub mod OfTier
+pub mod Kept
+pub mod Lowered
+pub mod Step
+pub mod Made
+pub mod Agreeing
+pub mod Lower
+pub mod Complete

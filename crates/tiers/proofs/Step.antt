@@ -1,0 +1,124 @@
+-- One tier more, as the loop over the tiers fills it.
+use Rattle.std.proofs.Common.{◌≡◌, ℕ, ◌+◌, ◌-◌, ◌<◌, ◌≤◌, ◌^◌, List, [], length, map, replicate, slice_index, sym, ap, ◌∙◌, subst, arith}
+use Rattle.bwe_specs.specs.Bounded.{sum_below}
+use Rattle.bwe_specs.specs.Paths.{PathGroups, link_load}
+use Rattle.bwe_specs.specs.Filling.{Wan}
+use Rattle.bwe_specs.specs.Reports.{numbers}
+use Rattle.bwe_specs.specs.Values.{AreValues, NeverFalls}
+use Rattle.link_sums.specs.Sums.{AreRowsOf, amount_at, rows_in, total_of}
+use Rattle.mpfa_fill.specs.declared.steps.Filling.{Filling}
+use Rattle.mpfa_fill.specs.Filling.{IsFilling}
+use Rattle.mpfa_fill.specs.GroupValues.{wan_of}
+use Rattle.path_groups.specs.Plan.{IsBuiltOn}
+use Rattle.policy_tree.specs.Trees.{Tree, value_in}
+use Rattle.wan_topology.specs.Network.{Network, IsNetwork}
+use Rattle.tiers.specs.Tiered.{free_under, amounts_below, wan_of_tier}
+use Rattle.tiers.specs.Fillings.{Fillings, AreFilled, values_of_tier, wan_by, with_filling}
+use Rattle.tiers.proofs.Tiers.{free-none, length-free}
+use Rattle.tiers.proofs.Kept.{filled-none, filled-more, next-shaped, next-total, next-links, next-fit, next-free, take-links, take-fit}
+use Rattle.tiers.proofs.Lowered.{with_capacities, built_on-same}
+
+-- the tiers below one are filled, and the network has what they leave free
+pub record IsFilledTo (tree : Tree) (initial : Network) (groups : List PathGroups) (tiers : List ℕ) (tier : ℕ) (now : Network) (fillings : Fillings) : Type 0 where
+  pub filled : AreFilled (wan_by tree initial groups) tiers tier fillings
+  pub network : now ≡ with_capacities initial (free_under groups initial.capacities (amounts_below (wan_by tree initial groups) tiers tier))
+
+module _ (tree : Tree) (initial : Network) (groups : List PathGroups) (tiers : List ℕ) (clusters : length tree.clusters ≡ length groups)
+    (values : AreValues (length tree.clusters) tree.top (value_in tree)) where
+  abbrev wan : Wan
+  wan = wan_by tree initial groups
+
+  pub step-never : NeverFalls (wan_by tree initial groups)
+  step-never = record { next = values.never_falls }
+
+  pub step-bound : sum_below (length groups) (λ group. value_in tree group tree.top) ≤ 20_000_000_000_000_000
+  step-bound = subst (λ count. sum_below count (λ group. value_in tree group tree.top) ≤ 20_000_000_000_000_000) clusters values.together
+
+  pub step-none : IsFilledTo tree initial groups tiers 0 initial (record { closings = []; amounts = []; shares = []; loads = replicate (length initial.capacities) 0 })
+  step-none = record {
+    filled = filled-none wan tiers step-never step-bound;
+    network = ap (with_capacities initial) (sym (free-none wan tiers));
+  }
+
+  abbrev none_filled : ℕ → Fillings
+  none_filled links = record { closings = []; amounts = []; shares = []; loads = replicate links 0 }
+
+  -- no tier is filled at first, where there are so many links
+  pub step-first : (links : ℕ) → links ≡ length initial.capacities → (fillings : Fillings) → fillings ≡ none_filled links → IsFilledTo tree initial groups tiers 0 initial fillings
+  step-first links same fillings are = subst (λ fillings. IsFilledTo tree initial groups tiers 0 initial fillings) (sym (are ∙ ap none_filled same)) step-none
+
+  module _ (tier : ℕ) (now : Network) (fillings : Fillings) (is : IsFilledTo tree initial groups tiers tier now fillings) where
+    abbrev free : List ℕ
+    free = free_under groups initial.capacities (amounts_below wan tiers tier)
+
+    capacities-are : now.capacities ≡ free
+    capacities-are = ap (λ (network : Network). network.capacities) is.network
+
+    pub step-built_on : IsBuiltOn initial groups → IsBuiltOn now groups
+    step-built_on built_on =
+        subst (λ network. IsBuiltOn network groups) (sym is.network)
+        (built_on-same initial free groups (length-free groups initial.capacities (amounts_below wan tiers tier)) built_on)
+
+    module _ (filled : Filling) (filling : IsFilling (wan_of (values_of_tier tree tiers tier) groups now.capacities) filled) where
+      step-filling : IsFilling (wan_of_tier wan tiers tier) filled
+      step-filling = subst (λ capacities. IsFilling (wan_of (values_of_tier tree tiers tier) groups capacities) filled) capacities-are filling
+
+      pub step-shaped : AreRowsOf groups (rows_in filled.amounts.items)
+      step-shaped = next-shaped wan tiers step-never step-bound tier filled step-filling
+
+      pub step-total : total_of groups (rows_in filled.amounts.items) ≤ 20_000_000_000_000_000
+      step-total = next-total wan tiers step-never step-bound tier filled step-filling
+
+      module _ (loads : List ℕ) (loads-is : loads ≡ map (link_load groups (amount_at (rows_in filled.amounts.items))) (numbers (length now.capacities))) where
+        loads-are : loads ≡ map (link_load groups (amount_at (rows_in filled.amounts.items))) (numbers (length free))
+        loads-are = loads-is ∙ ap (λ (capacities : List ℕ). map (link_load groups (amount_at (rows_in filled.amounts.items))) (numbers (length capacities))) capacities-are
+
+        pub step-lower-links : length loads ≡ length now.capacities
+        step-lower-links =
+            next-links wan tiers step-never step-bound tier filled step-filling loads loads-are ∙ sym (ap (λ (capacities : List ℕ). length capacities) capacities-are)
+
+        pub step-lower-fit : (link : ℕ) → link < length loads → slice_index loads link ≤ slice_index now.capacities link
+        step-lower-fit link lt =
+            subst (λ (capacities : List ℕ). slice_index loads link ≤ slice_index capacities link) (sym capacities-are)
+            (next-fit wan tiers step-never step-bound tier filled step-filling loads loads-are link lt)
+
+        pub step-take-links : length loads ≡ length fillings.loads
+        step-take-links = take-links wan tiers step-never step-bound tier filled step-filling loads loads-are fillings is.filled
+
+        pub step-take-fit : IsNetwork initial → (link : ℕ) → link < length loads → slice_index fillings.loads link + slice_index loads link < 2 ^ 64
+        step-take-fit network link lt =
+            let within : link < length initial.capacities =
+            omega (
+              arith,
+              next-links wan tiers step-never step-bound tier filled step-filling loads loads-are,
+              length-free groups initial.capacities (amounts_below wan tiers tier),
+            ) in
+            omega (
+              arith,
+              take-fit wan tiers step-never step-bound tier filled step-filling loads loads-are fillings is.filled link lt,
+              network.capacities_in_range link 0 within,
+            )
+
+        -- the tier is filled too, and the network has what is then left free
+        pub step-more : IsFilledTo tree initial groups tiers (tier + 1)
+            (with_capacities now (map (λ link. slice_index now.capacities link - slice_index loads link) (numbers (length now.capacities))))
+            (with_filling fillings filled loads)
+        step-more = record {
+          filled = filled-more wan tiers step-never step-bound tier filled step-filling loads loads-are fillings is.filled;
+          network =
+              subst (λ (now : Network).
+              with_capacities now (map (λ link. slice_index now.capacities link - slice_index loads link) (numbers (length now.capacities)))
+              ≡ with_capacities initial (free_under groups initial.capacities (amounts_below wan tiers (tier + 1)))) (sym is.network)
+              (ap (with_capacities initial) (next-free wan tiers step-never step-bound tier filled step-filling loads loads-are));
+        }
+
+        -- the same of a network and fillings that are these
+        pub step-next : (after : Network)
+            → after ≡ with_capacities now (map (λ link. slice_index now.capacities link - slice_index loads link) (numbers (length now.capacities)))
+            → (kept : Fillings) → kept ≡ with_filling fillings filled loads → IsFilledTo tree initial groups tiers (tier + 1) after kept
+        step-next after after-is kept kept-is =
+            subst (λ (after : Network). IsFilledTo tree initial groups tiers (tier + 1) after kept) (sym after-is)
+            (subst (λ (kept : Fillings).
+            IsFilledTo tree initial groups tiers (tier + 1)
+            (with_capacities now (map (λ link. slice_index now.capacities link - slice_index loads link) (numbers (length now.capacities)))) kept) (sym kept-is)
+            step-more)

@@ -1,0 +1,4 @@
+pub mod Tiered
+pub mod Tables
+pub mod Fillings
+pub mod Laws
