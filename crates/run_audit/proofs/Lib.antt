@@ -1,0 +1,7 @@
+mod Splits
+mod Digits
+mod Dues
+mod Takes
+mod Pursues
+mod Fits
+mod Verdicts

@@ -1,0 +1,11 @@
+use Rattle.std.proofs.Common.{String, string_bytes, Global, map, length, get_or, arith, rules, sym, ap, ◌∙◌}
+use Rattle.std.specs.Str.{bytes_eq}
+use Rattle.std.proofs.lemmas.List.{get_or-map, length-map}
+use Rattle.std.proofs.lemmas.List.Folds.{list_any_at}
+use Rattle.run_audit.proofs.Digits.{known_at}
+use Rattle.run_audit.proofs.forms.is_likely_known.Goals as goal
+
+pub returns-then-eq : goal.returns-then-eq
+returns-then-eq c =
+    sym (known_at c.args.names.now c.in-Some.number c.index-names-number.result c.args.word.now (omega arith) c.index-names-number.is
+    (ap (λ name. bytes_eq c.args.word.now name) (sym c.as_bytes.ensures.value) ∙ search rules))
