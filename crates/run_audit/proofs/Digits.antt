@@ -1,6 +1,6 @@
 -- Digits, read one by one.
-use Rattle.std.proofs.Common.{String, Global, string_bytes, true, cond, not, ap₂, arith, ◌≡◌, ℕ, suc, ◌+◌, ◌<◌, ◌≤◌, List, [], ◌∷◌, length, drop, get_or, refl, sym, ap, ◌∙◌}
-use Rattle.std.specs.Prelude.{nat_lt, position, Bool, ◌||◌, map, Option, Some, None, option_and_then}
+use Rattle.std.proofs.Common.{String, Global, string_bytes, true, cond, not, ap₂, arith, ◌≡◌, ℕ, ◌+◌, ◌<◌, ◌≤◌, List, [], ◌∷◌, length, drop, get_or, refl, sym, ap, ◌∙◌}
+use Rattle.std.specs.Prelude.{nat_lt, position, Bool, ◌||◌, map, Some, None, option_and_then}
 use Rattle.std.specs.List.{list_any, position_or_len}
 use Rattle.std.specs.Str.{bytes_eq}
 use Rattle.std.proofs.lemmas.List.{drop_more, drop_all, get_or-map, length-map}

@@ -1,5 +1,5 @@
 -- What is due after a line, whatever the number of scripts.
-use Rattle.std.proofs.Common.{◌≡◌, ◌≤◌, ℕ, Result, Ok, Err, Option, Some, None, IfOk, rules}
+use Rattle.std.proofs.Common.{◌≤◌, ℕ, Result, Ok, Err, IfOk, rules}
 use Rattle.std.specs.Prelude.{IfSome, IsNone}
 use Rattle.run_audit.specs.Walk.{IsDue, IsStep}
 use Rattle.run_audit.specs.declared.due.Step.{Step}

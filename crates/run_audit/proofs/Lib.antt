@@ -1,3 +1,4 @@
+pub mod Counts
 mod Splits
 mod Digits
 mod Dues

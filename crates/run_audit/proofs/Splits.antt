@@ -1,6 +1,6 @@
 -- A list cut at the first element that passes: lines and words.
-use Rattle.std.proofs.Common.{inl, inr, ◌≡◌, ℕ, suc, zero, ◌+◌, ◌-◌, ◌<◌, ◌≤◌, Bool, true, false, List, [], ◌∷◌, length, take, drop, get_or, refl, arith, cond, not, sym, ap, subst, ◌∙◌, ◌==◌}
-use Rattle.std.specs.List.{slice_split, onto_first, position_or_len, prefix_len, before_first, after_first, count_by}
+use Rattle.std.proofs.Common.{inl, inr, ◌≡◌, ℕ, suc, zero, ◌+◌, ◌-◌, ◌<◌, Bool, true, false, List, [], ◌∷◌, length, take, get_or, refl, arith, cond, not, sym, ap, ◌∙◌, ◌==◌}
+use Rattle.std.specs.List.{slice_split, onto_first, position_or_len, before_first, after_first, count_by}
 use Rattle.std.proofs.lemmas.List.Splits.{slice_split_first, slice_split-cons_no, length-slice_split}
 use Rattle.std.proofs.lemmas.List.{take_all}
 use Rattle.std.proofs.lemmas.List.Sums.{prefix_len-le-length}

@@ -1,12 +1,12 @@
 -- From what the code answers to the verdict.
-use Rattle.std.proofs.Common.{◌≡◌, ◌+◌, ◌==◌, ℕ, suc, cond, List, [], ◌∷◌, length, take, Result, Ok, Err, IfOk, refl, sym, ap, subst, ◌∙◌, arith}
+use Rattle.std.proofs.Common.{◌≡◌, ◌+◌, ◌==◌, ℕ, suc, cond, List, [], ◌∷◌, length, take, Result, Ok, Err, IfOk, refl, sym, ap, ◌∙◌, arith}
 use Rattle.std.specs.List.{All}
 use Rattle.bwe_specs.specs.declared.report.Report.{Report}
 use Rattle.bwe_specs.specs.declared.memory.OutOfMemory.{OutOfMemory}
 use Rattle.run_audit.specs.Words.{left_of, lines_of}
 use Rattle.run_audit.specs.Forms.{LineNames}
-use Rattle.run_audit.specs.History.{IsStop, Reported, history_in}
-use Rattle.run_audit.specs.Walk.{Walk, due_from}
+use Rattle.run_audit.specs.History.{IsStop, history_in}
+use Rattle.run_audit.specs.Walk.{due_from}
 use Rattle.run_audit.specs.Verdict.{IsVerdictAt, judge, judge_rest, verdict_of}
 use Rattle.run_audit.specs.Checks.{Found, first_wrong, pursue}
 use Rattle.run_audit.specs.declared.due.Due.{Due}
@@ -14,7 +14,6 @@ use Rattle.run_audit.specs.declared.walk.Check.{Check}
 use Rattle.run_audit.specs.declared.verdict.AuditCause.TheVariants as causes
 use Rattle.run_audit.specs.declared.verdict.AuditVerdict.{AuditVerdict}
 use Rattle.run_audit.specs.declared.verdict.AuditVerdict.TheVariants.{Wrong}
-use Rattle.run_audit.specs.declared.verdict.Fault.{Fault}
 use Rattle.run_audit.specs.declared.verdict.Stop.{Stop}
 use Rattle.run_audit.specs.declared.verdict.Stop.TheVariants as stops
 use Rattle.run_audit.proofs.Pursues.{judged}

@@ -1,7 +1,5 @@
-use Rattle.std.proofs.Common.{String, string_bytes, Global, map, length, get_or, arith, rules, sym, ap, ◌∙◌}
+use Rattle.std.proofs.Common.{arith, rules, sym, ap, ◌∙◌}
 use Rattle.std.specs.Str.{bytes_eq}
-use Rattle.std.proofs.lemmas.List.{get_or-map, length-map}
-use Rattle.std.proofs.lemmas.List.Folds.{list_any_at}
 use Rattle.run_audit.proofs.Digits.{known_at}
 use Rattle.run_audit.proofs.forms.is_likely_known.Goals as goal
 

@@ -1,4 +1,4 @@
-use Rattle.std.proofs.Common.{ℕ, take, rules}
+use Rattle.std.proofs.Common.{take, rules}
 use Rattle.std.specs.Prelude.{slice_index}
 use Rattle.run_audit.specs.Forms.{names_of}
 use Rattle.run_audit.specs.History.{scripts_of}

@@ -1,13 +1,12 @@
-use Rattle.std.proofs.Common.{◌≡◌, ◌≤◌, ◌++◌, [], ◌∷◌, List, rules, sym, ap, subst, ◌∙◌, Ok, Err}
+use Rattle.std.proofs.Common.{◌≡◌, ◌≤◌, ◌++◌, [], rules, sym, ap, subst, ◌∙◌}
 use Rattle.std.specs.List.{All}
 use Rattle.run_audit.specs.Words.{LinesLeft}
 use Rattle.run_audit.specs.Forms.{names_of}
 use Rattle.run_audit.specs.History.{scripts_of}
-use Rattle.run_audit.specs.Walk.{after_line, is_over}
+use Rattle.run_audit.specs.Walk.{is_over}
 use Rattle.run_audit.specs.Verdict.{at_end}
 use Rattle.run_audit.specs.Checks.{checks_of}
 use Rattle.run_audit.specs.declared.walk.Check.{Check}
-use Rattle.run_audit.specs.declared.verdict.AuditVerdict.{AuditVerdict}
 use Rattle.run_audit.specs.declared.verdict.AuditVerdict.TheVariants.{Wrong}
 use Rattle.run_audit.proofs.Pursues.{prefixes_more, pursuit_ends, pursuit_goes_on, pursuit_stops}
 use Rattle.run_audit.proofs.walk.pursue.Goals as goal

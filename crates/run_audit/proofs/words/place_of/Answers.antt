@@ -1,4 +1,4 @@
-use Rattle.std.proofs.Common.{ℕ, ◌==◌, length, arith, rules, sym}
+use Rattle.std.proofs.Common.{◌==◌, length, arith, rules, sym}
 use Rattle.std.proofs.lemmas.List.Sums.{position_or_len_is}
 use Rattle.run_audit.proofs.words.place_of.Goals as goal
 

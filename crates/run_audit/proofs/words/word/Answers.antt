@@ -1,4 +1,4 @@
-use Rattle.std.proofs.Common.{◌≡◌, ◌-◌, ◌==◌, arith, ap, sym, take, ◌∙◌}
+use Rattle.std.proofs.Common.{◌≡◌, ◌-◌, arith, ap, sym, take, ◌∙◌}
 use Rattle.run_audit.specs.Words.{word_at, words_of}
 use Rattle.run_audit.proofs.Splits.{word_first}
 use Rattle.run_audit.proofs.words.word.Goals as goal

@@ -1,7 +1,6 @@
-use Rattle.std.proofs.Common.{◌≡◌, ◌<◌, arith, rules, sym, subst, ◌∙◌, Result}
-use Rattle.std.proofs.lemmas.Grind.{common_steps}
+use Rattle.std.proofs.Common.{rules, sym, subst, ◌∙◌, Result}
 use Rattle.run_audit.specs.Forms.{names_of}
-use Rattle.run_audit.specs.History.{IsStop, Reported, fault, line_after, scripts_of, take_lines, total_of}
+use Rattle.run_audit.specs.History.{IsStop, Reported, scripts_of, take_lines}
 use Rattle.run_audit.specs.declared.verdict.Fault.{Fault}
 use Rattle.run_audit.proofs.Takes.{lines_end, lines_full, lines_go_on, lines_stop}
 use Rattle.run_audit.proofs.history.PrintedHistory.take_lines.Goals as goal
