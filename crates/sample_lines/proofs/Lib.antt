@@ -1,0 +1,5 @@
+pub mod NameFacts
+pub mod DigitFacts
+pub mod LineFacts
+pub mod EstimatorFacts
+pub mod HeldFacts

@@ -1,0 +1,9 @@
+pub mod Names
+pub mod Digits
+pub mod SampleLine
+pub mod SampleLines
+pub mod SampleReports
+pub mod Estimators
+pub mod Held
+pub mod RefusalLine
+pub mod KnownView
