@@ -1,4 +1,5 @@
 pub mod Visits
 pub mod Lists
 pub mod Members
+pub mod Counting
 pub mod JsonReading

@@ -5,3 +5,4 @@ pub mod Raw
 pub mod Visits
 pub mod Forms
 pub mod Json
+pub mod Members

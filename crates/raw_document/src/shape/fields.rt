@@ -1,10 +1,12 @@
 //! Kinds of values, and members of objects.
 
-ghost use Rattle.std.specs.Prelude.{◌≡◌, ◌||◌, ◌∷◌, [], option_map, option_and_then};
+ghost use Rattle.std.specs.Prelude.{◌≡◌, ◌||◌, ◌&&◌, ◌∷◌, [], Some, IsTrue, option_map, option_and_then};
 ghost use Rattle.std.specs.Prelude.{string_bytes};
 ghost use Rattle.std.specs.List.{list_all};
 ghost use Rattle.std.specs.BTreeMap.{keys};
+ghost use Rattle.serde_json.specs.Find.{as_object};
 ghost use Rattle.serde_json.specs.View.{view, items_view, members_view};
+ghost use Rattle.raw_document.specs.Members.{AreAsMany};
 ghost use Rattle.raw_document.specs.Reading.{Gives, IsFaultAt};
 ghost use Rattle.raw_document.specs.Raw.{name_view};
 ghost use Rattle.raw_document.specs.declared.doc_path.PathStep.TheVariants.{Key};
@@ -124,6 +126,29 @@ fn has_no_other(map: &Map<String, Value>, required: &[DocKey], others: &[DocKey]
     are_known(map, required, others)
 }
 
+/// Whether there are just as many members as required keys, where no others may stand.
+fn are_as_many(map: &Map<String, Value>, required: &[DocKey], others: &[DocKey]) -> bool
+    ensures { IsTrue result → AreAsMany required.now others.now map.now.entries }
+{
+    others.is_empty() && map.len() == required.len()
+}
+
+/// Whether the members are all required ones, and none outside the table. Where there are as many as required, and each is
+/// known, none is missing; so mostly nothing is looked up here.
+#[tactic(auto, using(crate::proofs::Counting::all_are_there))]
+fn is_whole(value: &Value, map: &Map<String, Value>, required: &[DocKey], others: &[DocKey]) -> bool
+    requires { as_object (view value.now) ≡ Some (members_view map.now.entries) }
+    ensures { result ≡ (has_all required.now (view value.now) && has_only required.now others.now (members_view map.now.entries)) }
+{
+    if !has_no_other(map, required, others) {
+        return false;
+    }
+    if are_as_many(map, required, others) {
+        return true;
+    }
+    has_each(value, required)
+}
+
 /// Whether a value is an object with all required keys, and none outside the table.
 #[tactic(auto, unfolding(crate::specs::Shape::object))]
 pub fn check_object(
@@ -135,8 +160,14 @@ pub fn check_object(
     ensures { Gives (λ nothing. nothing) result (object required.now others.now (view value.now)) }
 {
     match value.as_object() {
-        Some(map) if has_each(value, required) && has_no_other(map, required, others) => Ok(()),
-        _ => Err(Fault::here(alloc)),
+        Some(map) => {
+            if is_whole(value, map, required, others) {
+                Ok(())
+            } else {
+                Err(Fault::here(alloc))
+            }
+        }
+        None => Err(Fault::here(alloc)),
     }
 }
 
