@@ -82,9 +82,9 @@ fn verdict_on(alloc: Global, table: &str, text: &str) -> Result<AuditVerdict, Ou
     )
 }
 
-fn table(alloc: Global) -> Result<String, OutOfMemory> {
+fn text_of(alloc: Global, lines: &[&str]) -> Result<String, OutOfMemory> {
     let mut text = String::new(alloc);
-    for line in &LINES[6..] {
+    for line in lines {
         text.push_str(line)?;
         text.push_str("\n")?;
     }
@@ -95,7 +95,7 @@ fn table(alloc: Global) -> Result<String, OutOfMemory> {
 #[test]
 fn the_first_line_at_fault_is_told(rt: HostRuntime) -> Result<(), Fail> {
     let alloc = rt.alloc();
-    let table = table(alloc)?;
+    let table = text_of(alloc, &LINES[6..])?;
     for (at, line, cause) in [
         (5, "final floor 2 prefix 2 total 99", AuditCause::Total),
         (1, "report 0 r0 t1 80", AuditCause::Script),
@@ -125,7 +125,21 @@ fn the_first_line_at_fault_is_told(rt: HostRuntime) -> Result<(), Fail> {
     Ok(())
 }
 
-// The case "Cut text", and texts that end too early or go on; the second reader has fewer reads, or as many.
+// The case "Cut text".
+#[test]
+fn a_cut_text_wants_its_table(rt: HostRuntime) -> Result<(), Fail> {
+    let alloc = rt.alloc();
+    let table = text_of(alloc, &LINES[6..])?;
+    let text = text_of(alloc, &LINES[..6])?;
+    let wrong = AuditVerdict::Wrong {
+        line: 6,
+        cause: AuditCause::Form,
+    };
+    assert_eq!(rt; verdict_on(alloc, table.as_str(), text.as_str())?, wrong);
+    Ok(())
+}
+
+// Texts that end too early or go on; the second reader has more reads than the first, or as many.
 #[test]
 fn a_text_ends_with_its_table(rt: HostRuntime) -> Result<(), Fail> {
     let alloc = rt.alloc();
