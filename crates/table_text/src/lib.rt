@@ -3,7 +3,8 @@
 //!
 //! The top call uses `table_text`, `bulk_text` and `check_text`, whose clauses are the whole texts ("Table text", "Bulk text"
 //! and "Check text", docs/FORMAT.md).
-//! `name_of` is the name that a text prints for a number.
+//! `name_of` is the name that a text prints for a number. Texts that share lines with a table's put them by `push_closings`
+//! and its like.
 //! Texts are made whole before anything is written, so a want of memory is met before the first byte goes out.
 #![tactic(auto)]
 
@@ -16,5 +17,5 @@ mod tests;
 
 pub use bulk::bulk_text;
 pub use check::check_text;
-pub use line::name_of;
-pub use table::table_text;
+pub use line::{name_of, push_word_and_number};
+pub use table::{push_closings, push_groups, push_links, push_tasks, table_text, total};

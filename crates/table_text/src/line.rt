@@ -14,7 +14,7 @@ pub(crate) fn push_number(alloc: Global, text: &mut String, number: u64) -> Resu
 }
 
 /// Puts a word and a number at the end of the text.
-pub(crate) fn push_word_and_number(
+pub fn push_word_and_number(
     alloc: Global,
     text: &mut String,
     word: &str,

@@ -31,7 +31,7 @@ pub fn table_text(alloc: Global, table: &LimitTable, names: &Names) -> Result<Ve
 }
 
 /// What the groups get together.
-pub(crate) fn total(lines: &[GroupLine]) -> u64
+pub fn total(lines: &[GroupLine]) -> u64
     requires { sum_by (λ line. line.amount) lines.now ≤ MAX_TOTAL }
     ensures { result ≡ sum_by (λ line. line.amount) lines.now }
 {
@@ -56,7 +56,8 @@ fn push_closing(
     text.push_str("\n")
 }
 
-fn push_closings(
+/// Puts the lines of the closings at the end of the text.
+pub fn push_closings(
     alloc: Global,
     text: &mut String,
     names: &Names,
@@ -88,8 +89,9 @@ fn push_link(
     text.push_str("\n")
 }
 
+/// Puts the line of each link's load at the end of the text.
 #[tactic(auto, using(crate::proofs::Lines::one_line_more))]
-fn push_links(
+pub fn push_links(
     alloc: Global,
     text: &mut String,
     names: &Names,
@@ -172,8 +174,9 @@ fn push_group(
     push_places(alloc, text, names, &line.places)
 }
 
+/// Puts the lines of each group at the end of the text.
 #[tactic(auto, using(crate::proofs::Lines::one_line_more))]
-fn push_groups(
+pub fn push_groups(
     alloc: Global,
     text: &mut String,
     names: &Names,
@@ -206,8 +209,9 @@ fn push_task(
     text.push_str("\n")
 }
 
+/// Puts the line of each task's limit at the end of the text.
 #[tactic(auto, using(crate::proofs::Lines::one_line_more))]
-fn push_tasks(
+pub fn push_tasks(
     alloc: Global,
     text: &mut String,
     names: &Names,

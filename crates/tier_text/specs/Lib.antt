@@ -1,0 +1,2 @@
+pub mod TierText
+pub mod TierPart
