@@ -6,11 +6,12 @@
 //! Each refusal is a pass of its own, in the order of the numbers, over the raw document of `raw_document`; those before
 //! the builders' own are in `doc_passes`.
 //!
-//! What a reading costs, measured on a machine that had other work, in times of the mere reading of the JSON value: 1.6 for
-//! 4.0 MB with 20,000 tasks of long names and 20,000 reports (98 ms to 61 ms), and 1.6 for the made document of that many
-//! tasks (86 ms to 53 ms, 1.9 MB). Of what comes on top, the shape takes a sixth (two look-ups for each key), the ranges a
-//! fifth (every byte of a name), the numbers of names a third (a hash for each name that refers), and the builders with the
-//! copies of names the rest. Each pass is linear, and no name is looked for in a list.
+//! What a reading costs, beside the mere reading of the JSON value: 1.43 times as many instructions for 340 kB with 2,000 tasks
+//! of long names and as many reports. In time, for 3.4 MB with 20,000 of each: 1.7 in a process that reads once (142 ms to 83 ms)
+//! and 1.4 over twenty readings in one process (102 ms to 74 ms), on a machine with five times the work that it has processors for.
+//! More than half of what comes on top is the first touch of each key and each name, which the JSON value holds as texts of
+//! their own; the rest is a hash for each name that stands or refers, the copies of names and the builders. Each pass is
+//! linear, and no name is looked for in a list.
 //! Nothing is promised of time, and nothing of which growth is refused where memory is wanting.
 #![tactic(auto)]
 
