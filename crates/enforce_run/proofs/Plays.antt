@@ -1,7 +1,6 @@
 -- Events, played one by one.
 use Rattle.std.proofs.Common.{◌≡◌, ℕ, ◌+◌, ◌<◌, ◌≤◌, List, [], ◌∷◌, ◌++◌, length, take, drop, get_or, refl, sym, ◌∙◌, ap, ap₂, subst, arith}
-use Rattle.std.specs.List.{count_by}
-use Rattle.std.proofs.lemmas.List.{take_more, drop_more, drop_all, length_push, length-set}
+use Rattle.std.proofs.lemmas.List.{take_more, drop_more, drop_all, length_push}
 use Rattle.std.proofs.lemmas.List.Sums.{sum_by_push}
 use Rattle.bwe_specs.specs.declared.report.Report.{Report}
 use Rattle.enforcer_core.specs.declared.event.WorldAnswer.{WorldAnswer}

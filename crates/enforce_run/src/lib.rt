@@ -9,6 +9,8 @@ mod line;
 mod play;
 mod regions;
 mod run;
+#[cfg(test)]
+mod tests;
 mod text;
 
 pub use run::enforce;

@@ -1,4 +1,4 @@
-use Rattle.std.proofs.Common.{◌≡◌, ℕ, rules, List, length, Some, None, sym, arith}
+use Rattle.std.proofs.Common.{◌≡◌, Some, None, arith}
 use Rattle.std.proofs.lemmas.Grind.{common_steps}
 use Rattle.event_lines.specs.EventLines.{cut_at, events_of, next_event}
 use Rattle.event_lines.proofs.Pieces.{stops}
