@@ -1,6 +1,7 @@
 //! The events of a world of regions, written a line each.
 //!
-//! `bwe enforce` above asks `read_events` for the second part of its input, and plays the events that it answers.
+//! `bwe enforce` above asks `read_events` for the second part of its input, and plays the events that it answers, or prints
+//! the `event_refusal_line` of the first line at fault.
 //! Each event that is read names a region and a message that are there at that point, so it may be played as it stands.
 //! An event names a table by how many reports it covers at least; which tables there are is not said here.
 #![tactic(auto)]
@@ -12,9 +13,12 @@ ghost use Rattle.event_lines.specs.EventLines.{Answers, AreThere, events_of};
 use std::alloc::{AllocFailed, Global};
 
 mod lines;
+mod refusal_line;
 #[cfg(test)]
 mod tests;
 mod words;
+
+pub use refusal_line::event_refusal_line;
 
 /// How many events there may be.
 pub const MAX_EVENTS: u64 = 2_000;

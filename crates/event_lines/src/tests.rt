@@ -1,4 +1,4 @@
-use crate::{EventError, EventLine, read_events};
+use crate::{EventError, EventLine, event_refusal_line, read_events};
 use std::test::Fail;
 
 // The events of the case "Restarted region".
@@ -62,5 +62,16 @@ fn two_thousand_lines_are_the_most(rt: HostRuntime) -> Result<(), Fail> {
         Err(EventError::BadLine { line }) => assert_eq!(rt; line, 2_000),
         _ => assert!(rt; false),
     }
+    Ok(())
+}
+
+// The printed line of the case "Unsent message".
+#[test]
+fn a_refusal_names_the_line(rt: HostRuntime) -> Result<(), Fail> {
+    let text = event_refusal_line(rt.alloc(), 0)?;
+    assert_eq!(rt;
+        text.as_slice(),
+        b"refused 16 events at line 0\n".as_slice()
+    );
     Ok(())
 }
