@@ -9,7 +9,7 @@
 //! What a reading costs, beside the mere reading of the JSON value: 1.43 times as many instructions for 340 kB with 2,000 tasks
 //! of long names and as many reports. In time, for 3.4 MB with 20,000 of each: 1.7 in a process that reads once (142 ms to 83 ms)
 //! and 1.4 over twenty readings in one process (102 ms to 74 ms), on a machine with five times the work that it has processors for.
-//! More than half of what comes on top is the first touch of each key and each name, which the JSON value holds as texts of
+//! Much of what comes on top is the first touch of each key and each name, which the JSON value holds as texts of
 //! their own; the rest is a hash for each name that stands or refers, the copies of names and the builders. Each pass is
 //! linear, and no name is looked for in a list.
 //! Nothing is promised of time, and nothing of which growth is refused where memory is wanting.
