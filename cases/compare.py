@@ -1,9 +1,10 @@
 #!/usr/bin/env python3
-"""cases/compare.py [PROGRAM [COUNT [SEED]]]: compares `solve` and `check` with a second, plain implementation.
+"""cases/compare.py [PROGRAM [COUNT [SEED]]]: compares `solve`, `check` and `levels` with a second, plain implementation.
 
 Makes COUNT valid documents by chance (small shares, so that raising them one by one is quick), runs the program on each, and
 compares every byte with the table that this file computes from the rules of docs/DEFINITIONS.md as they are written there: one
-share after the other, and nothing searched by halves. The closings of that table have to be right for `check`.
+share after the other, and nothing searched by halves. The closings of that table have to be right for `check`, and the groups'
+values for `levels` at a share by chance, at times above the top.
 The last line says how many documents agreed; the status is 0 where all did. Python's standard library is all it uses.
 """
 
@@ -120,6 +121,12 @@ class Filling:
                 if before[number] is not None and self.place(group) is None:
                     self.stops[number] = share
 
+    def levels(self, share):
+        share = min(share, self.top)
+        values = [of_group[share] for of_group in self.values]
+        lines = [f"levels {share}"] + [f"level {group['name']} {value}" for group, value in zip(self.groups, values)]
+        return "".join(line + "\n" for line in lines + [f"total {sum(values)}"])
+
     def table(self, reports):
         self.fill()
         lines = [f"table {reports}"]
@@ -209,12 +216,12 @@ def make_document(chance):
 
 # ---- the comparison
 
-def answer(program, line, document):
-    ran = subprocess.run([program, line], input=json.dumps(document).encode(), capture_output=True, timeout=60)
+def answer(program, line, document, *words):
+    ran = subprocess.run([program, line, *words], input=json.dumps(document).encode(), capture_output=True, timeout=60)
     return ran.returncode, ran.stdout.decode(), ran.stderr.decode()
 
 
-def fault_of(program, document):
+def fault_of(program, document, share):
     """What the program says that it should not, or None."""
     filling = Filling(document)
     table = filling.table(len(document["script"]))
@@ -225,6 +232,9 @@ def fault_of(program, document):
     found = answer(program, "check", dict(document, closings=closings))
     if found != (0, "right\n", ""):
         return f"check: {found}"
+    found = answer(program, "levels", document, str(share))
+    if found != (0, filling.levels(share), ""):
+        return f"levels {share}: {found}\nwanted:\n{filling.levels(share)}"
     return None
 
 
@@ -234,8 +244,9 @@ def main(words):
     seed = int(words[2]) if len(words) > 2 else 1
     agreed = 0
     for number in range(count):
-        document = make_document(random.Random(f"{seed} {number}"))
-        fault = fault_of(program, document)
+        chance = random.Random(f"{seed} {number}")
+        document = make_document(chance)
+        fault = fault_of(program, document, chance.randint(0, document["top"] + 5))
         if fault is None:
             agreed += 1
         else:

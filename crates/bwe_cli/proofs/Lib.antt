@@ -1,3 +1,3 @@
-pub mod OneLine
+pub mod Together
 pub mod Ranges
 pub mod RunReply

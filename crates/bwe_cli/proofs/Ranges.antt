@@ -7,7 +7,8 @@ use Rattle.std.specs.Str.Parse.{digits_value}
 use Rattle.std.proofs.lemmas.Bool.{and_parts, leb-true}
 use Rattle.command_line.specs.declared.CommandLine.{CommandLine}
 use Rattle.command_line.specs.declared.CommandLine.TheVariants as commands
-use Rattle.command_line.specs.Lines.{Text, Given, is_number, is_hyphens, number_in, number_given, run_line, alone, line_of_texts, command_line_of, options_of, nothing_given, size_of}
+use Rattle.command_line.specs.declared.Line.TheVariants as lines
+use Rattle.command_line.specs.Lines.{Text, Given, is_number, is_hyphens, number_in, number_given, run_line, alone, line_of_texts, command_line_of, estimate_of, levels_of, options_of, nothing_given, size_of}
 use Rattle.bwe_cli.specs.declared.run.Asked.{Asked}
 use Rattle.bwe_cli.specs.RunLine.{IsInRange, asked_by, asked_of}
 use Rattle.doc_maker.specs.Made.{IsSize}
@@ -38,6 +39,10 @@ IsLineInRange (Some (commands.Document line)) = Unit {0}
 IsLineInRange (Some (commands.Run readers reads)) = (1 ≤ readers) × (readers ≤ 64) × (reads ≤ 1000)
 IsLineInRange (Some (commands.Make seed groups tasks)) = IsSize (record { seed = seed; groups = groups; tasks = tasks })
 IsLineInRange (Some (commands.Bulk seed groups tasks)) = IsSize (record { seed = seed; groups = groups; tasks = tasks })
+IsLineInRange (Some commands.Audit) = Unit {0}
+IsLineInRange (Some commands.Tiers) = Unit {0}
+IsLineInRange (Some commands.Enforce) = Unit {0}
+IsLineInRange (Some (commands.Estimate window headroom)) = Unit {0}
 
 either-in_range : (b : Bool) (x y : Option CommandLine) → IsLineInRange x → IsLineInRange y → IsLineInRange (if b then x else y)
 either-in_range true x y p q = p
@@ -84,6 +89,24 @@ sized-in_range line each (seed ∷ (groups ∷ (tasks ∷ []))) = by_seed (numbe
   by_seed (Some s) e = by_groups s e (number_in 1 1024 groups) refl (number-between 1 1024 groups)
 sized-in_range line each (seed ∷ (groups ∷ (tasks ∷ (other ∷ more)))) = tt
 
+estimate-in_range : (words : List Text) → IsLineInRange (estimate_of words)
+estimate-in_range [] = tt
+estimate-in_range (window ∷ []) = tt
+estimate-in_range (window ∷ (headroom ∷ [])) = go (number_in 1 1000 window) (number_in 100 1000 headroom) where
+  go : (w h : Option ℕ) → IsLineInRange (option_and_then (λ w. option_map (λ h. commands.Estimate w h) h) w)
+  go None h = tt
+  go (Some w) None = tt
+  go (Some w) (Some h) = tt
+estimate-in_range (window ∷ (headroom ∷ (other ∷ more))) = tt
+
+levels-in_range : (words : List Text) → IsLineInRange (levels_of words)
+levels-in_range [] = tt
+levels-in_range (share ∷ []) = go (number_in 0 1000000000 share) where
+  go : (s : Option ℕ) → IsLineInRange (option_map (λ s. commands.Document (lines.Levels s)) s)
+  go None = tt
+  go (Some s) = tt
+levels-in_range (share ∷ (other ∷ more)) = tt
+
 texts-in_range : (texts : List Text) → IsLineInRange (line_of_texts texts)
 texts-in_range [] = tt
 texts-in_range (word ∷ rest) =
@@ -91,7 +114,12 @@ texts-in_range (word ∷ rest) =
     (either-in_range (bytes_eq (codes "check") word) _ _ (alone-in_range _ rest tt)
     (either-in_range (bytes_eq (codes "run") word) _ _ (options-in_range (options_of nothing_given None rest))
     (either-in_range (bytes_eq (codes "make") word) _ _ (sized-in_range commands.Make (λ s g t p. p) rest)
-    (either-in_range (bytes_eq (codes "bulk") word) _ _ (sized-in_range commands.Bulk (λ s g t p. p) rest) tt))))
+    (either-in_range (bytes_eq (codes "bulk") word) _ _ (sized-in_range commands.Bulk (λ s g t p. p) rest)
+    (either-in_range (bytes_eq (codes "audit") word) _ _ (alone-in_range _ rest tt)
+    (either-in_range (bytes_eq (codes "tiers") word) _ _ (alone-in_range _ rest tt)
+    (either-in_range (bytes_eq (codes "enforce") word) _ _ (alone-in_range _ rest tt)
+    (either-in_range (bytes_eq (codes "estimate") word) _ _ (estimate-in_range rest)
+    (either-in_range (bytes_eq (codes "levels") word) _ _ (levels-in_range rest) tt)))))))))
 
 command-in_range : (words : List Text) → IsLineInRange (command_line_of words)
 command-in_range words = either-in_range (list_any is_hyphens words) None (line_of_texts words) tt (texts-in_range words)
@@ -106,6 +134,10 @@ asked-in_range (Some (commands.Document line)) p = tt
 asked-in_range (Some (commands.Run readers reads)) p = record { some_readers = p.0; few_readers = p.1; few_reads = p.2 }
 asked-in_range (Some (commands.Make seed groups tasks)) p = tt
 asked-in_range (Some (commands.Bulk seed groups tasks)) p = tt
+asked-in_range (Some commands.Audit) p = tt
+asked-in_range (Some commands.Tiers) p = tt
+asked-in_range (Some commands.Enforce) p = tt
+asked-in_range (Some (commands.Estimate window headroom)) p = tt
 
 -- what words ask for is in range
 pub words-in_range : (words : List Text) (asked : Asked) → asked_of words ≡ Some asked → IsInRange asked
@@ -121,6 +153,10 @@ made-in_range (Some (commands.Document line)) p = tt
 made-in_range (Some (commands.Run readers reads)) p = tt
 made-in_range (Some (commands.Make seed groups tasks)) p = p
 made-in_range (Some (commands.Bulk seed groups tasks)) p = p
+made-in_range (Some commands.Audit) p = tt
+made-in_range (Some commands.Tiers) p = tt
+made-in_range (Some commands.Enforce) p = tt
+made-in_range (Some (commands.Estimate window headroom)) p = tt
 
 -- the size of a made document is in range
 pub made_words-in_range : (words : List Text) (line : MadeLine) → made_line_of words ≡ Some line → IsSize (made_size line)

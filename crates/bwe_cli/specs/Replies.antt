@@ -1,16 +1,20 @@
 -- What the input of a line gets.
-use Rattle.std.specs.Prelude.{ℕ, List, Result, Ok, Err}
+use Rattle.std.specs.Prelude.{ℕ, List, min, Result, Ok, Err}
 use Rattle.bwe_specs.specs.declared.network.Closing.{Closing}
 use Rattle.bwe_specs.specs.declared.network.Verdict.{Verdict}
 use Rattle.bwe_specs.specs.declared.network.Verdict.TheVariants.{Right, Wrong}
 use Rattle.bwe_specs.specs.declared.report.Report.{Report}
 use Rattle.bwe_specs.specs.Allocation.{Plan, allocation, wan_after}
+use Rattle.bwe_specs.specs.Reports.{demand_after}
 use Rattle.bwe_specs.specs.RightClosings.{verdict}
+use Rattle.bwe_specs.specs.Tree.{Cluster}
 use Rattle.command_line.specs.declared.Line.{Line}
-use Rattle.command_line.specs.declared.Line.TheVariants.{Solve, Check}
+use Rattle.command_line.specs.declared.Line.TheVariants.{Solve, Check, Levels}
 use Rattle.one_run.specs.Endings.{Reply}
 use Rattle.table_text.specs.TableText.{NameTexts, text_of}
 use Rattle.table_text.specs.CheckText.{verdict_line}
+use Rattle.table_text.specs.LevelsText.{levels_text_of}
+use Rattle.parallel_values.specs.Levels.{levels}
 use Rattle.plan_doc.specs.Names.{NameLists}
 use Rattle.plan_doc.specs.Document.{Accepted, document}
 use Rattle.plan_doc.specs.Refusals.{Refusal}
@@ -36,10 +40,21 @@ check_reply names plan script closings =
     let judged = verdict (wan_after plan script) closings in
     record { status = verdict_status judged; text = verdict_line names judged }
 
+-- the text of what all groups may have at a share
+abbrev pub values_reply : NameTexts → ℕ → List ℕ → Reply
+values_reply names share values = record { status = 0; text = levels_text_of names share values }
+
+-- `levels`: what each group of a tree may have under these demands, at the share that was asked for or at the top, whichever is less
+abbrev pub levels_reply : ℕ → NameTexts → ℕ → (ℕ → ℕ) → List Cluster → Reply
+levels_reply asked names top demand clusters =
+    let share = min asked top in
+    values_reply names share (levels top demand clusters share)
+
 -- what an accepted document gets
 abbrev pub accepted_reply : Line → Accepted → Reply
 accepted_reply Solve accepted = table_reply (printed accepted.names) (plan_of accepted) accepted.script
 accepted_reply Check accepted = check_reply (printed accepted.names) (plan_of accepted) accepted.script accepted.closings
+accepted_reply (Levels share) accepted = levels_reply share (printed accepted.names) accepted.top (demand_after accepted.script) accepted.clusters
 
 -- a refused document gets the line of its refusal
 abbrev pub refused_reply : Refusal → Reply

@@ -5,6 +5,7 @@ ghost use Rattle.plan_doc.specs.RefusalLines.{error_line};
 ghost use Rattle.bwe_cli.specs.Replies.{reply};
 
 use crate::check::check;
+use crate::levels::levels;
 use crate::solve::solve;
 use bwe_specs::OutOfMemory;
 use command_line::{Line, line_of_words};
@@ -47,6 +48,7 @@ pub(crate) fn answer_document(
         Ok(document) => match line {
             Line::Solve => solve(alloc, document),
             Line::Check => check(alloc, document),
+            Line::Levels { share } => levels(alloc, share, document),
         },
         Err(error) => refused(alloc, &error),
     }

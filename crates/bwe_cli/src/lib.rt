@@ -2,7 +2,7 @@
 //!
 //! The program calls `bwe_once` with the standard streams. Its contract (`specs/Replies.antt`, and `Ending` of `one_run`)
 //! carries the bytes: with status 0, `solve` has written the text of the table that the allocation of the document's
-//! script is, and `check` that its closings are right. `make` and `bulk` read nothing (`specs/MadeLines.antt`): `make` writes
+//! script is, `check` that its closings are right, and `levels` what each group may have at a share. `make` and `bulk` read nothing (`specs/MadeLines.antt`): `make` writes
 //! the made document, `bulk` the summary of its table, and they never refuse it. Nothing is promised of time, nor that
 //! memory is there.
 #![tactic(auto)]
@@ -18,20 +18,22 @@ ghost use Rattle.bwe_cli.specs.declared.made.MadeLine.{MadeLine};
 
 mod check;
 mod documents;
+mod levels;
 mod made;
 mod run;
 mod solve;
 
 use bwe_io::{Sink, Source};
 use bwe_specs::OutOfMemory;
-use command_line::USAGE;
+use command_line::{CommandLine, Line, USAGE, command_line_of_words};
 use crew_actors::Gate;
 use documents::Documents;
+use levels::serve_levels;
 pub use made::MadeLine;
 use made::{made_line_of_words, serve_made};
 use one_run::{MAX_INPUT, TOO_LONG, serve};
 pub use run::Asked;
-use run::{asked_of_words, serve_run};
+use run::serve_run;
 use std::alloc::Global;
 use std::sync::Wait;
 use std::thread::Threads;
@@ -78,7 +80,8 @@ pub fn bwe_once<S: Source, K: Sink>(
 
 /// Serves one command line of the program, and answers the status ("Statuses", docs/FORMAT.md).
 ///
-/// The lines `solve`, `check`, `make` and `bulk` are those of `bwe_once`. `run` puts a reporter for each of the document's reporters, the
+/// The lines `solve`, `check`, `make` and `bulk` are those of `bwe_once`; `levels` has the same text, of values that threads
+/// work out. `run` puts a reporter for each of the document's reporters, the
 /// allocator and the readers on threads; `gate` is called round each of their calls. What is written is the text of what
 /// they did, and the table at its end is the one that `solve` writes.
 pub fn bwe<S: Source, K: Sink, G: Gate + Sync, R: Threads + Wait + Sync>(
@@ -126,9 +129,18 @@ pub fn bwe<S: Source, K: Sink, G: Gate + Sync, R: Threads + Wait + Sync>(
     ensures unread { (line : MadeLine) → made_line_of (texts_of words.now) ≡ Some line →
         source.new ≡ source.old }
 {
-    match asked_of_words(alloc, words) {
-        Ok(Some(asked)) => serve_run(rt, alloc, asked, source, sink, gate),
-        Ok(None) => bwe_once(alloc, words, source, sink),
+    match command_line_of_words(alloc, words) {
+        Ok(Some(CommandLine::Run { readers, reads })) => {
+            serve_run(rt, alloc, Asked { readers, reads }, source, sink, gate)
+        }
+        Ok(
+            Some(
+                CommandLine::Document {
+                    line: Line::Levels { share },
+                },
+            ),
+        ) => serve_levels(rt, alloc, share, source, sink),
+        Ok(_) => bwe_once(alloc, words, source, sink),
         Err(OutOfMemory) => 6,
     }
 }

@@ -1,15 +1,14 @@
 //! The line `run`.
 
 ghost use Rattle.std.specs.Prelude.{◌≡◌, ◌≤◌, Some, IfOk};
-ghost use Rattle.command_line.specs.Lines.{texts_of};
 ghost use Rattle.one_run.specs.Endings.{Ending};
 ghost use Rattle.plan_doc.specs.Document.{document as document_of};
-ghost use Rattle.bwe_cli.specs.RunLine.{IsInRange, IsReplyTo, IsRunReply, asked_of as asked_of_texts};
+ghost use Rattle.bwe_cli.specs.RunLine.{IsInRange, IsReplyTo, IsRunReply};
 
 use crate::documents::refused;
 use bwe_io::{ReadError, Sink, Source, read_all};
 use bwe_specs::{MAX_READERS, OutOfMemory};
-use command_line::{CommandLine, USAGE, command_line_of_words};
+use command_line::USAGE;
 use crew_actors::Gate;
 use document_run::run_document;
 use one_run::{Answer, MAX_INPUT, TOO_LONG, write_text};
@@ -24,16 +23,6 @@ use std::thread::Threads;
 pub struct Asked {
     pub readers: u32,
     pub reads: u32,
-}
-
-/// What the words ask for, `None` where they are not the line `run`.
-pub(crate) fn asked_of_words(alloc: Global, words: &[String]) -> Result<Option<Asked>, OutOfMemory>
-    ensures { IfOk result (λ asked. asked ≡ asked_of_texts (texts_of words.now)) }
-{
-    Ok(match command_line_of_words(alloc, words)? {
-        Some(CommandLine::Run { readers, reads }) => Some(Asked { readers, reads }),
-        _ => None,
-    })
 }
 
 /// Serves the line `run`, and answers the status.

@@ -6,7 +6,7 @@ use Rattle.clap.specs.Faults.{check_fault, defaults_fault, settle_fault, turn_fa
 use Rattle.clap.specs.Simple.{Shape, built, built_leaf, inherited, marked_built, new_shape, with_leaf_noted}
 use Rattle.clap.specs.Walk.{Row, Text, Walk, finished, settled, walked}
 use Rattle.command_line.specs.Lines.{is_hyphens}
-use Rattle.command_line.specs.Matches.{bwe_app, run_app, sized_app}
+use Rattle.command_line.specs.Matches.{bwe_app, estimate_app, levels_app, run_app, sized_app}
 use Rattle.command_line.proofs.Clear.{is_clear}
 use Rattle.command_line.proofs.Turns.{at, stray, text_met}
 
@@ -14,11 +14,8 @@ use Rattle.command_line.proofs.Turns.{at, stray, text_met}
 abbrev pub leaf : Shape → Shape
 leaf s = built_leaf (inherited (with_leaf_noted (marked_built bwe_app.top)) s)
 
-abbrev pub solve_shape : Shape
-solve_shape = leaf (new_shape (codes "solve"))
-
-abbrev pub check_shape : Shape
-check_shape = leaf (new_shape (codes "check"))
+abbrev pub bare_shape : Text → Shape
+bare_shape name = leaf (new_shape name)
 
 abbrev pub run_shape : Shape
 run_shape = leaf run_app.top
@@ -26,8 +23,11 @@ run_shape = leaf run_app.top
 abbrev pub sized_shape : Text → Shape
 sized_shape name = leaf (sized_app name).top
 
-pub subs_are : (built bwe_app).subs ≡ solve_shape ∷ check_shape ∷ run_shape ∷ sized_shape (codes "make") ∷ sized_shape (codes "bulk") ∷ []
-subs_are = refl
+abbrev pub estimate_shape : Shape
+estimate_shape = leaf estimate_app.top
+
+abbrev pub levels_shape : Shape
+levels_shape = leaf levels_app.top
 
 -- what the words of a subcommand come to, from where a walk stands
 abbrev pub end_fault : Shape → Walk → Kinds
@@ -64,18 +64,10 @@ abbrev pub start : Walk
 start = at [] None Rattle.clap.specs.Walk.idle 1
 
 -- a subcommand without arguments takes no word
-pub solve_clear : is_clear (fault_from solve_shape start []) ≡ true
+pub bare_clear : (name : Text) → is_clear (fault_from (bare_shape name) start []) ≡ true
 unfolding walk_fault defaults_fault
-solve_clear = refl
+bare_clear name = refl
 
-pub check_clear : is_clear (fault_from check_shape start []) ≡ true
-unfolding walk_fault defaults_fault
-check_clear = refl
-
-pub solve_takes_no_word : (word : Text) (rest : List Text) → is_hyphens word ≡ false → is_clear (fault_from solve_shape start (word ∷ rest)) ≡ false
-solve_takes_no_word word rest plain = refused_word solve_shape start word rest
-    (stray solve_shape [] [] None 1 word (text_met solve_shape.rules (λ byte. refl) (λ name. refl) [] 1 word [] None plain refl) refl)
-
-pub check_takes_no_word : (word : Text) (rest : List Text) → is_hyphens word ≡ false → is_clear (fault_from check_shape start (word ∷ rest)) ≡ false
-check_takes_no_word word rest plain = refused_word check_shape start word rest
-    (stray check_shape [] [] None 1 word (text_met check_shape.rules (λ byte. refl) (λ name. refl) [] 1 word [] None plain refl) refl)
+pub bare_takes_no_word : (name word : Text) (rest : List Text) → is_hyphens word ≡ false → is_clear (fault_from (bare_shape name) start (word ∷ rest)) ≡ false
+bare_takes_no_word name word rest plain = refused_word (bare_shape name) start word rest
+    (stray (bare_shape name) [] [] None 1 word (text_met (bare_shape name).rules (λ byte. refl) (λ text. refl) [] 1 word [] None plain refl) refl)

@@ -4,6 +4,7 @@ pub mod Bare
 pub mod Texts
 pub mod RunWords
 pub mod Sizes
+pub mod Places
 pub mod Split
 pub mod Numbers
 pub mod Found

@@ -12,14 +12,15 @@ use Rattle.clap.specs.Walk.{Names, Text, Walk, idle, subcommand_met, walked}
 use Rattle.command_line.specs.declared.matches.Size.{Size}
 use Rattle.command_line.specs.declared.CommandLine.{CommandLine}
 use Rattle.command_line.specs.declared.Line.TheVariants.{Solve, Check}
-use Rattle.command_line.specs.declared.CommandLine.TheVariants.{Document, Make, Bulk}
-use Rattle.command_line.specs.Lines.{is_hyphens, line_named, line_of_texts, nothing_given, options_of, run_line, size_of}
-use Rattle.command_line.specs.Matches.{bwe_app, given_in, line_met, size_given}
+use Rattle.command_line.specs.declared.CommandLine.TheVariants.{Document, Make, Bulk, Audit, Tiers, Enforce}
+use Rattle.command_line.specs.Lines.{alone, estimate_of, is_hyphens, levels_of, line_named, line_of_texts, nothing_given, options_of, run_line, size_of}
+use Rattle.command_line.specs.Matches.{bwe_app, estimate_given, given_in, levels_given, line_met, size_given}
 use Rattle.command_line.proofs.Clear.{is_clear, or_else-none}
 use Rattle.command_line.proofs.Turns.{stray, text_met}
-use Rattle.command_line.proofs.Bare.{check_clear, check_shape, check_takes_no_word, fault_from, rows_from, run_shape, sized_shape, solve_clear, solve_shape, solve_takes_no_word, start}
+use Rattle.command_line.proofs.Bare.{bare_clear, bare_shape, bare_takes_no_word, estimate_shape, fault_from, levels_shape, rows_from, run_shape, sized_shape, start}
 use Rattle.command_line.proofs.RunWords.{run_agrees}
 use Rattle.command_line.proofs.Sizes.{size_agrees}
+use Rattle.command_line.proofs.Places.{estimate_agrees, first_plain, levels_agrees}
 
 abbrev top : Shape
 top = (built bwe_app).top
@@ -46,21 +47,24 @@ met name rest = record start { stopped = Some (name, rest) }
 abbrev pub Agrees : Bool → Option CommandLine → List Text → Type 0
 Agrees clear found words = (clear ≡ true → found ≡ line_of_texts words) × (clear ≡ false → line_of_texts words ≡ None)
 
+abbrev AgreesAt : Text → List Text → Type 0
+AgreesAt word rest = Agrees (is_clear (fault_of bwe_app (word ∷ rest))) (line_met (subcommand_of bwe_app (word ∷ rest))) (word ∷ rest)
+
 -- each subcommand is met, and has the words after it
 module _ (rest : List Text) where
-  solve_fault : is_clear (fault_of bwe_app (codes "solve" ∷ rest)) ≡ is_clear (fault_from solve_shape start rest)
+  solve_fault : is_clear (fault_of bwe_app (codes "solve" ∷ rest)) ≡ is_clear (fault_from (bare_shape (codes "solve")) start rest)
   unfolding walk_fault walked defaults_fault
-  solve_fault = rw (stopped_clear start (codes "solve") [] rest, stopped_walk start (codes "solve") [] rest) (or_else-none (fault_from solve_shape start rest))
+  solve_fault = rw (stopped_clear start (codes "solve") [] rest, stopped_walk start (codes "solve") [] rest) (or_else-none (fault_from (bare_shape (codes "solve")) start rest))
 
-  solve_met : subcommand_of bwe_app (codes "solve" ∷ rest) ≡ Some (codes "solve", rows_from solve_shape start rest)
+  solve_met : subcommand_of bwe_app (codes "solve" ∷ rest) ≡ Some (codes "solve", rows_from (bare_shape (codes "solve")) start rest)
   unfolding walked
   solve_met = rw (stopped_walk start (codes "solve") [] rest) refl
 
-  check_fault : is_clear (fault_of bwe_app (codes "check" ∷ rest)) ≡ is_clear (fault_from check_shape start rest)
+  check_fault : is_clear (fault_of bwe_app (codes "check" ∷ rest)) ≡ is_clear (fault_from (bare_shape (codes "check")) start rest)
   unfolding walk_fault walked defaults_fault
-  check_fault = rw (stopped_clear start (codes "check") [] rest, stopped_walk start (codes "check") [] rest) (or_else-none (fault_from check_shape start rest))
+  check_fault = rw (stopped_clear start (codes "check") [] rest, stopped_walk start (codes "check") [] rest) (or_else-none (fault_from (bare_shape (codes "check")) start rest))
 
-  check_met : subcommand_of bwe_app (codes "check" ∷ rest) ≡ Some (codes "check", rows_from check_shape start rest)
+  check_met : subcommand_of bwe_app (codes "check" ∷ rest) ≡ Some (codes "check", rows_from (bare_shape (codes "check")) start rest)
   unfolding walked
   check_met = rw (stopped_walk start (codes "check") [] rest) refl
 
@@ -88,18 +92,66 @@ module _ (rest : List Text) where
   unfolding walked
   bulk_met = rw (stopped_walk start (codes "bulk") [] rest) refl
 
+  audit_fault : is_clear (fault_of bwe_app (codes "audit" ∷ rest)) ≡ is_clear (fault_from (bare_shape (codes "audit")) start rest)
+  unfolding walk_fault walked defaults_fault
+  audit_fault = rw (stopped_clear start (codes "audit") [] rest, stopped_walk start (codes "audit") [] rest) (or_else-none (fault_from (bare_shape (codes "audit")) start rest))
+
+  audit_met : subcommand_of bwe_app (codes "audit" ∷ rest) ≡ Some (codes "audit", rows_from (bare_shape (codes "audit")) start rest)
+  unfolding walked
+  audit_met = rw (stopped_walk start (codes "audit") [] rest) refl
+
+  tiers_fault : is_clear (fault_of bwe_app (codes "tiers" ∷ rest)) ≡ is_clear (fault_from (bare_shape (codes "tiers")) start rest)
+  unfolding walk_fault walked defaults_fault
+  tiers_fault = rw (stopped_clear start (codes "tiers") [] rest, stopped_walk start (codes "tiers") [] rest) (or_else-none (fault_from (bare_shape (codes "tiers")) start rest))
+
+  tiers_met : subcommand_of bwe_app (codes "tiers" ∷ rest) ≡ Some (codes "tiers", rows_from (bare_shape (codes "tiers")) start rest)
+  unfolding walked
+  tiers_met = rw (stopped_walk start (codes "tiers") [] rest) refl
+
+  enforce_fault : is_clear (fault_of bwe_app (codes "enforce" ∷ rest)) ≡ is_clear (fault_from (bare_shape (codes "enforce")) start rest)
+  unfolding walk_fault walked defaults_fault
+  enforce_fault = rw (stopped_clear start (codes "enforce") [] rest, stopped_walk start (codes "enforce") [] rest) (or_else-none (fault_from (bare_shape (codes "enforce")) start rest))
+
+  enforce_met : subcommand_of bwe_app (codes "enforce" ∷ rest) ≡ Some (codes "enforce", rows_from (bare_shape (codes "enforce")) start rest)
+  unfolding walked
+  enforce_met = rw (stopped_walk start (codes "enforce") [] rest) refl
+
+  estimate_fault : is_clear (fault_of bwe_app (codes "estimate" ∷ rest)) ≡ is_clear (fault_from estimate_shape start rest)
+  unfolding walk_fault walked defaults_fault
+  estimate_fault = rw (stopped_clear start (codes "estimate") [] rest, stopped_walk start (codes "estimate") [] rest) (or_else-none (fault_from estimate_shape start rest))
+
+  estimate_met : subcommand_of bwe_app (codes "estimate" ∷ rest) ≡ Some (codes "estimate", rows_from estimate_shape start rest)
+  unfolding walked
+  estimate_met = rw (stopped_walk start (codes "estimate") [] rest) refl
+
+  levels_fault : is_clear (fault_of bwe_app (codes "levels" ∷ rest)) ≡ is_clear (fault_from levels_shape start rest)
+  unfolding walk_fault walked defaults_fault
+  levels_fault = rw (stopped_clear start (codes "levels") [] rest, stopped_walk start (codes "levels") [] rest) (or_else-none (fault_from levels_shape start rest))
+
+  levels_met : subcommand_of bwe_app (codes "levels" ∷ rest) ≡ Some (codes "levels", rows_from levels_shape start rest)
+  unfolding walked
+  levels_met = rw (stopped_walk start (codes "levels") [] rest) refl
+
 -- no subcommand has this name
-abbrev is_unknown : Text → Type 0
-is_unknown word = (bytes_eq (codes "solve") word ≡ false) × (bytes_eq (codes "check") word ≡ false) × (bytes_eq (codes "run") word ≡ false)
-    × (bytes_eq (codes "make") word ≡ false) × (bytes_eq (codes "bulk") word ≡ false)
+pub record IsUnknown (word : Text) : Type 0 where
+  pub solve : bytes_eq (codes "solve") word ≡ false
+  pub check : bytes_eq (codes "check") word ≡ false
+  pub run : bytes_eq (codes "run") word ≡ false
+  pub make : bytes_eq (codes "make") word ≡ false
+  pub bulk : bytes_eq (codes "bulk") word ≡ false
+  pub audit : bytes_eq (codes "audit") word ≡ false
+  pub tiers : bytes_eq (codes "tiers") word ≡ false
+  pub enforce : bytes_eq (codes "enforce") word ≡ false
+  pub estimate : bytes_eq (codes "estimate") word ≡ false
+  pub levels : bytes_eq (codes "levels") word ≡ false
 
-unknown_name : (word : Text) → is_unknown word → subcommand_met names idle word ≡ None
-unknown_name word (a, b, d, e, f) = rw (a, b, d, e, f) refl
+unknown_name : (word : Text) → IsUnknown word → subcommand_met names idle word ≡ None
+unknown_name word e = rw (e.solve, e.check, e.run, e.make, e.bulk, e.audit, e.tiers, e.enforce, e.estimate, e.levels) refl
 
-unknown_line : (word : Text) (rest : List Text) → is_unknown word → line_named word rest ≡ None
-unknown_line word rest (a, b, d, e, f) = rw (a, b, d, e, f) refl
+unknown_line : (word : Text) (rest : List Text) → IsUnknown word → line_named word rest ≡ None
+unknown_line word rest e = rw (e.solve, e.check, e.run, e.make, e.bulk, e.audit, e.tiers, e.enforce, e.estimate, e.levels) refl
 
-unknown_fault : (word : Text) (rest : List Text) → is_hyphens word ≡ false → is_unknown word → is_clear (fault_of bwe_app (word ∷ rest)) ≡ false
+unknown_fault : (word : Text) (rest : List Text) → is_hyphens word ≡ false → IsUnknown word → is_clear (fault_of bwe_app (word ∷ rest)) ≡ false
 unfolding walk_fault
 unknown_fault word rest plain unknown = go (turn_fault top names start word) _ _
     (stray top names [] None 1 word (text_met top.rules (λ byte. refl) (λ name. refl) names 1 word [] None plain (unknown_name word unknown)) refl)
@@ -117,22 +169,29 @@ line_agrees : (word : Text) (rest : List Text) (shape : Shape) (line : Option Co
 line_agrees word rest shape line found clear is named taken refused =
     ((λ e. is ∙ taken (sym clear ∙ e) ∙ sym named), (λ e. named ∙ refused (sym clear ∙ e)))
 
-first_plain : (word : Text) (rest : List Text) → list_any is_hyphens (word ∷ rest) ≡ false → (is_hyphens word ≡ false) × (list_any is_hyphens rest ≡ false)
-first_plain word rest e = go (is_hyphens word) refl
-  where
-    go : (b : Bool) → is_hyphens word ≡ b → (is_hyphens word ≡ false) × (list_any is_hyphens rest ≡ false)
-    go true h = absurd (true≢false (ap (λ b. b || list_any is_hyphens rest) (sym h) ∙ e))
-    go false h = (h, ap (λ b. b || list_any is_hyphens rest) (sym h) ∙ e)
+-- a line that is its first word alone
+bare_agrees : (name : Text) (line : CommandLine) (rest : List Text) → list_any is_hyphens rest ≡ false
+    → is_clear (fault_of bwe_app (name ∷ rest)) ≡ is_clear (fault_from (bare_shape name) start rest)
+    → line_met (subcommand_of bwe_app (name ∷ rest)) ≡ Some line → line_named name rest ≡ alone line rest → AgreesAt name rest
+bare_agrees name line [] plain fault is named = line_agrees name [] (bare_shape name) (Some line) (Some line) fault is named
+    (λ e. refl) (λ e. absurd (true≢false (sym (bare_clear name) ∙ e)))
+bare_agrees name line (word ∷ rest) plain fault is named = line_agrees name (word ∷ rest) (bare_shape name) None (Some line) fault is named
+    (λ e. absurd (true≢false (sym e ∙ bare_takes_no_word name word rest (first_plain word rest plain).0))) (λ e. refl)
 
-solve_agrees : (rest : List Text) → list_any is_hyphens rest ≡ false → Agrees (is_clear (fault_of bwe_app (codes "solve" ∷ rest))) (line_met (subcommand_of bwe_app (codes "solve" ∷ rest))) (codes "solve" ∷ rest)
-solve_agrees [] plain = line_agrees (codes "solve") [] solve_shape (Some (Document Solve)) (Some (Document Solve)) (solve_fault []) (ap line_met (solve_met [])) refl (λ e. refl) (λ e. absurd (true≢false (sym solve_clear ∙ e)))
-solve_agrees (word ∷ rest) plain = line_agrees (codes "solve") (word ∷ rest) solve_shape None (Some (Document Solve)) (solve_fault (word ∷ rest)) (ap line_met (solve_met (word ∷ rest))) refl
-    (λ e. absurd (true≢false (sym e ∙ solve_takes_no_word word rest (first_plain word rest plain).0))) (λ e. refl)
+solve_agrees : (rest : List Text) → list_any is_hyphens rest ≡ false → AgreesAt (codes "solve") rest
+solve_agrees rest plain = bare_agrees (codes "solve") (Document Solve) rest plain (solve_fault rest) (ap line_met (solve_met rest)) refl
 
-check_agrees : (rest : List Text) → list_any is_hyphens rest ≡ false → Agrees (is_clear (fault_of bwe_app (codes "check" ∷ rest))) (line_met (subcommand_of bwe_app (codes "check" ∷ rest))) (codes "check" ∷ rest)
-check_agrees [] plain = line_agrees (codes "check") [] check_shape (Some (Document Check)) (Some (Document Check)) (check_fault []) (ap line_met (check_met [])) refl (λ e. refl) (λ e. absurd (true≢false (sym check_clear ∙ e)))
-check_agrees (word ∷ rest) plain = line_agrees (codes "check") (word ∷ rest) check_shape None (Some (Document Check)) (check_fault (word ∷ rest)) (ap line_met (check_met (word ∷ rest))) refl
-    (λ e. absurd (true≢false (sym e ∙ check_takes_no_word word rest (first_plain word rest plain).0))) (λ e. refl)
+check_agrees : (rest : List Text) → list_any is_hyphens rest ≡ false → AgreesAt (codes "check") rest
+check_agrees rest plain = bare_agrees (codes "check") (Document Check) rest plain (check_fault rest) (ap line_met (check_met rest)) refl
+
+audit_agrees : (rest : List Text) → list_any is_hyphens rest ≡ false → AgreesAt (codes "audit") rest
+audit_agrees rest plain = bare_agrees (codes "audit") Audit rest plain (audit_fault rest) (ap line_met (audit_met rest)) refl
+
+tiers_agrees : (rest : List Text) → list_any is_hyphens rest ≡ false → AgreesAt (codes "tiers") rest
+tiers_agrees rest plain = bare_agrees (codes "tiers") Tiers rest plain (tiers_fault rest) (ap line_met (tiers_met rest)) refl
+
+enforce_agrees : (rest : List Text) → list_any is_hyphens rest ≡ false → AgreesAt (codes "enforce") rest
+enforce_agrees rest plain = bare_agrees (codes "enforce") Enforce rest plain (enforce_fault rest) (ap line_met (enforce_met rest)) refl
 
 run_line_agrees : (rest : List Text) → list_any is_hyphens rest ≡ false → Agrees (is_clear (fault_of bwe_app (codes "run" ∷ rest))) (line_met (subcommand_of bwe_app (codes "run" ∷ rest))) (codes "run" ∷ rest)
 run_line_agrees rest plain =
@@ -154,29 +213,44 @@ bulk_agrees rest plain =
     (bulk_fault rest) (ap line_met (bulk_met rest)) refl
     (λ e. ap (option_map (λ (size : Size). Bulk size.seed size.groups size.tasks)) (sym (agrees.0 e))) (λ e. ap (option_map (λ (size : Size). Bulk size.seed size.groups size.tasks)) (agrees.1 e))
 
-unknown_agrees : (word : Text) (rest : List Text) → is_hyphens word ≡ false → is_unknown word → Agrees (is_clear (fault_of bwe_app (word ∷ rest))) (line_met (subcommand_of bwe_app (word ∷ rest))) (word ∷ rest)
+estimate_line_agrees : (rest : List Text) → list_any is_hyphens rest ≡ false → AgreesAt (codes "estimate") rest
+estimate_line_agrees rest plain =
+    let agrees = estimate_agrees rest plain in
+    line_agrees (codes "estimate") rest estimate_shape (estimate_of rest) (estimate_given (rows_from estimate_shape start rest))
+    (estimate_fault rest) (ap line_met (estimate_met rest)) refl (λ e. sym (agrees.0 e)) agrees.1
+
+levels_line_agrees : (rest : List Text) → list_any is_hyphens rest ≡ false → AgreesAt (codes "levels") rest
+levels_line_agrees rest plain =
+    let agrees = levels_agrees rest plain in
+    line_agrees (codes "levels") rest levels_shape (levels_of rest) (levels_given (rows_from levels_shape start rest))
+    (levels_fault rest) (ap line_met (levels_met rest)) refl (λ e. sym (agrees.0 e)) agrees.1
+
+unknown_agrees : (word : Text) (rest : List Text) → is_hyphens word ≡ false → IsUnknown word → Agrees (is_clear (fault_of bwe_app (word ∷ rest))) (line_met (subcommand_of bwe_app (word ∷ rest))) (word ∷ rest)
 unknown_agrees word rest plain unknown = ((λ e. absurd (true≢false (sym e ∙ unknown_fault word rest plain unknown))), (λ e. unknown_line word rest unknown))
 
 -- ---- all words
 
-abbrev AgreesAt : Text → List Text → Type 0
-AgreesAt word rest = Agrees (is_clear (fault_of bwe_app (word ∷ rest))) (line_met (subcommand_of bwe_app (word ∷ rest))) (word ∷ rest)
-
 name_agrees : (word : Text) (rest : List Text) → is_hyphens word ≡ false → list_any is_hyphens rest ≡ false → AgreesAt word rest
 name_agrees word rest plain more =
-    go (bytes_eq (codes "solve") word) refl (bytes_eq (codes "check") word) refl (bytes_eq (codes "run") word) refl (bytes_eq (codes "make") word) refl (bytes_eq (codes "bulk") word) refl
+    either (codes "solve") (solve_agrees rest more) (λ solve.
+    either (codes "check") (check_agrees rest more) (λ check.
+    either (codes "run") (run_line_agrees rest more) (λ run.
+    either (codes "make") (make_agrees rest more) (λ make.
+    either (codes "bulk") (bulk_agrees rest more) (λ bulk.
+    either (codes "audit") (audit_agrees rest more) (λ audit.
+    either (codes "tiers") (tiers_agrees rest more) (λ tiers.
+    either (codes "enforce") (enforce_agrees rest more) (λ enforce.
+    either (codes "estimate") (estimate_line_agrees rest more) (λ estimate.
+    either (codes "levels") (levels_line_agrees rest more) (λ levels.
+    unknown_agrees word rest plain (record { solve = solve; check = check; run = run; make = make; bulk = bulk; audit = audit; tiers = tiers; enforce = enforce; estimate = estimate; levels = levels })))))))))))
   where
-    same : (name : Text) → bytes_eq name word ≡ true → AgreesAt name rest → AgreesAt word rest
-    same name e h = subst (λ w. AgreesAt w rest) ((bytes_eq-Decides name word).0 e) h
-
-    go : (a : Bool) → bytes_eq (codes "solve") word ≡ a → (b : Bool) → bytes_eq (codes "check") word ≡ b → (d : Bool) → bytes_eq (codes "run") word ≡ d
-        → (e : Bool) → bytes_eq (codes "make") word ≡ e → (f : Bool) → bytes_eq (codes "bulk") word ≡ f → AgreesAt word rest
-    go true h b h' d h'' e h3 f h4 = same (codes "solve") h (solve_agrees rest more)
-    go false h true h' d h'' e h3 f h4 = same (codes "check") h' (check_agrees rest more)
-    go false h false h' true h'' e h3 f h4 = same (codes "run") h'' (run_line_agrees rest more)
-    go false h false h' false h'' true h3 f h4 = same (codes "make") h3 (make_agrees rest more)
-    go false h false h' false h'' false h3 true h4 = same (codes "bulk") h4 (bulk_agrees rest more)
-    go false h false h' false h'' false h3 false h4 = unknown_agrees word rest plain (h, h', h'', h3, h4)
+    -- the word is this name, or it is not
+    either : (name : Text) → AgreesAt name rest → (bytes_eq name word ≡ false → AgreesAt word rest) → AgreesAt word rest
+    either name agrees other = go (bytes_eq name word) refl
+      where
+        go : (same : Bool) → bytes_eq name word ≡ same → AgreesAt word rest
+        go true e = subst (λ w. AgreesAt w rest) ((bytes_eq-Decides name word).0 e) agrees
+        go false e = other e
 
 no_words : is_clear (fault_of bwe_app []) ≡ false
 unfolding walk_fault defaults_fault

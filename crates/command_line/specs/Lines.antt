@@ -7,9 +7,9 @@ use Rattle.std.specs.Str.Parse.{digits_value}
 use Rattle.std.specs.declared.alloc.Global.{Global}
 use Rattle.command_line.specs.declared.matches.Size.{Size}
 use Rattle.command_line.specs.declared.Line.{Line}
-use Rattle.command_line.specs.declared.Line.TheVariants.{Solve, Check}
+use Rattle.command_line.specs.declared.Line.TheVariants.{Solve, Check, Levels}
 use Rattle.command_line.specs.declared.CommandLine.{CommandLine}
-use Rattle.command_line.specs.declared.CommandLine.TheVariants.{Document, Run, Make, Bulk}
+use Rattle.command_line.specs.declared.CommandLine.TheVariants.{Document, Run, Make, Bulk, Audit, Tiers, Enforce, Estimate}
 
 abbrev pub Text : Type 0
 Text = List ℕ
@@ -105,6 +105,25 @@ abbrev pub size_of : List Text → Option Size
 size_of (seed ∷ (groups ∷ (tasks ∷ []))) = size_in seed groups tasks
 size_of _ = None
 
+-- ---- `estimate` and `levels`
+
+-- WINDOW and HEADROOM
+abbrev pub estimate_in : Text → Text → Option CommandLine
+estimate_in window headroom =
+    option_and_then (λ w. option_map (λ h. Estimate w h) (number_in 100 1000 headroom)) (number_in 1 1000 window)
+
+abbrev pub estimate_of : List Text → Option CommandLine
+estimate_of (window ∷ (headroom ∷ [])) = estimate_in window headroom
+estimate_of _ = None
+
+-- SHARE
+abbrev pub levels_in : Text → Option CommandLine
+levels_in share = option_map (λ s. Document (Levels s)) (number_in 0 1000000000 share)
+
+abbrev pub levels_of : List Text → Option CommandLine
+levels_of (share ∷ []) = levels_in share
+levels_of _ = None
+
 -- ---- all lines
 
 -- a line that is its first word alone
@@ -119,6 +138,11 @@ line_named word rest =
     else if bytes_eq (codes "run") word then option_and_then run_line (options_of nothing_given None rest)
     else if bytes_eq (codes "make") word then option_map (λ size. Make size.seed size.groups size.tasks) (size_of rest)
     else if bytes_eq (codes "bulk") word then option_map (λ size. Bulk size.seed size.groups size.tasks) (size_of rest)
+    else if bytes_eq (codes "audit") word then alone Audit rest
+    else if bytes_eq (codes "tiers") word then alone Tiers rest
+    else if bytes_eq (codes "enforce") word then alone Enforce rest
+    else if bytes_eq (codes "estimate") word then estimate_of rest
+    else if bytes_eq (codes "levels") word then levels_of rest
     else None
 
 abbrev pub line_of_texts : List Text → Option CommandLine

@@ -1,7 +1,7 @@
 //! The words of a command line: which line they are, or the usage line.
 //!
 //! The top call asks `line_of_words` before it reads anything, and serves the line that it answers; `command_line_of_words`
-//! has all lines. Words that are no line get `USAGE`. The definition Command line (`specs/Lines.antt`) alone decides:
+//! has all lines, those that the top call does not serve yet too. Words that are no line get `USAGE`. The definition Command line (`specs/Lines.antt`) alone decides:
 //! `clap` splits the words, and each text is read here.
 #![tactic(auto)]
 
@@ -28,6 +28,8 @@ pub enum Line {
     Solve,
     /// Writes whether the document's closings are right.
     Check,
+    /// Writes what each group may have at a share from 0 to 1,000,000,000.
+    Levels { share: u64 },
 }
 
 /// A command line.
@@ -41,6 +43,14 @@ pub enum CommandLine {
     Make { seed: u64, groups: u32, tasks: u32 },
     /// Writes the summary of such a document's table, in the same ranges.
     Bulk { seed: u64, groups: u32, tasks: u32 },
+    /// Reads a document and the text of a run, and writes whether the text is lawful.
+    Audit,
+    /// Reads a document and the tier of each group.
+    Tiers,
+    /// Reads a document and events among regions.
+    Enforce,
+    /// Reads a document and samples of demands: a window of 1 to 1,000 samples, and a headroom of 100 to 1,000 hundredths.
+    Estimate { window: u32, headroom: u32 },
 }
 
 /// The line on one document that the words are, `None` where they are none. `words` are those after the program's name.

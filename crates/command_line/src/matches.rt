@@ -3,8 +3,8 @@ ghost use Rattle.std.specs.Prelude.{◌≡◌, IfOk, [], false, map, option_map,
 ghost use Rattle.std.specs.List.{list_any};
 ghost use Rattle.clap.specs.Words.{app_of, found_of, rows_of, rule_of, shape_of, subcommand_rows_of};
 ghost use Rattle.clap.specs.declared.builder.command.Command.TheViews.{out-Command};
-ghost use Rattle.command_line.specs.Lines.{is_hyphens, line_of_texts, number_given as number_of_option, run_line as line_of_given, size_in as size_in_texts, texts_of};
-ghost use Rattle.command_line.specs.Matches.{bwe_app, given_in, line_entered, line_met, option_rule, place_rule, run_app, size_given, sized_app, texts_in};
+ghost use Rattle.command_line.specs.Lines.{estimate_in as estimate_in_texts, is_hyphens, levels_in as levels_in_text, line_of_texts, number_given as number_of_option, run_line as line_of_given, size_in as size_in_texts, texts_of};
+ghost use Rattle.command_line.specs.Matches.{bwe_app, estimate_app, estimate_given, first_lines, given_in, levels_app, levels_given, line_entered, line_met, option_rule, place_rule, run_app, size_given, sized_app, texts_in};
 
 use crate::number::{any_number, number_in};
 use crate::{CommandLine, Line};
@@ -33,6 +33,18 @@ pub(crate) fn line_split(
 // All lines: a subcommand for each.
 fn command<'a>(alloc: Global) -> Result<Command<'a>, AllocError>
     ensures { IfOk result (λ command. app_of command ≡ bwe_app) }
+{
+    first_commands(alloc)?
+        .subcommand(Command::new(alloc, "audit"))?
+        .subcommand(Command::new(alloc, "tiers"))?
+        .subcommand(Command::new(alloc, "enforce"))?
+        .subcommand(estimate_command(alloc)?)?
+        .subcommand(levels_command(alloc)?)
+}
+
+// The first five of them.
+fn first_commands<'a>(alloc: Global) -> Result<Command<'a>, AllocError>
+    ensures { IfOk result (λ command. app_of command ≡ first_lines) }
 {
     Command::new(alloc, "bwe")
         .no_binary_name(true)
@@ -65,6 +77,24 @@ fn sized_command<'a>(alloc: Global, name: &'a str) -> Result<Command<'a>, AllocE
         .arg(place(alloc, "seed"))?
         .arg(place(alloc, "groups"))?
         .arg(place(alloc, "tasks"))
+}
+
+// `estimate`, with its two places.
+fn estimate_command<'a>(alloc: Global) -> Result<Command<'a>, AllocError>
+    ensures app { IfOk result (λ command. app_of command ≡ estimate_app) }
+    ensures local { IfOk result (λ command. (out-Command command).has_globals ≡ false) }
+{
+    Command::new(alloc, "estimate")
+        .arg(place(alloc, "window"))?
+        .arg(place(alloc, "headroom"))
+}
+
+// `levels`, with its one place.
+fn levels_command<'a>(alloc: Global) -> Result<Command<'a>, AllocError>
+    ensures app { IfOk result (λ command. app_of command ≡ levels_app) }
+    ensures local { IfOk result (λ command. (out-Command command).has_globals ≡ false) }
+{
+    Command::new(alloc, "levels").arg(place(alloc, "share"))
 }
 
 // An option, which may be given again.
@@ -123,6 +153,11 @@ fn line_of_subcommand(name: &str, given: &ArgMatches<'_>) -> Option<CommandLine>
                 tasks,
             })
         }
+        "audit" => Some(CommandLine::Audit),
+        "tiers" => Some(CommandLine::Tiers),
+        "enforce" => Some(CommandLine::Enforce),
+        "estimate" => estimate_line(given),
+        "levels" => levels_line(given),
         _ => None,
     }
 }
@@ -178,5 +213,41 @@ fn size_in(seed: &str, groups: &str, tasks: &str) -> Option<Size>
         seed,
         groups,
         tasks,
+    })
+}
+
+// `estimate` with the texts in its places.
+fn estimate_line(given: &ArgMatches<'_>) -> Option<CommandLine>
+    ensures { result ≡ estimate_given (rows_of (found_of given.now)) }
+{
+    let window = given.get_str("window")?;
+    let headroom = given.get_str("headroom")?;
+    estimate_in(window, headroom)
+}
+
+// `estimate` with the two numbers of the texts.
+fn estimate_in(window: &str, headroom: &str) -> Option<CommandLine>
+    ensures { result ≡ estimate_in_texts window.now headroom.now }
+{
+    let window = number_in(window, 1, 1_000)?;
+    let headroom = number_in(headroom, 100, 1_000)?;
+    Some(CommandLine::Estimate { window, headroom })
+}
+
+// `levels` with the text in its place.
+fn levels_line(given: &ArgMatches<'_>) -> Option<CommandLine>
+    ensures { result ≡ levels_given (rows_of (found_of given.now)) }
+{
+    let share = given.get_str("share")?;
+    levels_in(share)
+}
+
+// `levels` with the number of the text.
+fn levels_in(share: &str) -> Option<CommandLine>
+    ensures { result ≡ levels_in_text share.now }
+{
+    let share = u64::from(number_in(share, 0, 1_000_000_000)?);
+    Some(CommandLine::Document {
+        line: Line::Levels { share },
     })
 }

@@ -60,6 +60,65 @@ fn each_line_is_read(rt: HostRuntime) -> Result<(), OutOfMemory> {
 }
 
 #[test]
+fn lines_of_two_parts_are_read(rt: HostRuntime) -> Result<(), OutOfMemory> {
+    for (word, line) in [
+        ("audit", CommandLine::Audit),
+        ("tiers", CommandLine::Tiers),
+        ("enforce", CommandLine::Enforce),
+    ] {
+        assert_eq!(rt; line_of(&rt, &[word])?, Some(line));
+        assert_eq!(rt; line_of(&rt, &[word, "1"])?, None);
+        assert_eq!(rt; line_of_words(rt.alloc(), &words(&rt, &[word])?)?, None);
+    }
+    let (window, headroom) = (1_000, 100);
+    assert_eq!(rt;
+        line_of(&rt, &["estimate", "01000", "100"])?,
+        Some(CommandLine::Estimate { window, headroom })
+    );
+    for wrong in [
+        ["0", "100"],
+        ["1001", "100"],
+        ["1", "99"],
+        ["1", "1001"],
+        ["1", "-1"],
+    ] {
+        assert_eq!(rt; line_of(&rt, &["estimate", wrong[0], wrong[1]])?, None);
+    }
+    assert_eq!(rt; line_of(&rt, &["estimate", "1"])?, None);
+    assert_eq!(rt; line_of(&rt, &["estimate", "1", "100", "1"])?, None);
+    Ok(())
+}
+
+#[test]
+fn a_share_is_read(rt: HostRuntime) -> Result<(), OutOfMemory> {
+    let levels = |share| {
+        Some(CommandLine::Document {
+            line: Line::Levels { share },
+        })
+    };
+    assert_eq!(rt; line_of(&rt, &["levels", "0"])?, levels(0));
+    assert_eq!(rt;
+        line_of(&rt, &["levels", "00000000001000000000"])?,
+        levels(1_000_000_000)
+    );
+    for wrong in [
+        "1000000001",
+        "000000000000000000090",
+        "",
+        "-1",
+        "+1",
+        "1 ",
+        "0x1",
+        "--share=1",
+    ] {
+        assert_eq!(rt; line_of(&rt, &["levels", wrong])?, None);
+    }
+    assert_eq!(rt; line_of(&rt, &["levels"])?, None);
+    assert_eq!(rt; line_of(&rt, &["levels", "1", "1"])?, None);
+    Ok(())
+}
+
+#[test]
 fn other_words_are_no_line(rt: HostRuntime) -> Result<(), OutOfMemory> {
     assert_eq!(rt; line_of(&rt, &[])?, None);
     for wrong in [

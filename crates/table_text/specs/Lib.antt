@@ -1,3 +1,4 @@
 pub mod TableText
 pub mod CheckText
 pub mod BulkText
+pub mod LevelsText

@@ -1,13 +1,13 @@
 //! The summary of a table.
 
-ghost use Rattle.std.specs.Prelude.{◌≡◌, ◌++◌, IfOk, OnOk, codes, decimal, string_bytes};
+ghost use Rattle.std.specs.Prelude.{◌≡◌, IfOk};
 ghost use Rattle.table_text.specs.BulkText.{bulk_text_of};
 
-use crate::line::push_word_and_number;
+use crate::line::push_line;
 use crate::table::total;
 use bwe_specs::OutOfMemory;
 use limit_table::LimitTable;
-use std::alloc::{AllocError, Global};
+use std::alloc::Global;
 
 /// The summary of the table of a document that has so many groups and tasks ("Bulk text", docs/FORMAT.md).
 #[tactic(auto, unfolding(crate::specs::BulkText::bulk_text_of))]
@@ -25,13 +25,4 @@ pub fn bulk_text(
     push_line(alloc, &mut text, "closings ", table.closings.len() as u64)?;
     push_line(alloc, &mut text, "total ", total(&table.groups))?;
     Ok(text.into_bytes())
-}
-
-// A line of a word and a number.
-fn push_line(alloc: Global, text: &mut String, word: &str, number: u64) -> Result<(), AllocError>
-    ensures { OnOk result
-        (string_bytes text.new ≡ string_bytes text.old ++ word.now ++ decimal number ++ codes "\n") }
-{
-    push_word_and_number(alloc, text, word, number)?;
-    text.push_str("\n")
 }

@@ -1,8 +1,8 @@
-//! The texts of a table of limits, of its summary and of a verdict on closings: the bytes that `bwe solve`, `bwe bulk` and
-//! `bwe check` write.
+//! The texts of a table of limits, of its summary, of a verdict on closings and of what the groups may have at a share: the
+//! bytes that `bwe solve`, `bwe bulk`, `bwe check` and `bwe levels` write.
 //!
-//! The top call uses `table_text`, `bulk_text` and `check_text`, whose clauses are the whole texts ("Table text", "Bulk text"
-//! and "Check text", docs/FORMAT.md).
+//! The top call uses `table_text`, `bulk_text`, `check_text` and `levels_text`, whose clauses are the whole texts ("Table
+//! text", "Bulk text", "Check text" and "Levels text", docs/FORMAT.md).
 //! `name_of` is the name that a text prints for a number. Texts that share lines with a table's put them by `push_closings`
 //! and its like.
 //! Texts are made whole before anything is written, so a want of memory is met before the first byte goes out.
@@ -10,6 +10,7 @@
 
 mod bulk;
 mod check;
+mod levels;
 mod line;
 mod table;
 #[cfg(test)]
@@ -17,5 +18,6 @@ mod tests;
 
 pub use bulk::bulk_text;
 pub use check::check_text;
+pub use levels::levels_text;
 pub use line::{name_of, push_word_and_number};
 pub use table::{push_closings, push_groups, push_links, push_tasks, table_text, total};

@@ -1,6 +1,6 @@
 //! Pieces of a line.
 
-ghost use Rattle.std.specs.Prelude.{◌≡◌, ◌++◌, OnOk, decimal, map, string_bytes};
+ghost use Rattle.std.specs.Prelude.{◌≡◌, ◌++◌, OnOk, codes, decimal, map, string_bytes};
 ghost use Rattle.table_text.specs.TableText.{name_at};
 
 use std::alloc::{AllocError, Global};
@@ -25,6 +25,20 @@ pub fn push_word_and_number(
 {
     text.push_str(word)?;
     push_number(alloc, text, number)
+}
+
+/// Puts a line of a word and a number at the end of the text.
+pub(crate) fn push_line(
+    alloc: Global,
+    text: &mut String,
+    word: &str,
+    number: u64,
+) -> Result<(), AllocError>
+    ensures { OnOk result
+        (string_bytes text.new ≡ string_bytes text.old ++ word.now ++ decimal number ++ codes "\n") }
+{
+    push_word_and_number(alloc, text, word, number)?;
+    text.push_str("\n")
 }
 
 /// Puts a word and the name of a number at the end of the text.

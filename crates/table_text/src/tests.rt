@@ -1,4 +1,4 @@
-use super::{bulk_text, check_text, table_text};
+use super::{bulk_text, check_text, levels_text, table_text};
 use bwe_specs::{Cause, Closing, OutOfMemory, Verdict};
 use doc_names::Names;
 use limit_table::{GroupLine, LimitTable, PlaceLine};
@@ -134,5 +134,19 @@ fn a_summary_has_four_lines(rt: HostRuntime) -> Result<(), OutOfMemory> {
         text.as_slice(),
         b"groups 2\ntasks 2\nclosings 1\ntotal 1000\n".as_slice()
     );
+    Ok(())
+}
+
+// The line of one group at a share, and a document without groups.
+#[test]
+fn levels_are_printed(rt: HostRuntime) -> Result<(), OutOfMemory> {
+    let names = names(&rt)?;
+    let text = levels_text(rt.alloc(), 90, [80].as_slice(), &names)?;
+    assert_eq!(rt;
+        text.as_slice(),
+        "levels 90\nlevel g0 80\ntotal 80\n".as_bytes()
+    );
+    let text = levels_text(rt.alloc(), 0, [].as_slice(), &names)?;
+    assert_eq!(rt; text.as_slice(), "levels 0\ntotal 0\n".as_bytes());
     Ok(())
 }

@@ -1,6 +1,7 @@
-use bwe_cli::bwe_once;
+use bwe_cli::{bwe, bwe_once};
 use bwe_io::{MemorySink, MemorySource, SureSink, SureSource};
 use command_line::USAGE;
+use crew_actors::OpenGate;
 use std::alloc::{AllocError, Global};
 use std::test::Fail;
 
@@ -42,6 +43,27 @@ fn each_line_has_its_text_and_status(rt: HostRuntime) -> Result<(), Fail> {
         let mut sink = SureSink::new(alloc, 1_000)?;
         let got = bwe_once(alloc, &words(alloc, &[line])?, &mut source, &mut sink);
         assert_eq!(rt; (got, sink.bytes()), (status, text.as_bytes()));
+    }
+    Ok(())
+}
+
+// The case "Levels at 90": one text, of values asked one after the other and of values by threads.
+#[test]
+fn levels_have_one_text(rt: HostRuntime) -> Result<(), Fail> {
+    let alloc = rt.alloc();
+    for (share, text) in [
+        ("90", "levels 90\nlevel g0 80\nlevel g1 80\ntotal 160\n"),
+        ("1000", "levels 100\nlevel g0 80\nlevel g1 80\ntotal 160\n"),
+    ] {
+        let levels = words(alloc, &["levels", share])?;
+        let mut source = SureSource::new(Vec::from_slice(alloc, SHARED_LINK.as_bytes())?);
+        let mut sink = SureSink::new(alloc, 1_000)?;
+        let status = bwe_once(alloc, &levels, &mut source, &mut sink);
+        assert_eq!(rt; (status, sink.bytes()), (0, text.as_bytes()));
+        let mut source = SureSource::new(Vec::from_slice(alloc, SHARED_LINK.as_bytes())?);
+        let mut sink = SureSink::new(alloc, 1_000)?;
+        let status = bwe(&rt, alloc, &levels, &mut source, &mut sink, &OpenGate);
+        assert_eq!(rt; (status, sink.bytes()), (0, text.as_bytes()));
     }
     Ok(())
 }

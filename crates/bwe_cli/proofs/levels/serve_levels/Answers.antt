@@ -1,0 +1,26 @@
+use Rattle.std.proofs.Common.{refl}
+use Rattle.command_line.specs.declared.Line.TheVariants.{Levels}
+use Rattle.one_run.specs.Endings.{read_whole, read_too_much, read_fault, out_of_memory}
+use Rattle.one_run.proofs.Ends.{Ending-writes, Keeps-same, reply_of, is_no_line}
+use Rattle.bwe_cli.proofs.levels.serve_levels.Goals as goal
+
+pub returns-in-Ok-answer_on_threads : goal.returns-in-Ok-answer_on_threads
+returns-in-Ok-answer_on_threads g c =
+    Ending-writes
+    (read_whole {reply = reply_of c.in-Ok-answer_on_threads.answer.status c.in-Ok-answer_on_threads.answer.text.items} refl c.in-Ok.ensures.whole c.in-Ok.ensures.end
+    (rw c.in-Ok.input.ok.0 at c.in-Ok.ensures.within) (rw c.deref.ensures.value at c.in-Ok-answer_on_threads.ensures))
+    (rw c.deref-in-Ok-answer_on_threads.ensures.value at c.write_text.ensures)
+
+pub returns-in-Ok : goal.returns-in-Ok
+returns-in-Ok g c = out_of_memory (is_no_line _ (Levels c.args.share) refl) (Keeps-same _)
+
+pub returns-in-Err-ReadFault : goal.returns-in-Err-ReadFault
+returns-in-Err-ReadFault g c = read_fault refl (c.in-Err-ReadFault.ensures.fault (rw c.in-Err-ReadFault.field-0-is refl)) (Keeps-same _)
+
+pub returns-in-Err-TooLong : goal.returns-in-Err-TooLong
+returns-in-Err-TooLong g c =
+    Ending-writes (read_too_much refl (c.in-Err-TooLong.ensures.too_long (rw c.in-Err-TooLong.field-0-is refl)))
+    (rw c.as_bytes.ensures.value at c.write_text-in-Err-TooLong.ensures)
+
+pub returns : goal.returns
+returns g c = out_of_memory (is_no_line _ (Levels c.args.share) refl) (Keeps-same _)
