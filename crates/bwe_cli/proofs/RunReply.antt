@@ -29,7 +29,7 @@ sent-few plan document readers reads log run few =
     omega (arith, ap length run.legal.sent, length-map run.scripts (λ script. length script.items), split-count (reporter_count document) document.script.items run.scripts run.split, few)
 
 module _ (accepted : Accepted) (document : Document) (is : IsDocumentOf accepted document) where
-  plan-is : plan_in document ≡ plan_of accepted
+  pub plan-is : plan_in document ≡ plan_of accepted
   plan-is =
       ap (λ tree. plan_parts tree.top tree.clusters document.plan document.topology.capacities) is.tree
       ∙ ap₂ (λ plan topology. plan_parts accepted.top accepted.clusters plan topology.capacities) is.plan is.topology

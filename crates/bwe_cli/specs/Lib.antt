@@ -2,3 +2,4 @@ pub mod Plans
 pub mod Replies
 pub mod RunLine
 pub mod MadeLines
+pub mod AuditReply

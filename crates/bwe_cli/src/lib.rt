@@ -16,6 +16,7 @@ ghost use Rattle.bwe_cli.specs.declared.run.Asked.{Asked};
 ghost use Rattle.bwe_cli.specs.MadeLines.{made_line_of, made_reply};
 ghost use Rattle.bwe_cli.specs.declared.made.MadeLine.{MadeLine};
 
+mod audit;
 mod check;
 mod documents;
 mod levels;

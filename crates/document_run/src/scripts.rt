@@ -12,7 +12,7 @@ use plan_doc::Document;
 use std::alloc::Global;
 
 /// The script of each reporter of an accepted document, in the order of their numbers.
-pub(crate) fn scripts_of_document(
+pub fn scripts_of_document(
     alloc: Global,
     document: &Document,
 ) -> Result<Vec<Vec<Report>>, OutOfMemory>

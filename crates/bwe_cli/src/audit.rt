@@ -1,0 +1,92 @@
+//! The line `audit`.
+
+ghost use Rattle.std.specs.Prelude.{◌≡◌, [], IfOk};
+ghost use Rattle.allocator.specs.Frames.{task_count};
+ghost use Rattle.plan_doc.specs.Accepted.{IsAccepted};
+ghost use Rattle.plan_doc.specs.Conditions.{IsUsable, tasks_in};
+ghost use Rattle.plan_doc.specs.Document.{document as document_of};
+ghost use Rattle.plan_doc.specs.Links.{names_view};
+ghost use Rattle.bwe_cli.specs.AuditReply.{audit_reply, audit_status};
+ghost use Rattle.bwe_cli.specs.Plans.{plan_in};
+
+use crate::solve::table_of;
+use allocator::Allocator;
+use bwe_specs::OutOfMemory;
+use demand_book::Maker;
+use document_run::scripts_of_document;
+use one_run::Answer;
+use plan_doc::{Document, read_document};
+use run_audit::{AuditVerdict, audit_text};
+use std::alloc::Global;
+use table_text::table_text;
+
+/// The verdict on a text that is to be that of a run of the document, which `input` is read as.
+///
+/// The document is read a second time: one allocator makes the table at the text's end, the other follows its history.
+#[allow(dead_code)]
+pub(crate) fn audit(
+    alloc: Global,
+    document: Document,
+    input: &[u8],
+    text: &[u8],
+) -> Result<Answer, OutOfMemory>
+    requires usable { IsUsable document }
+    requires accepted { IsAccepted (document_of input.now) document }
+    ensures { IfOk result (λ answer. record { status = answer.status; text = answer.text.items }
+        ≡ audit_reply (names_view document.names) (plan_in document) document.script.items text.now) }
+{
+    match read_document(alloc, input) {
+        Ok(again) => audit_by(alloc, document, allocator_of(alloc, again), text),
+        // It was accepted, so that only memory can be wanting.
+        Err(_) => Err(OutOfMemory),
+    }
+}
+
+// The allocator of a document, which has taken in nothing yet.
+fn allocator_of(alloc: Global, document: Document) -> Allocator
+    requires { IsUsable document }
+    ensures plan { ⟦<Allocator as Maker>⟧.plan result ≡ plan_in document }
+    ensures first { ⟦<Allocator as Maker>⟧.absorbed result [] }
+{
+    let Document {
+        tree,
+        topology,
+        plan,
+        ..
+    } = document;
+    Allocator::new(alloc, tree, topology, plan)
+}
+
+// The verdict on the text, by a new allocator of the document's plan.
+fn audit_by(
+    alloc: Global,
+    document: Document,
+    allocator: Allocator,
+    text: &[u8],
+) -> Result<Answer, OutOfMemory>
+    requires usable { IsUsable document }
+    requires tasks { task_count (plan_in document) ≡ tasks_in document }
+    requires plan { ⟦<Allocator as Maker>⟧.plan allocator ≡ plan_in document }
+    requires first { ⟦<Allocator as Maker>⟧.absorbed allocator [] }
+    ensures { IfOk result (λ answer. record { status = answer.status; text = answer.text.items }
+        ≡ audit_reply (names_view document.names) (plan_in document) document.script.items text.now) }
+{
+    let scripts = scripts_of_document(alloc, &document)?;
+    let (solved, names) = table_of(alloc, document)?;
+    let table = table_text(alloc, &solved, &names)?;
+    let verdict = run_audit::audit(alloc, allocator, &scripts, &names, &table, text)?;
+    Ok(Answer {
+        status: status_of(verdict),
+        text: audit_text(alloc, verdict)?,
+    })
+}
+
+// The status of a verdict.
+fn status_of(verdict: AuditVerdict) -> u8
+    ensures { result ≡ audit_status verdict }
+{
+    match verdict {
+        AuditVerdict::Legal => 0,
+        AuditVerdict::Wrong { .. } => 1,
+    }
+}
