@@ -1,3 +1,4 @@
 pub mod Together
 pub mod Ranges
 pub mod RunReply
+pub mod Behind

@@ -2,3 +2,5 @@ pub mod Plans
 pub mod Replies
 pub mod RunLine
 pub mod MadeLines
+pub mod Parted
+pub mod EstimateReply
