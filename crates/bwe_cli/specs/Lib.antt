@@ -3,3 +3,5 @@ pub mod Replies
 pub mod RunLine
 pub mod MadeLines
 pub mod AuditReply
+pub mod Parted
+pub mod EstimateReply

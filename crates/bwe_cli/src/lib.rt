@@ -19,8 +19,10 @@ ghost use Rattle.bwe_cli.specs.declared.made.MadeLine.{MadeLine};
 mod audit;
 mod check;
 mod documents;
+mod estimate;
 mod levels;
 mod made;
+mod parted;
 mod run;
 mod solve;
 

@@ -1,0 +1,30 @@
+-- The line `estimate`, and what an accepted document and the second part behind it get.
+use Rattle.std.specs.Prelude.{ℕ, ◌++◌, List, length, Result, Ok, Err}
+use Rattle.bwe_specs.specs.declared.report.Report.{Report}
+use Rattle.bwe_specs.specs.Allocation.{Plan}
+use Rattle.one_run.specs.Endings.{Reply}
+use Rattle.plan_doc.specs.Document.{Accepted}
+use Rattle.sample_lines.specs.RefusalLine.{sample_refusal}
+use Rattle.sample_lines.specs.SampleLine.{Known}
+use Rattle.sample_lines.specs.SampleReports.{reports_in}
+use Rattle.table_text.specs.TableText.{NameTexts}
+use Rattle.bwe_cli.specs.Plans.{plan_of}
+use Rattle.bwe_cli.specs.Replies.{printed, table_reply}
+
+-- the table of the script with these reports behind it, or the line for the first sample at fault
+abbrev pub table_behind : NameTexts → Plan → List Report → Result (List Report) ℕ → Reply
+table_behind names plan script (Ok reports) = table_reply names plan (script ++ reports)
+table_behind names plan script (Err line) = record { status = 3; text = sample_refusal line }
+
+-- `estimate`: the table of the allocation of the script and the reports of the estimates
+abbrev pub estimate_reply : NameTexts → Known → Plan → List Report → ℕ → ℕ → List ℕ → Reply
+estimate_reply names known plan script window headroom part =
+    table_behind names plan script (reports_in known (length script) window headroom part)
+
+-- what an accepted document knows of samples
+abbrev pub known_in : Accepted → Known
+known_in accepted = record { tasks = accepted.names.tasks; reporters = accepted.names.reporters; task_owners = accepted.task_owners }
+
+abbrev pub accepted_estimate_reply : ℕ → ℕ → Accepted → List ℕ → Reply
+accepted_estimate_reply window headroom accepted part =
+    estimate_reply (printed accepted.names) (known_in accepted) (plan_of accepted) accepted.script window headroom part

@@ -1,0 +1,51 @@
+-- The parts of an input of two parts, and what it gets.
+use Rattle.std.specs.Prelude.{◌≡◌, ℕ, List, take, drop, codes, Option, Some, None, Result, Ok, Err}
+use Rattle.one_run.specs.Endings.{Reply}
+use Rattle.plan_doc.specs.Accepted.{IsDocumentOf}
+use Rattle.plan_doc.specs.Conditions.{IsUsable}
+use Rattle.plan_doc.specs.Document.{Accepted, document}
+use Rattle.plan_doc.specs.Refusals.{Refusal}
+use Rattle.two_part.specs.declared.Parts.{Parts}
+use Rattle.two_part.specs.TwoPart.{parts_of}
+use Rattle.bwe_cli.specs.declared.parted.Parted as read
+use Rattle.bwe_cli.specs.declared.parted.Parted.TheVariants.{Read, Refused}
+use Rattle.bwe_cli.specs.Replies.{refused_reply}
+
+-- an accepted document, and the second part behind it
+pub record AcceptedParts : Type 0 where
+  pub accepted : Accepted
+  pub part : List ℕ
+
+-- an input without parts is refused before its document is read
+abbrev pub no_parts_reply : Reply
+no_parts_reply = record { status = 3; text = codes "refused 14 parts\n" }
+
+-- the document's bytes lie from the start of its place to before the end
+abbrev pub document_bytes : List ℕ → Parts → List ℕ
+document_bytes input parts = drop parts.start (take parts.end input)
+
+abbrev pub with_part : List ℕ → Result Accepted Refusal → Result AcceptedParts Reply
+with_part part (Ok accepted) = Ok (record { accepted = accepted; part = part })
+with_part part (Err refusal) = Err (refused_reply refusal)
+
+abbrev pub parts_at : List ℕ → Option Parts → Result AcceptedParts Reply
+parts_at input None = Err no_parts_reply
+parts_at input (Some parts) = with_part (drop parts.end input) (document (document_bytes input parts))
+
+-- the two parts of an input, or what is written for a refused one
+abbrev pub accepted_parts : List ℕ → Result AcceptedParts Reply
+accepted_parts input = parts_at input (parts_of input)
+
+abbrev pub reply_by : (Accepted → List ℕ → Reply) → Result AcceptedParts Reply → Reply
+reply_by line_reply (Ok parts) = line_reply parts.accepted parts.part
+reply_by line_reply (Err refused) = refused
+
+-- what the input gets of a line, by what the line writes for two accepted parts
+abbrev pub parted_reply : (Accepted → List ℕ → Reply) → List ℕ → Reply
+parted_reply line_reply input = reply_by line_reply (accepted_parts input)
+
+-- the code has the same parts, or what is written for a refused input
+abbrev pub AreRead : Result AcceptedParts Reply → read.Parted → Type 0
+AreRead parts (Read document part) =
+    (accepted : Accepted) × (parts ≡ Ok (record { accepted = accepted; part = part.now })) × IsDocumentOf accepted document × IsUsable document
+AreRead parts (Refused answer) = parts ≡ Err (record { status = answer.status; text = answer.text.items })

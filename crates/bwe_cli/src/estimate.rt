@@ -1,0 +1,81 @@
+//! The line `estimate`.
+
+ghost use Rattle.std.specs.Prelude.{◌≡◌, ◌≤◌, ◌-◌, ◌++◌, ℕ, All, IfOk, length};
+ghost use Rattle.bwe_specs.specs.declared.limits.TheConstants.{MAX_REPORTS};
+ghost use Rattle.demand_book.specs.Fit.{IsFit};
+ghost use Rattle.demand_estimate.specs.declared.TheConstants.{MAX_WINDOW, MIN_HEADROOM, MAX_HEADROOM};
+ghost use Rattle.table_text.specs.TableText.{texts_of};
+ghost use Rattle.plan_doc.specs.Conditions.{IsUsable};
+ghost use Rattle.sample_lines.specs.Held.{IsByOwner};
+ghost use Rattle.sample_lines.specs.KnownView.{known_by};
+ghost use Rattle.bwe_cli.specs.EstimateReply.{estimate_reply};
+ghost use Rattle.bwe_cli.specs.Plans.{plan_in};
+ghost use Rattle.bwe_cli.specs.Replies.{table_reply};
+
+use crate::solve::solve;
+use bwe_specs::{OutOfMemory, Report};
+use one_run::Answer;
+use plan_doc::Document;
+use sample_lines::{SampleError, estimate_reports, sample_refusal_line};
+use std::alloc::Global;
+
+/// The table of the document's script with the reports of the estimates behind it, or the first sample at fault.
+pub(crate) fn estimate(
+    alloc: Global,
+    document: Document,
+    part: &[u8],
+    window: u32,
+    headroom: u32,
+) -> Result<Answer, OutOfMemory>
+    requires usable { IsUsable document }
+    requires some_window { 1 ≤ window }
+    requires window { window ≤ MAX_WINDOW }
+    requires least { MIN_HEADROOM ≤ headroom }
+    requires headroom { headroom ≤ MAX_HEADROOM }
+    ensures { IfOk result (λ answer. record { status = answer.status; text = answer.text.items }
+        ≡ estimate_reply (texts_of document.names) (known_by document.names document.task_owners.items)
+            (plan_in document) document.script.items window headroom part.now) }
+{
+    let Document {
+        script,
+        names,
+        task_owners,
+        ..
+    } = &document;
+    let script_length = script.len() as u64;
+    match estimate_reports(
+        alloc,
+        part,
+        names,
+        task_owners,
+        script_length,
+        window,
+        headroom,
+    ) {
+        Ok(reports) => solve_behind(alloc, document, &reports),
+        Err(SampleError::Refused { line }) => Ok(Answer {
+            status: 3,
+            text: sample_refusal_line(alloc, line)?,
+        }),
+        Err(SampleError::OutOfMemory) => Err(OutOfMemory),
+    }
+}
+
+// The table of the document's script with these reports behind it.
+fn solve_behind(
+    alloc: Global,
+    document: Document,
+    reports: &[Report],
+) -> Result<Answer, OutOfMemory>
+    requires usable { IsUsable document }
+    requires few { length reports.now ≤ MAX_REPORTS - length document.script.items }
+    requires fit { (links : ℕ)
+        → All (IsFit (length document.names.tasks.items) links) reports.now }
+    requires owned { All (IsByOwner document.task_owners.items) reports.now }
+    ensures { IfOk result (λ answer. record { status = answer.status; text = answer.text.items }
+        ≡ table_reply (texts_of document.names) (plan_in document) (document.script.items ++ reports.now)) }
+{
+    let mut document = document;
+    document.script.extend_from_slice(reports)?;
+    solve(alloc, document)
+}
