@@ -1,6 +1,6 @@
 -- What stands behind a document: reports behind its script, and a second part behind its bytes.
-use Rattle.std.proofs.Common.{◌≡◌, ℕ, ◌+◌, ◌-◌, ◌<◌, ◌≤◌, List, ◌++◌, length, Option, Some, None, Ok, Vec, Global, string_bytes, ap, ap₂, sym, subst, ◌∙◌, arith, length-append}
-use Rattle.std.specs.Prelude.{All, drop, slice_get, get_or}
+use Rattle.std.proofs.Common.{◌≡◌, ℕ, ◌-◌, ◌<◌, ◌≤◌, List, ◌++◌, length, Option, Some, None, Ok, Vec, Global, string_bytes, ap, ap₂, sym, subst, ◌∙◌, arith, length-append}
+use Rattle.std.specs.Prelude.{All, drop, get_or}
 use Rattle.std.proofs.lemmas.List.{length-map}
 use Rattle.std.proofs.lemmas.List.Elements.{All-append, All-get_or}
 use Rattle.std.proofs.lemmas.Option.{get_or_from_slice_get, slice_get_within}
@@ -48,9 +48,10 @@ module _ (document : Document) (reports : List Report) (usable : IsUsable docume
   task_count = sym (length-map document.names.tasks.items string_bytes) ∙ usable.task_names
 
   all_reports : All (IsReport (link_count document) (tasks_in document) (reporter_count document)) reports
-  all_reports = λ place other within.
-      (owner_below document.task_owners.items (reporter_count document) _ _ usable.task_owners_below (owned place other within)
-      , subst (λ tasks. IsFit tasks (link_count document) (get_or reports place other)) task_count (fit (link_count document) place other within))
+  all_reports = λ place other within. (
+    owner_below document.task_owners.items (reporter_count document) _ _ usable.task_owners_below (owned place other within),
+    subst (λ tasks. IsFit tasks (link_count document) (get_or reports place other)) task_count (fit (link_count document) place other within),
+  )
 
   all_owned : All (IsByOwnerIn document) reports
   all_owned = λ place other within. owner_in_document document.task_owners.items document.link_owners.items _ _ (owned place other within)

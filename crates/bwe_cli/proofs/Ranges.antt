@@ -1,4 +1,4 @@
--- The numbers of the lines that words are, are in range.
+-- The numbers of the lines that words are, are in range, and lines of one kind are of no other.
 use Rattle.std.proofs.Common.{◌≡◌, ℕ, ◌≤◌, Bool, true, false, ◌&&◌, List, [], ◌∷◌, Option, Some, None, option_and_then, option_map, refl, subst, arith}
 use Rattle.std.specs.Prelude.{if◌then◌else◌, nat_le, codes}
 use Rattle.std.specs.List.{list_any}
@@ -14,6 +14,9 @@ use Rattle.bwe_cli.specs.RunLine.{IsInRange, asked_by, asked_of}
 use Rattle.doc_maker.specs.Made.{IsSize}
 use Rattle.bwe_cli.specs.declared.made.MadeLine.{MadeLine}
 use Rattle.bwe_cli.specs.MadeLines.{made_by, made_line_of, made_size}
+use Rattle.bwe_cli.specs.declared.two_parts.PartedLine.{PartedLine}
+use Rattle.bwe_cli.specs.declared.two_parts.PartedLine.TheVariants.{Estimate}
+use Rattle.bwe_cli.specs.PartedLines.{IsPartedInRange, parted_by, parted_line_of}
 
 abbrev IsBetween : ℕ → ℕ → Option ℕ → Type 0
 IsBetween least most None = Unit {0}
@@ -42,7 +45,7 @@ IsLineInRange (Some (commands.Bulk seed groups tasks)) = IsSize (record { seed =
 IsLineInRange (Some commands.Audit) = Unit {0}
 IsLineInRange (Some commands.Tiers) = Unit {0}
 IsLineInRange (Some commands.Enforce) = Unit {0}
-IsLineInRange (Some (commands.Estimate window headroom)) = Unit {0}
+IsLineInRange (Some (commands.Estimate window headroom)) = IsPartedInRange (Estimate window headroom)
 
 either-in_range : (b : Bool) (x y : Option CommandLine) → IsLineInRange x → IsLineInRange y → IsLineInRange (if b then x else y)
 either-in_range true x y p q = p
@@ -92,11 +95,12 @@ sized-in_range line each (seed ∷ (groups ∷ (tasks ∷ (other ∷ more)))) = 
 estimate-in_range : (words : List Text) → IsLineInRange (estimate_of words)
 estimate-in_range [] = tt
 estimate-in_range (window ∷ []) = tt
-estimate-in_range (window ∷ (headroom ∷ [])) = go (number_in 1 1000 window) (number_in 100 1000 headroom) where
-  go : (w h : Option ℕ) → IsLineInRange (option_and_then (λ w. option_map (λ h. commands.Estimate w h) h) w)
-  go None h = tt
-  go (Some w) None = tt
-  go (Some w) (Some h) = tt
+estimate-in_range (window ∷ (headroom ∷ [])) =
+    go (number_in 1 1000 window) (number-between 1 1000 window) (number_in 100 1000 headroom) (number-between 100 1000 headroom) where
+      go : (w : Option ℕ) → IsBetween 1 1000 w → (h : Option ℕ) → IsBetween 100 1000 h → IsLineInRange (option_and_then (λ w. option_map (λ h. commands.Estimate w h) h) w)
+      go None p h q = tt
+      go (Some w) p None q = tt
+      go (Some w) p (Some h) q = (p.0, p.1, q.0, q.1)
 estimate-in_range (window ∷ (headroom ∷ (other ∷ more))) = tt
 
 levels-in_range : (words : List Text) → IsLineInRange (levels_of words)
@@ -161,3 +165,34 @@ made-in_range (Some (commands.Estimate window headroom)) p = tt
 -- the size of a made document is in range
 pub made_words-in_range : (words : List Text) (line : MadeLine) → made_line_of words ≡ Some line → IsSize (made_size line)
 made_words-in_range words line is = subst IsMadeInRange is (made-in_range (command_line_of words) (command-in_range words))
+
+abbrev IsPartInRange : Option PartedLine → Type 0
+IsPartInRange None = Unit {0}
+IsPartInRange (Some line) = IsPartedInRange line
+
+parted-in_range : (line : Option CommandLine) → IsLineInRange line → IsPartInRange (option_and_then parted_by line)
+parted-in_range None p = tt
+parted-in_range (Some (commands.Document line)) p = tt
+parted-in_range (Some (commands.Run readers reads)) p = tt
+parted-in_range (Some (commands.Make seed groups tasks)) p = tt
+parted-in_range (Some (commands.Bulk seed groups tasks)) p = tt
+parted-in_range (Some commands.Audit) p = tt
+parted-in_range (Some commands.Tiers) p = tt
+parted-in_range (Some commands.Enforce) p = tt
+parted-in_range (Some (commands.Estimate window headroom)) p = p
+
+-- the numbers of a line that reads two parts are in range
+pub parted_words-in_range : (words : List Text) (line : PartedLine) → parted_line_of words ≡ Some line → IsPartedInRange line
+parted_words-in_range words line is = subst IsPartInRange is (parted-in_range (command_line_of words) (command-in_range words))
+
+-- no words are both a line that reads nothing and one that reads two parts
+pub not-both : {C : Type 0} → (line : Option CommandLine) (made : MadeLine) (parted : PartedLine) → option_and_then made_by line ≡ Some made → option_and_then parted_by line ≡ Some parted → C
+not-both None made parted e f = absurd (let none : None ≡ Some made = e in cc)
+not-both (Some (commands.Document line)) made parted e f = absurd (let none : None ≡ Some made = e in cc)
+not-both (Some (commands.Run readers reads)) made parted e f = absurd (let none : None ≡ Some made = e in cc)
+not-both (Some (commands.Make seed groups tasks)) made parted e f = absurd (let none : None ≡ Some parted = f in cc)
+not-both (Some (commands.Bulk seed groups tasks)) made parted e f = absurd (let none : None ≡ Some parted = f in cc)
+not-both (Some commands.Audit) made parted e f = absurd (let none : None ≡ Some made = e in cc)
+not-both (Some commands.Tiers) made parted e f = absurd (let none : None ≡ Some made = e in cc)
+not-both (Some commands.Enforce) made parted e f = absurd (let none : None ≡ Some made = e in cc)
+not-both (Some (commands.Estimate window headroom)) made parted e f = absurd (let none : None ≡ Some made = e in cc)

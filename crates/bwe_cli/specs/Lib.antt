@@ -5,3 +5,4 @@ pub mod MadeLines
 pub mod AuditReply
 pub mod Parted
 pub mod EstimateReply
+pub mod PartedLines

@@ -46,6 +46,7 @@ parted_reply line_reply input = reply_by line_reply (accepted_parts input)
 
 -- the code has the same parts, or what is written for a refused input
 abbrev pub AreRead : Result AcceptedParts Reply → read.Parted → Type 0
-AreRead parts (Read document part) =
-    (accepted : Accepted) × (parts ≡ Ok (record { accepted = accepted; part = part.now })) × IsDocumentOf accepted document × IsUsable document
+AreRead parts (Read held bytes part) =
+    (accepted : Accepted) × (parts ≡ Ok (record { accepted = accepted; part = part.now })) × (document bytes.now ≡ Ok accepted)
+    × IsDocumentOf accepted held × IsUsable held
 AreRead parts (Refused answer) = parts ≡ Err (record { status = answer.status; text = answer.text.items })

@@ -23,7 +23,6 @@ use table_text::table_text;
 /// The verdict on a text that is to be that of a run of the document, which `input` is read as.
 ///
 /// The document is read a second time: one allocator makes the table at the text's end, the other follows its history.
-#[allow(dead_code)]
 pub(crate) fn audit(
     alloc: Global,
     document: Document,

@@ -34,7 +34,7 @@ pub(crate) fn estimate(
     requires headroom { headroom ≤ MAX_HEADROOM }
     ensures { IfOk result (λ answer. record { status = answer.status; text = answer.text.items }
         ≡ estimate_reply (texts_of document.names) (known_by document.names document.task_owners.items)
-            (plan_in document) document.script.items window headroom part.now) }
+        (plan_in document) document.script.items window headroom part.now) }
 {
     let Document {
         script,

@@ -2,7 +2,9 @@
 //!
 //! The program calls `bwe_once` with the standard streams. Its contract (`specs/Replies.antt`, and `Ending` of `one_run`)
 //! carries the bytes: with status 0, `solve` has written the text of the table that the allocation of the document's
-//! script is, `check` that its closings are right, and `levels` what each group may have at a share. `make` and `bulk` read nothing (`specs/MadeLines.antt`): `make` writes
+//! script is, `check` that its closings are right, and `levels` what each group may have at a share. `estimate` and `audit`
+//! read a second part behind the document (`specs/PartedLines.antt`): `estimate` writes the table after the estimates of its
+//! samples, `audit` the verdict on it as a printed run. `make` and `bulk` read nothing (`specs/MadeLines.antt`): `make` writes
 //! the made document, `bulk` the summary of its table, and they never refuse it. Nothing is promised of time, nor that
 //! memory is there.
 #![tactic(auto)]
@@ -15,6 +17,8 @@ ghost use Rattle.bwe_cli.specs.RunLine.{IsReplyTo, asked_of};
 ghost use Rattle.bwe_cli.specs.declared.run.Asked.{Asked};
 ghost use Rattle.bwe_cli.specs.MadeLines.{made_line_of, made_reply};
 ghost use Rattle.bwe_cli.specs.declared.made.MadeLine.{MadeLine};
+ghost use Rattle.bwe_cli.specs.PartedLines.{parted_line_of, parted_line_reply};
+ghost use Rattle.bwe_cli.specs.declared.two_parts.PartedLine.{PartedLine};
 
 mod audit;
 mod check;
@@ -25,21 +29,23 @@ mod made;
 mod parted;
 mod run;
 mod solve;
+mod two_parts;
 
 use bwe_io::{Sink, Source};
 use bwe_specs::OutOfMemory;
 use command_line::{CommandLine, Line, USAGE, command_line_of_words};
 use crew_actors::Gate;
-use documents::Documents;
 use levels::serve_levels;
 pub use made::MadeLine;
 use made::{made_line_of_words, serve_made};
-use one_run::{MAX_INPUT, TOO_LONG, serve};
+use one_run::{MAX_INPUT, TOO_LONG};
 pub use run::Asked;
 use run::serve_run;
 use std::alloc::Global;
 use std::sync::Wait;
 use std::thread::Threads;
+pub use two_parts::PartedLine;
+use two_parts::serve_reading;
 
 /// Serves one command line, and answers the status ("Statuses", docs/FORMAT.md). `words` are those after the program's
 /// name.
@@ -52,10 +58,26 @@ pub fn bwe_once<S: Source, K: Sink>(
     source: &mut S,
     sink: &mut K,
 ) -> u8
-    // Every line but `make` and `bulk`, and words that are no line.
-    ensures other { made_line_of (texts_of words.now) ≡ None → Ending (record {
+    // A line on one document, and words that are no line.
+    ensures other { made_line_of (texts_of words.now) ≡ None → parted_line_of (texts_of words.now) ≡ None → Ending (record {
       line = line_of (texts_of words.now);
       replies = λ line input given. given ≡ reply line input;
+      left = S.left source.old;
+      left_after = S.left source.new;
+      read_faults = S.faults source.old;
+      read_faults_after = S.faults source.new;
+      written = K.written sink.old;
+      written_after = K.written sink.new;
+      write_faults = K.faults sink.old;
+      write_faults_after = K.faults sink.new;
+    })
+        MAX_INPUT USAGE.now TOO_LONG.now result }
+
+    // With status 0, `estimate` has written the text of the table after the script and the estimates, and `audit` that the
+    // second part is a lawful run; with status 1 `audit` has written the first fault in it.
+    ensures parted { (line : PartedLine) → parted_line_of (texts_of words.now) ≡ Some line → Ending (record {
+      line = Some line;
+      replies = λ line input given. given ≡ parted_line_reply line input;
       left = S.left source.old;
       left_after = S.left source.new;
       read_faults = S.faults source.old;
@@ -76,17 +98,16 @@ pub fn bwe_once<S: Source, K: Sink>(
 {
     match made_line_of_words(alloc, words) {
         Ok(Some(line)) => serve_made(alloc, line, sink),
-        Ok(None) => serve(alloc, &Documents, words, source, sink),
+        Ok(None) => serve_reading(alloc, words, source, sink),
         Err(OutOfMemory) => 6,
     }
 }
 
 /// Serves one command line of the program, and answers the status ("Statuses", docs/FORMAT.md).
 ///
-/// The lines `solve`, `check`, `make` and `bulk` are those of `bwe_once`; `levels` has the same text, of values that threads
-/// work out. `run` puts a reporter for each of the document's reporters, the
-/// allocator and the readers on threads; `gate` is called round each of their calls. What is written is the text of what
-/// they did, and the table at its end is the one that `solve` writes.
+/// All lines but `run` are those of `bwe_once`; `levels` has the same text, of values that threads work out. `run` puts a
+/// reporter for each of the document's reporters, the allocator and the readers on threads; `gate` is called round each of
+/// their calls. What is written is the text of what they did, and the table at its end is the one that `solve` writes.
 pub fn bwe<S: Source, K: Sink, G: Gate + Sync, R: Threads + Wait + Sync>(
     rt: &R,
     alloc: Global,
@@ -95,8 +116,8 @@ pub fn bwe<S: Source, K: Sink, G: Gate + Sync, R: Threads + Wait + Sync>(
     sink: &mut K,
     gate: &G,
 ) -> u8
-    // Every line but `run`, `make` and `bulk`, and words that are no line, as `bwe_once`.
-    ensures other { asked_of (texts_of words.now) ≡ None → made_line_of (texts_of words.now) ≡ None → Ending (record {
+    // A line on one document, and words that are no line, as `bwe_once`.
+    ensures other { asked_of (texts_of words.now) ≡ None → made_line_of (texts_of words.now) ≡ None → parted_line_of (texts_of words.now) ≡ None → Ending (record {
       line = line_of (texts_of words.now);
       replies = λ line input given. given ≡ reply line input;
       left = S.left source.old;
@@ -114,6 +135,21 @@ pub fn bwe<S: Source, K: Sink, G: Gate + Sync, R: Threads + Wait + Sync>(
     ensures run { (asked : Asked) → asked_of (texts_of words.now) ≡ Some asked → Ending (record {
       line = Some asked;
       replies = λ asked input given. IsReplyTo asked input given;
+      left = S.left source.old;
+      left_after = S.left source.new;
+      read_faults = S.faults source.old;
+      read_faults_after = S.faults source.new;
+      written = K.written sink.old;
+      written_after = K.written sink.new;
+      write_faults = K.faults sink.old;
+      write_faults_after = K.faults sink.new;
+    })
+        MAX_INPUT USAGE.now TOO_LONG.now result }
+
+    // `estimate` and `audit` as `bwe_once`.
+    ensures parted { (line : PartedLine) → parted_line_of (texts_of words.now) ≡ Some line → Ending (record {
+      line = Some line;
+      replies = λ line input given. given ≡ parted_line_reply line input;
       left = S.left source.old;
       left_after = S.left source.new;
       read_faults = S.faults source.old;

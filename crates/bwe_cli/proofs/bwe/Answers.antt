@@ -13,10 +13,13 @@ serve_run-requires-after_bounds g c κs within =
     words-in_range (texts_of c.args.words.now) _ (ap (option_and_then asked_by) is)
 
 pub returns-in-Err-clause-other : goal.returns-in-Err-clause-other
-returns-in-Err-clause-other g c = λ other reads. out_of_memory (λ none. refl) (Keeps-same _)
+returns-in-Err-clause-other g c = λ other reads whole. out_of_memory (λ none. refl) (Keeps-same _)
 
 pub returns-in-Err-clause-run : goal.returns-in-Err-clause-run
 returns-in-Err-clause-run g c = λ asked is. out_of_memory (λ none. refl) (Keeps-same _)
 
 pub returns-in-Err-clause-made : goal.returns-in-Err-clause-made
 returns-in-Err-clause-made g c = λ line is. untold (Keeps-same _)
+
+pub returns-in-Err-clause-parted : goal.returns-in-Err-clause-parted
+returns-in-Err-clause-parted g c = λ line is. out_of_memory (λ none. refl) (Keeps-same _)
