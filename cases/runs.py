@@ -10,7 +10,8 @@ and each makes 1,000 reads and one at the end. What is checked of a printed run:
 - each line's total is that of the table which `solve` writes for the first reports of the history, as many as its prefix;
 - that table's links carry what its path groups put on them, rounded up, and no more than their capacities after these
   reports; its limits, amounts and total add up;
-- the table at the end is the one that `solve` writes for the document, and for the printed history.
+- the table at the end is the one that `solve` writes for the document, and for the printed history;
+- `audit` of the document and the text says `legal`, and of the text with one digit changed it does not.
 
 The last line says how much was seen. The status is 0 where all runs passed.
 """
@@ -227,7 +228,23 @@ def check_run(program, document):
     table = "".join(line + "\n" for line in lines)
     need(table == written(program, ["solve"], document), "table at the end")
     need(table == written(program, ["solve"], {**document, "script": history}), "table of the history")
+    check_audit(program, document, text)
     return history != document["script"], prefixes, len(history)
+
+
+def check_audit(program, document, text):
+    given = json.dumps(document).encode()
+
+    def audited(second):
+        whole = str(len(given)).encode() + b"\n" + given + second
+        return subprocess.run([program, "audit"], input=whole, capture_output=True, timeout=120)
+
+    sound = audited(text.encode())
+    need((sound.returncode, sound.stdout) == (0, b"legal\n"), f"audit says {sound.stdout!r} of a printed run")
+    place = max(place for place, letter in enumerate(text) if letter.isdigit())
+    turned = text[:place] + str((int(text[place]) + 1) % 10) + text[place + 1:]
+    wrong = audited(turned.encode())
+    need(wrong.returncode == 1 and wrong.stdout.endswith(b": table\n"), f"audit says {wrong.stdout!r} of another total")
 
 
 def main(words):
