@@ -3,3 +3,4 @@ pub mod Lists
 pub mod Members
 pub mod Counting
 pub mod JsonReading
+pub mod Parts

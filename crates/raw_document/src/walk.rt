@@ -17,7 +17,7 @@ where
     requires { F.IsAlwaysCallable read }
     ensures { ReadsEach (FnReturnsAt F.Fn read) items.now result }
 {
-    let mut found = Vec::new(alloc);
+    let mut found = Vec::with_capacity(alloc, items.len())?;
     for (place, item) in items.iter().enumerate() {
         match read(item) {
             Ok(value) => found.push(value)?,

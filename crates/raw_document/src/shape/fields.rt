@@ -7,7 +7,7 @@ ghost use Rattle.std.specs.BTreeMap.{keys};
 ghost use Rattle.serde_json.specs.Find.{as_object};
 ghost use Rattle.serde_json.specs.View.{view, items_view, members_view};
 ghost use Rattle.raw_document.specs.Members.{AreAsMany};
-ghost use Rattle.raw_document.specs.Reading.{Gives, IsFaultAt};
+ghost use Rattle.raw_document.specs.Reading.{Gives, IsFaultAt, under as at_key};
 ghost use Rattle.raw_document.specs.Raw.{name_view};
 ghost use Rattle.raw_document.specs.declared.doc_path.PathStep.TheVariants.{Key};
 ghost use Rattle.raw_document.specs.Shape.{whole, text, point, pair_of, field, optional, is_one_of, has_all, has_only, object};
@@ -36,6 +36,20 @@ pub fn text_of(alloc: Global, value: &Value) -> Result<&str, Fault>
         Some(text) => Ok(text),
         None => Err(Fault::here(alloc)),
     }
+}
+
+/// A number that is the member of a key.
+pub fn whole_at(alloc: Global, key: DocKey, value: &Value) -> Result<u64, Fault>
+    ensures { Gives (λ number. number) result (at_key (Key key) (whole (view value.now))) }
+{
+    under(PathStep::Key { name: key }, whole_of(alloc, value))
+}
+
+/// A text that is the member of a key.
+pub fn text_at(alloc: Global, key: DocKey, value: &Value) -> Result<&str, Fault>
+    ensures { Gives name_view result (at_key (Key key) (text (view value.now))) }
+{
+    under(PathStep::Key { name: key }, text_of(alloc, value))
 }
 
 /// A required member that is missing.

@@ -1,12 +1,13 @@
 //! The objects of a document.
 
-ghost use Rattle.std.specs.Prelude.{◌≡◌};
+ghost use Rattle.std.specs.Prelude.{◌≡◌, ◌==◌, ◌||◌, not, option_map};
 ghost use Rattle.serde_json.specs.View.{view};
 ghost use Rattle.raw_document.specs.Reading.{each_view, Gives};
 ghost use Rattle.raw_document.specs.Shape.{text, point, function, field, optional};
 ghost use Rattle.raw_document.specs.Shape as kinds;
 ghost use Rattle.raw_document.specs.Raw.{name_view, link_view, path_view, path_group_view, task_view, function_view, job_view, user_view, group_view, report_view, closing_view, raw_view};
 ghost use Rattle.raw_document.specs.Forms.{weight_at, closings_at, link_at, path_at, task_at, job_at, user_at, group_at, is_of_link, demand_at, capacity_at, report_at, closing_at, document_at};
+ghost use Rattle.raw_document.specs.Parts as parts;
 ghost use Rattle.raw_document.specs.declared.key.DocKey.TheVariants as keys;
 
 use crate::doc_path::{Fault, PathStep};
@@ -16,9 +17,11 @@ use crate::raw::{
     RawUser,
 };
 use crate::shape::fields::{
-    check_object, optional_text_in, optional_whole_in, point_of, text_in, text_of, whole_in,
+    check_object, optional_text_in, optional_whole_in, point_of, text_at, text_in, text_of,
+    whole_at, whole_in,
 };
 use crate::shape::lists::{list_in, list_of};
+use crate::shape::members::{three_members, two_members};
 use serde_json::Value;
 use std::alloc::Global;
 
@@ -115,8 +118,40 @@ fn weight_in(alloc: Global, value: &Value) -> Result<u64, Fault>
     Ok(optional_whole_in(alloc, value, DocKey::Weight)?.unwrap_or(1))
 }
 
+// A task of its name and its reporter, and of its weight where that stands.
+#[tactic(auto, unfolding(crate::specs::Parts::task_of_parts))]
+fn task_of_parts<'v>(
+    alloc: Global,
+    name: &'v Value,
+    reporter: &'v Value,
+    weight: Option<&'v Value>,
+) -> Result<RawTask<'v>, Fault>
+    ensures { Gives task_view result
+        (parts.task_of_parts (view name.now) (view reporter.now) (option_map (λ weight. view weight.now) weight.entry)) }
+{
+    let name = text_at(alloc, DocKey::Name, name)?;
+    let reporter = text_at(alloc, DocKey::Reporter, reporter)?;
+    let weight = match weight {
+        Some(weight) => whole_at(alloc, DocKey::Weight, weight)?,
+        None => 1,
+    };
+    Ok(RawTask {
+        name,
+        reporter,
+        weight,
+    })
+}
+
+// Whether a task may have a weight.
+fn has_weights(version: u64) -> bool
+    ensures { result ≡ not (version == 1 || version == 2) }
+{
+    version != 1 && version != 2
+}
+
+// A task whose members are asked for by their keys, which finds what is wrong with it.
 #[tactic(auto, unfolding(crate::specs::Forms::task_at))]
-fn task_of(alloc: Global, value: &Value, version: u64) -> Result<RawTask<'_>, Fault>
+fn task_by_keys(alloc: Global, value: &Value, version: u64) -> Result<RawTask<'_>, Fault>
     ensures { Gives task_view result (task_at version (view value.now)) }
 {
     let required = [DocKey::Name, DocKey::Reporter];
@@ -125,11 +160,7 @@ fn task_of(alloc: Global, value: &Value, version: u64) -> Result<RawTask<'_>, Fa
         alloc,
         value,
         &required,
-        if version == 1 || version == 2 {
-            &[]
-        } else {
-            &others
-        },
+        if has_weights(version) { &others } else { &[] },
     )?;
     let name = text_in(alloc, value, DocKey::Name)?;
     let reporter = text_in(alloc, value, DocKey::Reporter)?;
@@ -139,6 +170,27 @@ fn task_of(alloc: Global, value: &Value, version: u64) -> Result<RawTask<'_>, Fa
         reporter,
         weight,
     })
+}
+
+// Tasks are many, and mostly have just the members that they need, so these are looked for first.
+#[tactic(auto, using(crate::proofs::Parts::task_of_two, crate::proofs::Parts::task_of_three))]
+fn task_of(alloc: Global, value: &Value, version: u64) -> Result<RawTask<'_>, Fault>
+    ensures { Gives task_view result (task_at version (view value.now)) }
+{
+    if let Some((name, reporter)) = two_members(value, DocKey::Name, DocKey::Reporter) {
+        return task_of_parts(alloc, name, reporter, None);
+    }
+    if has_weights(version)
+        && let Some((name, reporter, weight)) = three_members(
+            value,
+            DocKey::Name,
+            DocKey::Reporter,
+            DocKey::Weight,
+        )
+    {
+        return task_of_parts(alloc, name, reporter, Some(weight));
+    }
+    task_by_keys(alloc, value, version)
 }
 
 fn tasks_in(alloc: Global, value: &Value, version: u64) -> Result<Vec<RawTask<'_>>, Fault>
@@ -321,14 +373,47 @@ fn capacity_of(alloc: Global, value: &Value) -> Result<RawReport<'_>, Fault>
     })
 }
 
+// A report of a demand of its three values.
+#[tactic(auto, unfolding(crate::specs::Parts::demand_of_parts))]
+fn demand_of_parts<'v>(
+    alloc: Global,
+    reporter: &'v Value,
+    task: &'v Value,
+    demand: &'v Value,
+) -> Result<RawReport<'v>, Fault>
+    ensures { Gives report_view result
+        (parts.demand_of_parts (view reporter.now) (view task.now) (view demand.now)) }
+{
+    let reporter = text_at(alloc, DocKey::Reporter, reporter)?;
+    let task = text_at(alloc, DocKey::Task, task)?;
+    let amount = whole_at(alloc, DocKey::Demand, demand)?;
+    Ok(RawReport {
+        reporter,
+        target: RawTarget::Task(task),
+        amount,
+    })
+}
+
+// A report whose members are asked for by their keys, which finds what is wrong with it.
 #[tactic(auto, unfolding(crate::specs::Forms::report_at))]
-fn report_of(alloc: Global, value: &Value, version: u64) -> Result<RawReport<'_>, Fault>
+fn report_by_keys(alloc: Global, value: &Value, version: u64) -> Result<RawReport<'_>, Fault>
     ensures { Gives report_view result (report_at version (view value.now)) }
 {
     if is_link_report(value, version) {
         capacity_of(alloc, value)
     } else {
         demand_of(alloc, value)
+    }
+}
+
+// Reports of demands are many, so their members are looked for first.
+#[tactic(auto, using(crate::proofs::Parts::demand_of_three))]
+fn report_of(alloc: Global, value: &Value, version: u64) -> Result<RawReport<'_>, Fault>
+    ensures { Gives report_view result (report_at version (view value.now)) }
+{
+    match three_members(value, DocKey::Demand, DocKey::Reporter, DocKey::Task) {
+        Some((demand, reporter, task)) => demand_of_parts(alloc, reporter, task, demand),
+        None => report_by_keys(alloc, value, version),
     }
 }
 
