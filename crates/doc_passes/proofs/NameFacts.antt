@@ -5,8 +5,8 @@ use Rattle.std.specs.Str.{bytes_eq}
 use Rattle.raw_document.specs.declared.key.DocKey.TheVariants as keys
 use Rattle.raw_document.specs.declared.doc_path.PathStep.{PathStep}
 use Rattle.raw_document.specs.declared.doc_path.PathStep.TheVariants.{Key}
-use Rattle.raw_document.specs.Reading.{◌>>=◌, under, fold_each}
-use Rattle.raw_document.specs.Raw.{Link, Task, Job, User, Group, Raw}
+use Rattle.raw_document.specs.Reading.{◌>>=◌, fold_each}
+use Rattle.raw_document.specs.Raw.{Job, User, Group, Raw}
 use Rattle.doc_passes.specs.Limits.{sum_of}
 use Rattle.doc_passes.specs.Passed.{AreNamesOf}
 use Rattle.doc_passes.specs.Counts.{job_tasks, user_tasks, group_tasks, task_count}

@@ -1,7 +1,8 @@
 -- Names in a set of texts.
-use Rattle.std.proofs.Common.{◌≡◌, ℕ, ◌+◌, Bool, true, false, cond, List, [], ◌∷◌, ◌++◌, map, Option, Some, Result, Ok, Err, Bor, refl, sym, ap, ◌∙◌}
-use Rattle.std.specs.Prelude.{position, not}
-use Rattle.std.specs.List.{list_any, position_from}
+use Rattle.std.proofs.Common.{◌≡◌, ℕ, zero, suc, ◌+◌, Bool, true, false, cond, List, [], ◌∷◌, ◌++◌, map, Option, Some, None, Result, Ok, Err, Bor, refl, sym, ap, subst, ◌∙◌, arith}
+use Rattle.std.specs.Prelude.{position, not, slice_get}
+use Rattle.std.specs.List.{list_any, position_from, AllByRecursion, IsDistinct}
+use Rattle.std.specs.Cmp.Lexicographic.{nat_list_eq_equiv}
 use Rattle.std.specs.Str.{bytes_eq}
 use Rattle.std.proofs.lemmas.List.{map_push}
 use Rattle.std.proofs.lemmas.Iterator.Adapters.{position_from-zero}
@@ -52,3 +53,42 @@ there_from is_new false e f = sym f ∙ e
 pub fails_here : {A : Type 0} (q : Result A (List PathStep)) (fault : Fault) → q ≡ Err [] → IsFaultAt [] fault → Fails fault q
 fails_here q OutOfMemory e is = tt
 fails_here q (At path) e is = e ∙ ap Err (sym is)
+
+-- ---- a name that is guessed to have a number
+
+all_at : {A : Type 0} (P : A → Type 0) (xs : List A) (i : ℕ) (x : A) → AllByRecursion P xs → slice_get xs i ≡ Some x → P x
+all_at P [] i x all at = absurd (let none : None ≡ Some x = at in cc)
+all_at P (y ∷ ys) zero x all at = subst P (let is : y ≡ x = (let same : Some y ≡ Some x = at in cc) in is) all.0
+all_at P (y ∷ ys) (suc i) x all at = all_at P ys i x all.1 at
+
+abbrev are_equal : Bor (List ℕ) → Bor (List ℕ) → Bool
+are_equal x y = bytes_eq x.now y.now
+
+-- a name before one that is equal to it would be no other name
+first_of_name : (name : List ℕ) (before found : Bor (List ℕ)) → are_equal before found ≡ false → bytes_eq found.now name ≡ true → bytes_eq name before.now ≡ false
+first_of_name name before found apart same = by (bytes_eq name before.now) refl where
+  by : (b : Bool) → bytes_eq name before.now ≡ b → b ≡ false
+  by false e = refl
+  by true e = absurd
+      (let to_name : bytes_eq before.now name ≡ true = nat_list_eq_equiv.symm before.now name ∙ e in
+      let to_found : bytes_eq before.now found.now ≡ true = nat_list_eq_equiv.congr before.now name found.now to_name ∙ nat_list_eq_equiv.symm name found.now ∙ same in
+      let both : true ≡ false = sym to_found ∙ apart in cc)
+
+placed_from : (name : List ℕ) (ks : List (Bor (List ℕ))) (start i : ℕ) (found : Bor (List ℕ)) → IsDistinct are_equal ks → slice_get ks i ≡ Some found → bytes_eq found.now name ≡ true → position_from (λ k. bytes_eq name k.now) start ks ≡ Some (start + i)
+unfolding IsDistinct
+placed_from name [] start i found distinct at same = absurd (let none : None ≡ Some found = at in cc)
+placed_from name (k ∷ ks) start zero found distinct at same =
+    let is : k ≡ found = (let some : Some k ≡ Some found = at in cc) in
+    let here : bytes_eq name k.now ≡ true = subst (λ (x : Bor (List ℕ)). bytes_eq name x.now ≡ true) (sym is) (nat_list_eq_equiv.symm name found.now ∙ same) in
+    ap (λ b. cond b (Some start) (position_from (λ k. bytes_eq name k.now) (start + 1) ks)) here
+    ∙ ap Some (let end : start ≡ start + 0 = omega arith in end)
+placed_from name (k ∷ ks) start (suc i) found distinct at same =
+    ap (λ b. cond b (Some start) (position_from (λ k. bytes_eq name k.now) (start + 1) ks))
+    (first_of_name name k found (all_at (λ y. are_equal k y ≡ false) ks i found distinct.0 at) same)
+    ∙ placed_from name ks (start + 1) i found distinct.1 at same
+    ∙ ap Some (let end : (start + 1) + i ≡ start + suc i = omega arith in end)
+
+-- the name has the number at which it stands
+pub number_at : (ks : List (Bor (List ℕ))) (name : List ℕ) (i : ℕ) (found : Bor (List ℕ)) → IsDistinct are_equal ks → slice_get ks i ≡ Some found → bytes_eq found.now name ≡ true → number_in (texts ks) name ≡ Ok i
+number_at ks name i found distinct at same =
+    number_is ks name (Some i) (sym (position_from-zero (λ k. bytes_eq name k.now) ks ∙ placed_from name ks 0 i found distinct at same ∙ ap Some (let end : 0 + i ≡ i = omega arith in end)))

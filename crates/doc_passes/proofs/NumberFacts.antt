@@ -1,5 +1,5 @@
 -- The numbers of a document whose names are known are in range.
-use Rattle.std.proofs.Common.{◌≡◌, ℕ, suc, ◌+◌, ◌<◌, ◌≤◌, Bool, List, [], ◌∷◌, ◌++◌, length, map, Option, Some, None, Result, Ok, Err, refl, sym, ap, subst, ◌∙◌, arith, length-append}
+use Rattle.std.proofs.Common.{◌≡◌, ℕ, ◌+◌, ◌<◌, ◌≤◌, List, [], ◌∷◌, ◌++◌, length, Option, Some, None, Result, Ok, sym, ap, subst, ◌∙◌, arith, length-append}
 use Rattle.std.specs.Prelude.{All, position}
 use Rattle.std.specs.Str.{bytes_eq}
 use Rattle.std.proofs.lemmas.List.Elements.{All-nil, All-push, All-same}
@@ -10,7 +10,7 @@ use Rattle.bwe_specs.specs.declared.report.Target.{Target}
 use Rattle.bwe_specs.specs.declared.report.Target.TheVariants as targets
 use Rattle.bwe_specs.specs.declared.report.Report.{Report}
 use Rattle.bwe_specs.specs.Paths.{Path, PathGroup, PathGroups}
-use Rattle.demand_book.specs.Fit.{IsInRange, IsFit}
+use Rattle.demand_book.specs.Fit.{IsInRange}
 use Rattle.path_groups.specs.Given.{Group, AreInRange}
 use Rattle.raw_document.specs.declared.key.DocKey.{DocKey}
 use Rattle.raw_document.specs.declared.key.DocKey.TheVariants as keys

@@ -1,5 +1,5 @@
 -- A document without a fault of range is in range.
-use Rattle.std.proofs.Common.{◌≡◌, ℕ, ◌≤◌, Bool, true, List, Result, Ok, leb, arith}
+use Rattle.std.proofs.Common.{◌≡◌, ℕ, ◌≤◌, Bool, true, List, Result, Ok}
 use Rattle.std.specs.Prelude.{All, ⊤, nat_le}
 use Rattle.std.proofs.lemmas.Bool.{and_parts, leb-true}
 use Rattle.bwe_specs.specs.declared.limits.TheConstants.{MAX_AMOUNT, MAX_SHARE, MAX_WEIGHT}
@@ -7,8 +7,8 @@ use Rattle.raw_document.specs.declared.key.DocKey.{DocKey}
 use Rattle.raw_document.specs.declared.key.DocKey.TheVariants as keys
 use Rattle.raw_document.specs.declared.doc_path.PathStep.{PathStep}
 use Rattle.raw_document.specs.declared.doc_path.PathStep.TheVariants.{Key}
-use Rattle.raw_document.specs.Reading.{◌>>=◌, under, check, check_each}
-use Rattle.raw_document.specs.Raw.{Link, Path, Task, Job, User, Group, Target, of_task, of_link, Report, Closing, Raw}
+use Rattle.raw_document.specs.Reading.{◌>>=◌, check, check_each}
+use Rattle.raw_document.specs.Raw.{Task, Job, User, Group, Target, of_task, of_link, Report, Closing, Raw}
 use Rattle.doc_passes.specs.Ranges as ranges
 use Rattle.doc_passes.specs.Ranges.{is_name, is_within, member_range, items_range}
 use Rattle.doc_passes.specs.InRange.{HasTaskWeight, HasJobWeights, HasUserWeights, HasGroupWeights, IsInRange}

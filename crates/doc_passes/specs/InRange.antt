@@ -1,5 +1,5 @@
 -- What the ranges of a document say of its weights, amounts and shares.
-use Rattle.std.specs.Prelude.{ℕ, ◌≤◌, List, All}
+use Rattle.std.specs.Prelude.{◌≤◌, All}
 use Rattle.bwe_specs.specs.declared.limits.TheConstants.{MAX_AMOUNT, MAX_SHARE, MAX_WEIGHT}
 use Rattle.raw_document.specs.Raw.{Task, Job, User, Group, Report, Closing, Raw}
 

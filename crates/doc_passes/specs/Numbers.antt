@@ -3,7 +3,7 @@ use Rattle.std.specs.Prelude.{ℕ, List, [], ◌∷◌, ◌++◌, Option, Some, 
 use Rattle.raw_document.specs.declared.key.DocKey.TheVariants as keys
 use Rattle.raw_document.specs.declared.doc_path.PathStep.{PathStep}
 use Rattle.raw_document.specs.declared.doc_path.PathStep.TheVariants.{Key}
-use Rattle.raw_document.specs.Reading.{◌>>=◌, under, each, fold_each}
+use Rattle.raw_document.specs.Reading.{◌>>=◌, under, each}
 use Rattle.raw_document.specs.Raw as raw
 use Rattle.bwe_specs.specs.declared.network.Closing.{Closing}
 use Rattle.bwe_specs.specs.declared.report.Target.{Target}

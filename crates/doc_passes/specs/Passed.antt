@@ -1,5 +1,5 @@
 -- What the passes on names and numbers show of a document that they let through.
-use Rattle.std.specs.Prelude.{◌≡◌, ℕ, ◌<◌, ◌≤◌, List, length, Option, Some, None, All}
+use Rattle.std.specs.Prelude.{◌≡◌, ℕ, ◌<◌, ◌≤◌, length, Option, Some, None, All}
 use Rattle.bwe_specs.specs.declared.limits.TheConstants.{MAX_GROUPS, MAX_REPORTERS, MAX_REPORTS, MAX_SHARE}
 use Rattle.bwe_specs.specs.declared.network.Closing.{Closing}
 use Rattle.bwe_specs.specs.declared.report.Report.{Report}

@@ -1,6 +1,6 @@
 //! Names in the order in which they stand, each with its number.
 
-ghost use Rattle.std.specs.Prelude.{◌≡◌, [], map, string_bytes, IfOk};
+ghost use Rattle.std.specs.Prelude.{◌≡◌, [], map, string_bytes, IfOk, IsTrue, Ok};
 ghost use Rattle.raw_document.specs.Reading.{Gives};
 ghost use Rattle.raw_document.specs.Raw.{name_view};
 ghost use Rattle.doc_passes.specs.Names.{fresh, number_in};
@@ -53,6 +53,28 @@ impl<'a> NameTable<'a> {
         ensures { Gives (λ number. number) result (number_in self.now name.now) }
     {
         number_of(alloc, &self.names, name)
+    }
+
+    /// The same, where the name is guessed to have a number. Takes no hash where the guess is right.
+    pub fn number_near(&self, alloc: Global, name: &str, guess: u32) -> Result<u32, Fault>
+        ensures { Gives (λ number. number) result (number_in self.now name.now) }
+    {
+        if has_number(&self.names, name, guess) {
+            return Ok(guess);
+        }
+        self.number(alloc, name)
+    }
+}
+
+// Whether the name has this number, which it can have alone since names differ.
+fn has_number(names: &IndexSet<&str>, name: &str, number: u32) -> bool
+    ensures { IsTrue result → number_in (map name_view names.now.keys) name.now ≡ Ok number }
+{
+    // Who asks for the names learns that they differ.
+    let _names = names.as_slice();
+    match names.get_index(number as usize) {
+        Some(found) => *found == name,
+        None => false,
     }
 }
 

@@ -35,6 +35,18 @@ fn number_in_member(alloc: Global, key: DocKey, table: &NameTable, name: &str) -
     under(PathStep::Key { name: key }, table.number(alloc, name))
 }
 
+// The same, where the name is guessed to have a number.
+fn reporter_near(alloc: Global, reporters: &NameTable, name: &str, guess: u32) -> Result<u32, Fault>
+    ensures { Gives (λ number. number) result (under (Key keys.Reporter) (number_in reporters.now name.now)) }
+{
+    under(
+        PathStep::Key {
+            name: DocKey::Reporter,
+        },
+        reporters.number_near(alloc, name, guess),
+    )
+}
+
 fn link_owner(alloc: Global, link: &RawLink, reporters: &NameTable) -> Result<Option<u32>, Fault>
     ensures { Gives (λ owner. owner) result (spec.link_owner reporters.now (link_view link.now)) }
 {
@@ -127,7 +139,9 @@ fn add_task_owner(
     ensures { Gives (λ _. owners.new.items) result
         (spec.add_task_owner reporters.now owners.old.items (task_view task.now)) }
 {
-    let owner = number_in_member(alloc, DocKey::Reporter, reporters, task.reporter)?;
+    // The tasks of a job mostly have one owner.
+    let guess = owners.last().copied().unwrap_or(0);
+    let owner = reporter_near(alloc, reporters, task.reporter, guess)?;
     owners.push(owner)?;
     Ok(())
 }
@@ -307,6 +321,14 @@ fn target_number(
     }
 }
 
+// The owner of the target where it is a task, whose report should come from it. It is a guess, and no clause is needed.
+fn likely_reporter(target: &Result<Target, Fault>, task_owners: &[u32]) -> u32 {
+    match target {
+        Ok(Target::Task { number }) => task_owners.get(*number as usize).copied().unwrap_or(0),
+        _ => 0,
+    }
+}
+
 #[tactic(auto, unfolding(crate::specs::Numbers::report_numbers))]
 fn report_numbers(
     alloc: Global,
@@ -314,12 +336,15 @@ fn report_numbers(
     links: &NameTable,
     tasks: &NameTable,
     reporters: &NameTable,
+    task_owners: &[u32],
 ) -> Result<Report, Fault>
     ensures { Gives (λ report. report) result
         (spec.report_numbers links.now tasks.now reporters.now (report_view report.now)) }
 {
-    let reporter = number_in_member(alloc, DocKey::Reporter, reporters, report.reporter)?;
-    let target = target_number(alloc, &report.target, links, tasks)?;
+    let target = target_number(alloc, &report.target, links, tasks);
+    let guess = likely_reporter(&target, task_owners);
+    let reporter = reporter_near(alloc, reporters, report.reporter, guess)?;
+    let target = target?;
     Ok(Report {
         reporter,
         target,
@@ -333,6 +358,7 @@ fn script_numbers(
     links: &NameTable,
     tasks: &NameTable,
     reporters: &NameTable,
+    task_owners: &[u32],
 ) -> Result<Vec<Report>, Fault>
     ensures { Gives (λ script. script.items) result (under (Key keys.Script)
         (each (spec.report_numbers links.now tasks.now reporters.now) 0 (map report_view script.now))) }
@@ -342,7 +368,7 @@ fn script_numbers(
             name: DocKey::Script,
         },
         each_of(alloc, script, |report| {
-            report_numbers(alloc, report, links, tasks, reporters)
+            report_numbers(alloc, report, links, tasks, reporters, task_owners)
         }),
     )
 }
@@ -407,7 +433,7 @@ pub fn document_numbers(
             &mut task_owners,
         ),
     )?;
-    let script = script_numbers(alloc, &raw.script, links, tasks, reporters)?;
+    let script = script_numbers(alloc, &raw.script, links, tasks, reporters, &task_owners)?;
     let closings = closings_numbers(alloc, &raw.closings, links)?;
     Ok(DocumentNumbers {
         link_owners,
