@@ -1,10 +1,11 @@
 #!/usr/bin/env python3
-"""cases/compare.py [PROGRAM [COUNT [SEED]]]: compares `solve`, `check` and `levels` with a second, plain implementation.
+"""cases/compare.py [PROGRAM [COUNT [SEED]]]: compares lines with a second, plain implementation.
 
 Makes COUNT valid documents by chance (small shares, so that raising them one by one is quick), runs the program on each, and
 compares every byte with the table that this file computes from the rules of docs/DEFINITIONS.md as they are written there: one
-share after the other, and nothing searched by halves. The closings of that table have to be right for `check`, and the groups'
-values for `levels` at a share by chance, at times above the top.
+share after the other, and nothing searched by halves. The closings of that table have to be right for `check`, the groups'
+values for `levels` at a share by chance, at times above the top, the table of tiers by chance for `tiers`, and the world of regions
+after events by chance for `enforce`.
 The last line says how many documents agreed; the status is 0 where all did. Python's standard library is all it uses.
 """
 
@@ -127,21 +128,119 @@ class Filling:
         lines = [f"levels {share}"] + [f"level {group['name']} {value}" for group, value in zip(self.groups, values)]
         return "".join(line + "\n" for line in lines + [f"total {sum(values)}"])
 
-    def table(self, reports):
-        self.fill()
-        lines = [f"table {reports}"]
-        lines += [f"closing {link} at {share}" for link, share in self.closings]
-        lines += [f"link {link} load {self.load(link, self.amounts)}" for link in self.capacities]
+    def limits(self):
         limits = {}
-        for group, parts, stop in zip(self.groups, self.amounts, self.stops):
+        for group, parts in zip(self.groups, self.amounts):
+            distribute(group, sum(parts), self.top, self.demands, limits)
+        return limits
+
+    def closing_lines(self):
+        return [f"closing {link} at {share}" for link, share in self.closings]
+
+    def lines_behind(self, closings):
+        """What a table has after its closings; `closings` has for each group those that may close its path groups."""
+        lines = [f"link {link} load {self.load(link, self.amounts)}" for link in self.capacities]
+        limits = self.limits()
+        for group, parts, stop, of_group in zip(self.groups, self.amounts, self.stops, closings):
             lines.append(f"group {group['name']} share {stop} amount {sum(parts)}")
             for at, (path_group, amount) in enumerate(zip(group["paths"], parts)):
-                by = next((link for link, _ in self.closings if uses(path_group, [link])), None)
+                by = next((link for link, _ in of_group if uses(path_group, [link])), None)
                 lines.append(f"place {at} amount {amount} " + ("open" if by is None else f"closed by {by}"))
-            distribute(group, sum(parts), self.top, self.demands, limits)
         lines += [f"task {task} limit {limits[task]}" for task in self.demands]
-        lines.append(f"total {sum(map(sum, self.amounts))}")
+        return lines + [f"total {sum(map(sum, self.amounts))}"]
+
+    def table(self, reports):
+        self.fill()
+        lines = [f"table {reports}"] + self.closing_lines() + self.lines_behind([self.closings] * len(self.groups))
         return "".join(line + "\n" for line in lines)
+
+
+def table_of_tiers(document, tiers):
+    """The Tier text: each tier is filled over what the amounts of the tiers below it leave."""
+    whole = Filling(document)
+    closings = [[] for _ in tiers]
+    lines = [f"tiers {len(document['script'])}"]
+    for tier in range(max(tiers, default=-1) + 1):
+        filling = Filling(document)
+        filling.values = [values if own == tier else [0] * len(values) for own, values in zip(tiers, filling.values)]
+        filling.capacities = {link: capacity - whole.load(link, whole.amounts) for link, capacity in whole.capacities.items()}
+        filling.fill()
+        lines += [f"tier {tier}"] + filling.closing_lines()
+        for number in (number for number, own in enumerate(tiers) if own == tier):
+            whole.amounts[number], whole.stops[number] = filling.amounts[number], filling.stops[number]
+            closings[number] = filling.closings
+    return "".join(line + "\n" for line in lines + whole.lines_behind(closings))
+
+
+class World:
+    """A centre that posts tables of the first reports of the script, and a region for each reporter."""
+
+    def __init__(self, document):
+        self.document = document
+        self.posted = 0
+        self.floors, self.acked, self.in_force = ([start] * len(document["reporters"]) for start in (0, 0, None))
+        self.to_regions, self.to_centre = [], []
+
+    def step(self, word, number):
+        return getattr(self, word)(number)
+
+    def post(self, upto):
+        self.posted = min(max(upto, self.posted), len(self.document["script"]))
+        return f"posted {self.posted}"
+
+    def send(self, region):
+        self.to_regions.append((region, self.posted))
+        return f"sent {len(self.to_regions) - 1} prefix {self.posted}"
+
+    def deliver(self, message):
+        region, prefix = self.to_regions[message]
+        word = "took" if prefix >= self.floors[region] else "older"
+        if word == "took":
+            self.floors[region] = self.in_force[region] = prefix
+        self.to_centre.append((region, self.floors[region]))
+        return f"{word} {self.floors[region]} up {len(self.to_centre) - 1}"
+
+    def reply(self, message):
+        region, floor = self.to_centre[message]
+        self.acked[region] = max(self.acked[region], floor)
+        return f"acked {self.acked[region]}"
+
+    def restart(self, region):
+        self.in_force[region] = None
+        return f"restarted floor {self.floors[region]}"
+
+    def limit_lines(self, region):
+        filling = Filling(dict(self.document, script=self.document["script"][: self.in_force[region]]))
+        filling.fill()
+        limits, reporter = filling.limits(), self.document["reporters"][region]
+        owners = {task["name"]: task["reporter"] for group in self.document["groups"] for user in group["users"] for job in user["jobs"] for task in job["tasks"]}
+        return [f"task {task} limit {limits[task]}" for task in filling.demands if owners[task] == reporter]
+
+    def lines(self):
+        lines = []
+        for region, (floor, acked, prefix) in enumerate(zip(self.floors, self.acked, self.in_force)):
+            shown = "none" if prefix is None else prefix
+            lines.append(f"region {region} floor {floor} acked {acked} in force {shown}")
+            lines += [] if prefix is None else self.limit_lines(region)
+        return lines + [f"settled {min(self.acked, default=self.posted)}"]
+
+
+def make_events(chance, world):
+    """Events by chance, each of a region and a message that are there, with what the world answers."""
+    events, answers = [], []
+    for _ in range(chance.randint(0, 40)):
+        choices = {
+            "post": len(world.document["script"]) + 2,
+            "send": len(world.floors),
+            "deliver": len(world.to_regions),
+            "reply": len(world.to_centre),
+            "restart": len(world.floors) if chance.random() < 0.3 else 0,
+        }
+        word = chance.choice([word for word, count in choices.items() if count])
+        number = chance.randrange(choices[word])
+        events.append(f"{word} {number}")
+        answers.append(world.step(word, number))
+    return events, answers
 
 
 # ---- documents by chance
@@ -216,12 +315,21 @@ def make_document(chance):
 
 # ---- the comparison
 
-def answer(program, line, document, *words):
-    ran = subprocess.run([program, line, *words], input=json.dumps(document).encode(), capture_output=True, timeout=60)
+def answer_to(program, words, given):
+    ran = subprocess.run([program, *words], input=given.encode(), capture_output=True, timeout=60)
     return ran.returncode, ran.stdout.decode(), ran.stderr.decode()
 
 
-def fault_of(program, document, share):
+def answer(program, line, document, *words):
+    return answer_to(program, [line, *words], json.dumps(document))
+
+
+def answer_to_parts(program, line, document, part):
+    text = json.dumps(document)
+    return answer_to(program, [line], f"{len(text)}\n{text}{part}")
+
+
+def fault_of(program, document, chance):
     """What the program says that it should not, or None."""
     filling = Filling(document)
     table = filling.table(len(document["script"]))
@@ -232,9 +340,20 @@ def fault_of(program, document, share):
     found = answer(program, "check", dict(document, closings=closings))
     if found != (0, "right\n", ""):
         return f"check: {found}"
+    share = chance.randint(0, document["top"] + 5)
     found = answer(program, "levels", document, str(share))
     if found != (0, filling.levels(share), ""):
         return f"levels {share}: {found}\nwanted:\n{filling.levels(share)}"
+    tiers = [chance.randint(0, 2) for _ in document["groups"]]
+    found, table = answer_to_parts(program, "tiers", document, "".join(map(str, tiers)) + "\n"), table_of_tiers(document, tiers)
+    if found != (0, table, ""):
+        return f"tiers {tiers}: {found}\nwanted:\n{table}"
+    world = World(document)
+    events, answers = make_events(chance, world)
+    found = answer_to_parts(program, "enforce", document, "".join(event + "\n" for event in events))
+    text = "".join(line + "\n" for line in answers + world.lines())
+    if found != (0, text, ""):
+        return f"enforce {events}: {found}\nwanted:\n{text}"
     return None
 
 
@@ -246,7 +365,7 @@ def main(words):
     for number in range(count):
         chance = random.Random(f"{seed} {number}")
         document = make_document(chance)
-        fault = fault_of(program, document, chance.randint(0, document["top"] + 5))
+        fault = fault_of(program, document, chance)
         if fault is None:
             agreed += 1
         else:

@@ -1,8 +1,8 @@
 #!/usr/bin/env python3
 """cases/growths.py [PROGRAM]: refuses each allocation in turn, and looks at how the program ends.
 
-`solve` and `run --readers 1 --reads 0` on examples/shared-link.json are run once for each allocation, which alone is refused (by a
-small library that stands before the C library's; `cc` builds it). Each run has to end with status 6 and nothing written, or with
+`solve` and `run --readers 1 --reads 0` on examples/shared-link.json, and `tiers` and `enforce` with a second part behind it, are run
+once for each allocation, which alone is refused (by a small library that stands before the C library's; `cc` builds it). Each run has to end with status 6 and nothing written, or with
 status 0 and the right text. The last lines say how many runs ended how; the status is 0 where all were right.
 """
 
@@ -77,6 +77,17 @@ def ends(program, words, document, library):
     return found, others
 
 
+def lines_on(document):
+    """The lines that are run, each with its input."""
+    with_part = lambda part: b"%d\n%s%s" % (len(document), document, part)
+    return [
+        (["solve"], document),
+        (["run", "--readers", "1", "--reads", "0"], document),
+        (["tiers"], with_part(b"01\n")),
+        (["enforce"], with_part(b"post 1\nsend 0\npost 2\ndeliver 0\nreply 0\nrestart 0\nsend 0\ndeliver 1\n")),
+    ]
+
+
 def main(words):
     program = words[0] if words else os.path.join(HERE, "..", "crates", "bwe", "out", "bwe")
     with open(os.path.join(HERE, "..", "examples", "shared-link.json"), "rb") as file:
@@ -84,8 +95,8 @@ def main(words):
     faults = 0
     with tempfile.TemporaryDirectory() as folder:
         library = build(folder)
-        for line in (["solve"], ["run", "--readers", "1", "--reads", "0"]):
-            found, others = ends(program, line, document, library)
+        for line, given in lines_on(document):
+            found, others = ends(program, line, given, library)
             faults += len(others)
             print(f"growths: {' '.join(line)}: {found['refused']} ended with status 6, {found['right']} with the right text, {len(others)} otherwise {others[:5] or ''}")
     return 1 if faults else 0

@@ -95,6 +95,19 @@ impl Allocator {
     {
         &self.plan
     }
+
+    /// The tree and the network as the reports left them, and the path groups.
+    pub fn into_parts(self) -> (PolicyTree, Topology, PathPlan)
+        ensures tree { result.0 ≡ self.reported.tree }
+        ensures network { result.1 ≡ self.reported.network }
+        ensures plan { result.2 ≡ self.groups }
+        ensures built_on { IsBuiltOn self.reported.network self.groups }
+        ensures groups { length self.reported.tree.clusters ≡ length self.groups }
+    {
+        let Allocator { reported, plan, .. } = self;
+        let (tree, topology) = reported.into_parts();
+        (tree, topology, plan)
+    }
 }
 
 impl Maker for Allocator {

@@ -108,6 +108,15 @@ impl Reported {
         }
     }
 
+    /// The tree and the network as the reports left them.
+    pub fn into_parts(self) -> (PolicyTree, Topology)
+        ensures tree { result.0 ≡ self.tree }
+        ensures network { result.1 ≡ self.network }
+    {
+        let Reported { tree, topology, .. } = self;
+        (tree, topology)
+    }
+
     fn absorb_demand(&mut self, task: u32, demand: u64) -> Result<(), OutOfMemory>
         requires task { task < length self.old.tree.demands }
         requires demand { demand ≤ MAX_AMOUNT }

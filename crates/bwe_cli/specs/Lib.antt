@@ -5,4 +5,6 @@ pub mod MadeLines
 pub mod AuditReply
 pub mod Parted
 pub mod EstimateReply
+pub mod TiersReply
+pub mod EnforceReply
 pub mod PartedLines

@@ -2,11 +2,11 @@
 //!
 //! The program calls `bwe_once` with the standard streams. Its contract (`specs/Replies.antt`, and `Ending` of `one_run`)
 //! carries the bytes: with status 0, `solve` has written the text of the table that the allocation of the document's
-//! script is, `check` that its closings are right, and `levels` what each group may have at a share. `estimate` and `audit`
-//! read a second part behind the document (`specs/PartedLines.antt`): `estimate` writes the table after the estimates of its
-//! samples, `audit` the verdict on it as a printed run. `make` and `bulk` read nothing (`specs/MadeLines.antt`): `make` writes
-//! the made document, `bulk` the summary of its table, and they never refuse it. Nothing is promised of time, nor that
-//! memory is there.
+//! script is, `check` that its closings are right, and `levels` what each group may have at a share. Four lines read a second
+//! part behind the document (`specs/PartedLines.antt`): `estimate` writes the table after the estimates of its samples,
+//! `audit` the verdict on it as a printed run, `tiers` the table of the groups' tiers, and `enforce` what its events do in a
+//! world of regions. `make` and `bulk` read nothing (`specs/MadeLines.antt`): `make` writes the made document, `bulk` the
+//! summary of its table, and they never refuse it. Nothing is promised of time, nor that memory is there.
 #![tactic(auto)]
 
 ghost use Rattle.std.specs.Prelude.{◌≡◌, Some, None};
@@ -23,12 +23,14 @@ ghost use Rattle.bwe_cli.specs.declared.two_parts.PartedLine.{PartedLine};
 mod audit;
 mod check;
 mod documents;
+mod enforce;
 mod estimate;
 mod levels;
 mod made;
 mod parted;
 mod run;
 mod solve;
+mod tiers_line;
 mod two_parts;
 
 use bwe_io::{Sink, Source};
@@ -73,8 +75,9 @@ pub fn bwe_once<S: Source, K: Sink>(
     })
         MAX_INPUT USAGE.now TOO_LONG.now result }
 
-    // With status 0, `estimate` has written the text of the table after the script and the estimates, and `audit` that the
-    // second part is a lawful run; with status 1 `audit` has written the first fault in it.
+    // With status 0, `estimate` has written the text of the table after the script and the estimates, `audit` that the second
+    // part is a lawful run, `tiers` the text of the table of tiers after the script, and `enforce` the text of the events in
+    // a world of regions; with status 1 `audit` has written the first fault of a run.
     ensures parted { (line : PartedLine) → parted_line_of (texts_of words.now) ≡ Some line → Ending (record {
       line = Some line;
       replies = λ line input given. given ≡ parted_line_reply line input;
@@ -146,7 +149,7 @@ pub fn bwe<S: Source, K: Sink, G: Gate + Sync, R: Threads + Wait + Sync>(
     })
         MAX_INPUT USAGE.now TOO_LONG.now result }
 
-    // `estimate` and `audit` as `bwe_once`.
+    // `estimate`, `audit`, `tiers` and `enforce` as `bwe_once`.
     ensures parted { (line : PartedLine) → parted_line_of (texts_of words.now) ≡ Some line → Ending (record {
       line = Some line;
       replies = λ line input given. given ≡ parted_line_reply line input;

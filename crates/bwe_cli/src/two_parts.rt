@@ -8,8 +8,10 @@ ghost use Rattle.bwe_cli.specs.Replies.{reply};
 
 use crate::audit::audit;
 use crate::documents::Documents;
+use crate::enforce::enforce;
 use crate::estimate::estimate;
 use crate::parted::{Parted, read_parts};
+use crate::tiers_line::tiers;
 use bwe_io::{ReadError, Sink, Source, read_all};
 use bwe_specs::OutOfMemory;
 use command_line::{CommandLine, USAGE, command_line_of_words};
@@ -24,6 +26,10 @@ pub enum PartedLine {
     /// Writes the table of the script with the estimates of the samples behind it: a window of 1 to 1,000 samples, and a
     /// headroom of 100 to 1,000 hundredths.
     Estimate { window: u32, headroom: u32 },
+    /// Writes the table of strict tiers of groups, which the second part gives.
+    Tiers,
+    /// Writes what the events of the second part do in a world with a region for each reporter of the document.
+    Enforce,
 }
 
 /// The line that the words are, `None` where they are none that reads two parts.
@@ -35,6 +41,8 @@ fn parted_line_of_words(alloc: Global, words: &[String]) -> Result<Option<Parted
         Some(CommandLine::Estimate { window, headroom }) => {
             Some(PartedLine::Estimate { window, headroom })
         }
+        Some(CommandLine::Tiers) => Some(PartedLine::Tiers),
+        Some(CommandLine::Enforce) => Some(PartedLine::Enforce),
         _ => None,
     })
 }
@@ -132,6 +140,8 @@ fn answer_parts(alloc: Global, line: PartedLine, input: &[u8]) -> Result<Answer,
             PartedLine::Estimate { window, headroom } => {
                 estimate(alloc, document, part, window, headroom)
             }
+            PartedLine::Tiers => tiers(alloc, document, part),
+            PartedLine::Enforce => enforce(alloc, document, part),
         },
         Parted::Refused { answer } => Ok(answer),
     }

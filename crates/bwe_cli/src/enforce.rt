@@ -1,0 +1,73 @@
+//! The line `enforce`.
+
+ghost use Rattle.std.specs.Prelude.{◌≡◌, [], IfOk};
+ghost use Rattle.event_lines.specs.EventLines.{AreThere};
+ghost use Rattle.plan_doc.specs.Conditions.{IsUsable, reporter_count};
+ghost use Rattle.plan_doc.specs.Links.{names_view};
+ghost use Rattle.bwe_cli.specs.EnforceReply.{enforce_reply, enforced_reply};
+ghost use Rattle.bwe_cli.specs.Plans.{plan_in};
+
+use allocator::Allocator;
+use bwe_specs::OutOfMemory;
+use demand_book::Maker;
+use event_lines::{EventError, EventLine, event_refusal_line, read_events};
+use one_run::Answer;
+use plan_doc::Document;
+use std::alloc::Global;
+
+/// What the events of the part do in a world with a region for each of the document's reporters, or the first line at
+/// fault.
+pub(crate) fn enforce(alloc: Global, document: Document, part: &[u8]) -> Result<Answer, OutOfMemory>
+    requires { IsUsable document }
+    ensures { IfOk result (λ answer. record { status = answer.status; text = answer.text.items }
+        ≡ enforce_reply (names_view document.names) (plan_in document) document.script.items document.task_owners.items part.now) }
+{
+    let reporters = document.names.reporters.len() as u32;
+    match read_events(alloc, part, reporters) {
+        Ok(events) => play(alloc, document, reporters, &events),
+        Err(EventError::BadLine { line }) => Ok(Answer {
+            status: 3,
+            text: event_refusal_line(alloc, line)?,
+        }),
+        Err(EventError::OutOfMemory) => Err(OutOfMemory),
+    }
+}
+
+// The text of the events, with the allocations of the script's first reports as tables.
+fn play(
+    alloc: Global,
+    document: Document,
+    reporters: u32,
+    events: &[EventLine],
+) -> Result<Answer, OutOfMemory>
+    requires usable { IsUsable document }
+    requires reporters { reporters ≡ reporter_count document }
+    requires there { AreThere reporters [] events.now }
+    ensures { IfOk result (λ answer. record { status = answer.status; text = answer.text.items }
+        ≡ enforced_reply (names_view document.names) (plan_in document) document.script.items document.task_owners.items events.now) }
+{
+    let Document {
+        tree,
+        topology,
+        plan,
+        script,
+        names,
+        task_owners,
+        ..
+    } = document;
+    let maker = Allocator::new(alloc, tree, topology, plan);
+    // Who asks a maker for its number of tasks learns that they can be numbered.
+    let _tasks = maker.tasks();
+    Ok(Answer {
+        status: 0,
+        text: enforce_run::enforce(
+            alloc,
+            maker,
+            &script,
+            reporters,
+            &task_owners,
+            &names.tasks,
+            events,
+        )?,
+    })
+}

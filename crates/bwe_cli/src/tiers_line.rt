@@ -1,0 +1,58 @@
+//! The line `tiers`.
+
+ghost use Rattle.std.specs.Prelude.{◌≡◌, IfOk, length};
+ghost use Rattle.table_text.specs.TableText.{texts_of};
+ghost use Rattle.plan_doc.specs.Conditions.{IsUsable};
+ghost use Rattle.bwe_cli.specs.Plans.{plan_in};
+ghost use Rattle.bwe_cli.specs.TiersReply.{tiered_reply, tiers_reply};
+
+use allocator::{Allocator, after_script};
+use bwe_specs::OutOfMemory;
+use one_run::Answer;
+use plan_doc::Document;
+use std::alloc::Global;
+use tier_text::{TiersError, read_tiers, refused_tiers, tier_text};
+use tiers::fill_tiers;
+
+/// The table of tiers of the document's script, or the first byte of the part at fault.
+pub(crate) fn tiers(alloc: Global, document: Document, part: &[u8]) -> Result<Answer, OutOfMemory>
+    requires { IsUsable document }
+    ensures { IfOk result (λ answer. record { status = answer.status; text = answer.text.items }
+        ≡ tiers_reply (texts_of document.names) (plan_in document) document.script.items part.now) }
+{
+    match read_tiers(alloc, part, document.plan.groups()) {
+        Ok(tiers) => fill(alloc, document, &tiers),
+        Err(TiersError::Refused { at }) => Ok(Answer {
+            status: 3,
+            text: refused_tiers(alloc, at)?,
+        }),
+        Err(TiersError::OutOfMemory) => Err(OutOfMemory),
+    }
+}
+
+// The table of these tiers of groups, under the demands and capacities after the document's script.
+#[tactic(auto, using(crate::proofs::Tiers::tiered_after_script))]
+fn fill(alloc: Global, document: Document, tiers: &[u8]) -> Result<Answer, OutOfMemory>
+    requires usable { IsUsable document }
+    requires one_each { length tiers.now ≡ length document.plan }
+    ensures { IfOk result (λ answer. record { status = answer.status; text = answer.text.items }
+        ≡ tiered_reply (texts_of document.names) (plan_in document) document.script.items tiers.now) }
+{
+    let Document {
+        tree,
+        topology,
+        plan,
+        script,
+        names,
+        ..
+    } = document;
+    let allocator = Allocator::new(alloc, tree, topology, plan);
+    let allocator = after_script(alloc, allocator, &script)?;
+    let (tree, topology, plan) = allocator.into_parts();
+    let prefix = script.len() as u64;
+    let table = fill_tiers(alloc, &tree, topology, &plan, tiers, prefix)?;
+    Ok(Answer {
+        status: 0,
+        text: tier_text(alloc, &table, &names)?,
+    })
+}
