@@ -59,10 +59,10 @@ listed_from place zero words is = drop_all place words (omega (arith, is))
 listed_from place (suc count) words is =
     drop_more words place [] (omega (arith, is)) ∙ ap (λ (rest : List (List ℕ)). word_at words place ∷ rest) (listed_from (place + 1) count words (omega (arith, is)))
 
-same_bytes : (one two : List ℕ) → bytes_eq one two ≡ true → one ≡ two
+pub same_bytes : (one two : List ℕ) → bytes_eq one two ≡ true → one ≡ two
 same_bytes one two is = (bytes_eq-Decides one two).0 is
 
-itself : (bytes : List ℕ) → bytes_eq bytes bytes ≡ true
+pub itself : (bytes : List ℕ) → bytes_eq bytes bytes ≡ true
 itself bytes = (bytes_eq-Decides bytes bytes).1 refl
 
 -- what a test lets through
