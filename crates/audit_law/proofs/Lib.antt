@@ -5,3 +5,5 @@ pub mod Clean
 pub mod Histories
 pub mod Steps
 pub mod Blocks
+pub mod Readers
+pub mod Vectors

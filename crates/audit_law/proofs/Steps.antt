@@ -89,7 +89,7 @@ module _ (names : LineNames) (scripts : List (List Report)) (total_at : ℕ → 
       (ap (λ (b : Bool). cond {A = Result Walked AuditCause} (not b) (after_table (line ∷ table) line) (with_table (line ∷ table) (step_from names scripts (Next readers reads) (words_of line)))) is ∙ table_line line table)
       refl (table_on table none) number
 
-  ended : (table : List (List ℕ)) (number : ℕ) → at_end (length table == 0) number left ≡ Legal → (table ≡ []) × (left ≡ [])
+  pub ended : (table : List (List ℕ)) (number : ℕ) → at_end (length table == 0) number left ≡ Legal → (table ≡ []) × (left ≡ [])
   ended [] number is = (refl, nothing left is) where
     nothing : (left : List ℕ) → at_end true number left ≡ Legal → left ≡ []
     nothing [] is = refl
