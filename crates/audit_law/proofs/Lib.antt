@@ -7,3 +7,4 @@ pub mod Steps
 pub mod Blocks
 pub mod Readers
 pub mod Vectors
+pub mod Texts
