@@ -8,3 +8,4 @@ pub mod Blocks
 pub mod Readers
 pub mod Vectors
 pub mod Texts
+pub mod Ends
