@@ -245,6 +245,31 @@ module _ (names : LineNames) (are : AreNames names) (tasks links : ℕ) (scripts
       rest : Result Reported Fault
       rest = take_lines names scripts (none_printed scripts) (report_lines names 0 history ++ lines)
 
+-- ---- how long a history is
+
+module _ (tasks links : ℕ) (scripts : List (List Report)) where
+  whole_taken : (later done : List Report) (taken : List ℕ) → HasTaken tasks links scripts done taken → IsInterleaving tasks links scripts (done ++ later)
+      → (all : List ℕ) × HasTaken tasks links scripts (done ++ later) all
+  whole_taken [] done taken has legal = (taken, subst (λ (reports : List Report). HasTaken tasks links scripts reports taken) (sym (append-nil done)) has)
+  whole_taken (report ∷ later) done taken has legal =
+      let rest = whole_taken later (done ++ report ∷ []) (set taken report.reporter (get_or taken report.reporter 0 + 1)) has_more (subst (IsInterleaving tasks links scripts) (sym whole) legal) in
+      (rest.0, subst (λ (reports : List Report). HasTaken tasks links scripts reports rest.0) whole rest.1)
+    where
+      whole : (done ++ report ∷ []) ++ later ≡ done ++ report ∷ later
+      whole = append_assoc done (report ∷ []) later
+      allowed : (report.reporter < length scripts) × IsFit tasks links report
+      allowed = All-head (λ (r : Report). (r.reporter < length scripts) × IsFit tasks links r) report later (All-drop-append (λ (r : Report). (r.reporter < length scripts) × IsFit tasks links r) done (report ∷ later) legal.no_other)
+      script_is : length (slice_index_or scripts report.reporter []) ≡ length (reports_of report.reporter done) + suc (length (reports_of report.reporter later))
+      script_is = ap length (sym (legal.each report.reporter allowed.0) ∙ reports-split report.reporter done later report refl) ∙ length-append (reports_of report.reporter done) (report ∷ reports_of report.reporter later)
+      has_more : HasTaken tasks links scripts (done ++ report ∷ []) (set taken report.reporter (get_or taken report.reporter 0 + 1))
+      has_more = taken_more tasks links scripts done taken report has allowed.0 allowed.1 (omega (arith, has.counted report.reporter allowed.0, script_is))
+
+  -- a history of the scripts has as many reports as they
+  pub history_length : (history : List Report) → IsInterleaving tasks links scripts history → length history ≡ total_of scripts
+  history_length history legal =
+      let whole = whole_taken history [] (replicate (length scripts) 0) (taken_none tasks links scripts) legal in
+      whole.1.sum_so ∙ sum-same whole.0 scripts whole.1.same (λ number lt. whole.1.counted number lt ∙ ap length (legal.each number lt))
+
 -- ---- the other way round
 
 -- the reports that are done of each reporter begin its script

@@ -9,3 +9,4 @@ pub mod Readers
 pub mod Vectors
 pub mod Texts
 pub mod Ends
+pub mod Whole

@@ -106,7 +106,7 @@ readers_are names history number (reader ∷ readers) closed =
 -- ---- the whole
 
 -- the lines before the table
-pub front_lines : RunNames → List Report → List (List Report) → List Seen → List (List ℕ)
+unfoldable pub front_lines : RunNames → List Report → List (List Report) → List Seen → List (List ℕ)
 front_lines names history scripts seen =
     (((spaced (history_line (length history)) ∷ []) ++ report_lines (line_names names) 0 history) ++ sent_lines (line_names names) 0 scripts) ++ all_seen (length history) 0 seen
 
