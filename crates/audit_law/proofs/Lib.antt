@@ -10,3 +10,4 @@ pub mod Vectors
 pub mod Texts
 pub mod Ends
 pub mod Whole
+pub mod Logs

@@ -3,9 +3,5 @@ use Rattle.std.proofs.Common.{◌≡◌, ◌<◌, ◌≤◌, ◌^◌, ℕ, List,
 use denote.RawPtr.{null_ptr}
 
 -- a `Vec` of these elements, of which there are not too many
-pub vec_of : {A : Type 0} (items : List A) → length items < 2 ^ 63 → Vec A Global
+abbrev pub vec_of : {A : Type 0} (items : List A) → length items < 2 ^ 63 → Vec A Global
 vec_of items few = record { ptr = null_ptr; len = length items; cap = length items; alloc = record { memory = record { seal = tt } }; items = items; ok = (refl, omega arith); small = few }
-
-pub items-vec_of : {A : Type 0} (items : List A) (few : length items < 2 ^ 63) → (vec_of items few).items ≡ items
-unfolding vec_of
-items-vec_of items few = refl
