@@ -1,30 +1,27 @@
 -- The lines of a reader, there and back.
-use Rattle.std.proofs.Common.{◌≡◌, ◌<◌, ◌≤◌, ◌+◌, ◌^◌, ◌++◌, ◌==◌, ◌&&◌, ℕ, zero, suc, Bool, true, false, cond, not, List, [], ◌∷◌, length, map, nat_lt, codes, Option, Some, None, Result, Ok, Err, refl, sym, ap, ◌∙◌, subst, arith, append_assoc, All, inl, inr, ◌⊎◌}
+use Rattle.std.proofs.Common.{◌≡◌, ◌<◌, ◌≤◌, ◌+◌, ◌^◌, ◌++◌, ◌&&◌, ℕ, Bool, true, false, cond, List, [], ◌∷◌, length, nat_lt, codes, Option, Some, None, Result, Ok, Err, refl, sym, ap, ◌∙◌, subst, arith, All, inl, inr, ◌⊎◌}
 use Rattle.std.specs.Prelude.{nat_le}
-use Rattle.std.proofs.lemmas.List.Elements.{All-append, All-cons, All-head, All-nil, All-tail}
+use Rattle.std.proofs.lemmas.List.Elements.{All-cons, All-head, All-nil, All-tail}
 use Rattle.std.proofs.lemmas.Bool.{and_from, and_parts, eq-eqb, eqb-true, leb-true, le-leb, lt-ltb, ltb-true}
-use Rattle.bwe_specs.specs.declared.limits.TheConstants.{MAX_READERS}
 use Rattle.bwe_specs.specs.declared.report.Report.{Report}
 use Rattle.crew_actors.specs.declared.log.ReadLine.{ReadLine}
 use Rattle.crew_actors.specs.Lines.{NeverGoBack}
 use Rattle.run_audit.specs.Words.{words_of}
-use Rattle.run_audit.specs.Forms.{LineNames, reader_of, shown_of}
+use Rattle.run_audit.specs.Forms.{LineNames, shown_of}
 use Rattle.run_audit.specs.History.{total_of}
-use Rattle.run_audit.specs.Walk.{Walk, Walked, after_final, after_line, after_read, after_reader, after_shown, after_table, goes_on, is_reader, is_wanted, leads_to, new_block, reader_leads, shown_leads, step_from, with_table}
+use Rattle.run_audit.specs.Walk.{Walked, after_final, after_line, after_read, after_shown, goes_on, is_wanted, shown_leads, step_from, with_table}
 use Rattle.run_audit.specs.Verdict.{is_total, judge}
 use Rattle.run_audit.specs.declared.due.Block.{Block}
-use Rattle.run_audit.specs.declared.due.Due.{Due}
-use Rattle.run_audit.specs.declared.due.Due.TheVariants.{Reporter, Reader, Line, Next, Table}
+use Rattle.run_audit.specs.declared.due.Due.TheVariants.{Line, Next}
 use Rattle.run_audit.specs.declared.due.Step.{Step}
 use Rattle.run_audit.specs.declared.due.TheConstants.{MAX_READS}
 use Rattle.run_audit.specs.declared.forms.Shown.{Shown}
-use Rattle.run_audit.specs.declared.forms.ReaderWords.{ReaderWords}
 use Rattle.run_audit.specs.declared.verdict.AuditCause.{AuditCause}
 use Rattle.run_audit.specs.declared.verdict.AuditCause.TheVariants as causes
 use Rattle.run_audit.specs.declared.verdict.AuditVerdict.TheVariants.{Legal}
 use Rattle.audit_law.proofs.Lines.{spaced, spaced_words}
-use Rattle.audit_law.proofs.LineForms.{reader_line, reader_printed, reader_read, shown_line, shown_printed, shown_read}
-use Rattle.audit_law.proofs.Clean.{IsClean, final_clean, read_clean, reader_clean, shown_clean, words_printed}
+use Rattle.audit_law.proofs.LineForms.{shown_line, shown_printed, shown_read}
+use Rattle.audit_law.proofs.Clean.{IsClean, final_clean, read_clean, shown_clean, words_printed}
 use Rattle.audit_law.proofs.Steps.{IsLegalFrom, IsStepped, no_line, step_back, step_on}
 
 -- ---- what a block says
@@ -131,8 +128,10 @@ module _ (names : LineNames) (scripts : List (List Report)) (total_at : ℕ → 
       where
         next : Block
         next = record block { reads = block.reads + 1; prefix = read.prefix }
+
         right : IsRight total_at (total_of scripts) read
         right = All-head (IsRight total_at (total_of scripts)) read (reads ++ last ∷ []) is.right
+
         counts : block.reads + length (read ∷ reads) ≡ (block.reads + 1) + length reads
         counts = omega arith
 
@@ -162,6 +161,7 @@ module _ (names : LineNames) (scripts : List (List Report)) (total_at : ℕ → 
     read_at told read e = test (nat_lt block.reads MAX_READS) (goes_on (total_of scripts) block told) refl refl e where
       next : Step
       next = record { due = Line (record block { reads = block.reads + 1; prefix = told.prefix }); shown = Some told }
+
       test : (few goes : Bool) → nat_lt block.reads MAX_READS ≡ few → goes_on (total_of scripts) block told ≡ goes
           → with_table table (cond {A = Result Step AuditCause} few (cond {A = Result Step AuditCause} goes (Ok next) (Err causes.Prefix)) (Err causes.Reader)) ≡ Ok walked → IsReadLine block table line walked
       test false goes few_so goes_so e = absurd cc
@@ -173,10 +173,12 @@ module _ (names : LineNames) (scripts : List (List Report)) (total_at : ℕ → 
         goes = goes_so;
         walked_so = cc;
       }
+
     final_at : (told : Shown) → shown_of (codes "final") (words_of line) ≡ Some told → with_table table (after_final (total_of scripts) block told) ≡ Ok walked → IsFinalLine block table line walked
     final_at told read e = test (is_wanted block.wanted block.reads) (goes_on (total_of scripts) block told && nat_le (total_of scripts) told.prefix) refl refl e where
       next : Step
       next = record { due = Next (block.number + 1) block.reads; shown = Some told }
+
       test : (wanted goes : Bool) → is_wanted block.wanted block.reads ≡ wanted → (goes_on (total_of scripts) block told && nat_le (total_of scripts) told.prefix) ≡ goes
           → with_table table (cond {A = Result Step AuditCause} wanted (cond {A = Result Step AuditCause} goes (Ok next) (Err causes.Prefix)) (Err causes.Reader)) ≡ Ok walked → IsFinalLine block table line walked
       test false goes wanted_so goes_so e = absurd cc
@@ -191,6 +193,7 @@ module _ (names : LineNames) (scripts : List (List Report)) (total_at : ℕ → 
             covers = leb-true (total_of scripts) told.prefix parts.1;
             walked_so = cc;
           }
+
     go : (read final : Option Shown) → shown_of (codes "read") (words_of line) ≡ read → shown_of (codes "final") (words_of line) ≡ final
         → with_table table (shown_leads (total_of scripts) block read final) ≡ Ok walked → IsReadLine block table line walked ⊎ IsFinalLine block table line walked
     go (Some told) final read_so final_so e = inl (read_at told read_so e)
@@ -221,8 +224,10 @@ module _ (names : LineNames) (scripts : List (List Report)) (total_at : ℕ → 
   block_back table (line ∷ lines) number block few legal = go (λ next few legal. block_back table lines (number + 1) next few legal) (line_back block table line step.walked step.is) where
     step : IsStepped names scripts total_at left (record { due = Line block; table = table }) number line lines
     step = step_back names scripts total_at left (record { due = Line block; table = table }) number line lines legal
+
     Later : Type 0
     Later = (next : Block) → next.reads ≤ MAX_READS → judge names scripts total_at left (record { due = Line next; table = table }) (number + 1) lines ≡ Legal → IsBlockRead next table lines
+
     read_first : Later → IsReadLine block table line step.walked → IsBlockRead block table (line ∷ lines)
     read_first later here =
         let next : Block = record block { reads = block.reads + 1; prefix = here.read.prefix } in
@@ -246,6 +251,7 @@ module _ (names : LineNames) (scripts : List (List Report)) (total_at : ℕ → 
           wanted = subst (λ (n : ℕ). is_wanted block.wanted n ≡ true) counts rest.wanted;
           legal = subst (λ (n : ℕ). judge names scripts total_at left (record { due = Next (block.number + 1) n; table = table }) rest.number rest.rest ≡ Legal) counts rest.legal;
         }
+
     last_first : IsFinalLine block table line step.walked → IsBlockRead block table (line ∷ lines)
     last_first here =
         let parts = gone block here.last here.goes in
@@ -268,6 +274,7 @@ module _ (names : LineNames) (scripts : List (List Report)) (total_at : ℕ → 
               subst (λ (n : ℕ). judge names scripts total_at left (record { due = Next (block.number + 1) n; table = table }) (number + 1) lines ≡ Legal) counts
               (subst (λ (walked : Walked). judge names scripts total_at left walked.walk (number + 1) lines ≡ Legal) here.walked_so step.legal);
         }
+
     go : Later → IsReadLine block table line step.walked ⊎ IsFinalLine block table line step.walked → IsBlockRead block table (line ∷ lines)
     go later (inl read) = read_first later read
     go later (inr last) = last_first last

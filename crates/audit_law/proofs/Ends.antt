@@ -1,15 +1,13 @@
 -- How the text of a table begins and ends, and that no line before it has a line feed.
-use Rattle.std.proofs.Common.{◌≡◌, ◌<◌, ◌≤◌, ◌+◌, ◌^◌, ◌++◌, ◌==◌, ℕ, zero, suc, Bool, true, false, cond, List, [], ◌∷◌, length, get_or, codes, decimal, refl, sym, ap, ◌∙◌, subst, arith, All}
-use Rattle.std.specs.List.{count_by, onto_first, slice_split, sum_by}
+use Rattle.std.proofs.Common.{◌≡◌, ◌<◌, ◌≤◌, ◌+◌, ◌^◌, ◌++◌, ◌==◌, ℕ, suc, Bool, true, false, cond, List, [], ◌∷◌, length, codes, decimal, refl, ◌∙◌, arith, All}
+use Rattle.std.specs.List.{count_by, onto_first, sum_by}
 use Rattle.std.specs.Prelude.{flat_map}
 use Rattle.bwe_specs.specs.Reports.{numbers}
 use Rattle.std.proofs.lemmas.List.Elements.{All-append, All-cons, All-head, All-nil, All-tail}
 use Rattle.std.proofs.lemmas.List.Splits.{length-slice_split}
-use Rattle.bwe_specs.specs.declared.limits.TheConstants.{MAX_AMOUNT, MAX_READERS}
 use Rattle.bwe_specs.specs.declared.report.Report.{Report}
 use Rattle.bwe_specs.specs.Allocation.{Table}
 use Rattle.crew_actors.specs.declared.log.ReadLine.{ReadLine}
-use Rattle.crew_actors.specs.Lines.{NeverGoBack}
 use Rattle.demand_book.specs.Fit.{IsFit}
 use Rattle.table_text.specs.TableText.{NameTexts, closing_line, group_lines, link_line, task_line, text_of}
 use Rattle.std.proofs.lemmas.List.Sums.{sum_by-cons}
@@ -48,6 +46,7 @@ last_empty [] = refl
 last_empty (byte ∷ text) = go (byte == 10) (last_empty text) where
   pieces : List (List ℕ)
   pieces = pieces_of (text ++ 10 ∷ [])
+
   go : (b : Bool) → last_of pieces ≡ [] → last_of (cond b ([] ∷ pieces) (onto_first byte pieces)) ≡ []
   go true none = last-more [] pieces (two_pieces text) ∙ none
   go false none = last-onto byte pieces (two_pieces text) ∙ none
@@ -59,13 +58,13 @@ nothing_left text = last_empty text
 pub table_left : (names : NameTexts) (table : Table) → left_of (text_of names table) ≡ []
 unfolding text_of
 table_left names table = nothing_left (
-  codes "table " ++ decimal table.prefix ++ codes "\n"
-  ++ flat_map (closing_line names) table.closings
-  ++ flat_map (link_line names table.loads) (numbers (length table.loads))
-  ++ flat_map (group_lines names table.groups) (numbers (length table.groups))
-  ++ flat_map (task_line names table.limits) (numbers (length table.limits))
-  ++ codes "total " ++ decimal (sum_by (λ line. line.amount) table.groups)
-)
+    codes "table " ++ decimal table.prefix ++ codes "\n"
+    ++ flat_map (closing_line names) table.closings
+    ++ flat_map (link_line names table.loads) (numbers (length table.loads))
+    ++ flat_map (group_lines names table.groups) (numbers (length table.groups))
+    ++ flat_map (task_line names table.limits) (numbers (length table.limits))
+    ++ codes "total " ++ decimal (sum_by (λ line. line.amount) table.groups)
+    )
 
 begins_t : (pieces : List (List ℕ)) → IsTable (all_but_last (onto_first 116 pieces))
 begins_t [] = tt

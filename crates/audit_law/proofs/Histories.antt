@@ -1,29 +1,27 @@
 -- The lines of a history, there and back.
-use Rattle.std.proofs.Common.{◌≡◌, ◌≢◌, ◌<◌, ◌≤◌, ◌+◌, ◌^◌, ◌++◌, ◌==◌, ◌&&◌, ℕ, zero, suc, Bool, true, false, cond, List, [], ◌∷◌, length, get_or, set, take, filter, nat_lt, codes, Option, Some, None, Result, Ok, Err, refl, sym, ap, ◌∙◌, subst, arith, inl, inr, All, append_assoc, append-nil, replicate}
+use Rattle.std.proofs.Common.{◌≡◌, ◌<◌, ◌≤◌, ◌+◌, ◌^◌, ◌++◌, ◌==◌, ◌&&◌, ℕ, zero, suc, Bool, true, false, cond, List, [], ◌∷◌, length, get_or, set, take, nat_lt, Option, Some, None, Result, Ok, Err, refl, sym, ap, ◌∙◌, subst, arith, inl, inr, All, append_assoc, append-nil, replicate}
 use Rattle.std.specs.Prelude.{slice_get, slice_index, slice_index_or, slice_set}
 use Rattle.std.specs.List.{sum_by}
-use Rattle.std.specs.Str.{bytes_eq}
-use Rattle.std.proofs.lemmas.List.{get_or-set_same, get_or-set_other, get_or-replicate, length-append, length-replicate, length-set, length_push, get_or_append_left, get_or_past, take_more, take_all}
-use Rattle.std.proofs.lemmas.List.Elements.{All-append, All-cons, All-head, All-nil, All-push, All-tail, filter-append}
+use Rattle.std.proofs.lemmas.List.{get_or-set_same, get_or-set_other, get_or-replicate, length-append, length-replicate, length-set, length_push, get_or_past, take_more, take_all}
+use Rattle.std.proofs.lemmas.List.Elements.{All-head, All-nil, All-push, All-tail, filter-append}
 use Rattle.std.proofs.lemmas.List.Sums.{sum_by-cons, sum_by-set}
 use Rattle.std.proofs.lemmas.Option.{get_or_from_slice_get, slice_get_within}
-use Rattle.std.proofs.lemmas.Bool.{and_from, and_parts, cases_eq, cases_lt, eq-eqb, eqb-true, le-ltb, lt-ltb, ltb-false, ltb-true, ne_eqb}
-use Rattle.bwe_specs.specs.declared.limits.TheConstants.{MAX_AMOUNT, MAX_REPORTS}
+use Rattle.std.proofs.lemmas.Bool.{and_from, and_parts, cases_eq, cases_lt, eq-eqb, eqb-true, le-ltb, lt-ltb, ltb-false, ne_eqb}
 use Rattle.bwe_specs.specs.declared.report.Report.{Report}
 use Rattle.bwe_specs.specs.declared.report.Target.{Target}
 use Rattle.bwe_specs.specs.declared.report.Target.TheVariants.{Task, Link}
 use Rattle.bwe_specs.specs.Reports.{reports_of}
 use Rattle.demand_book.specs.Fit.{IsFit, IsInRange}
-use Rattle.run_audit.specs.Words.{word_at, words_of}
+use Rattle.run_audit.specs.Words.{words_of}
 use Rattle.run_audit.specs.Forms.{LineNames, history_of, report_of}
 use Rattle.run_audit.specs.History.{Printed, Reported, begins, continue_with, fault, history_in, is_line_of, is_of, line_after, next_of, none_printed, take_line, take_lines, take_next, take_words, total_of, with_report}
 use Rattle.run_audit.specs.declared.forms.ReportWords.{ReportWords}
 use Rattle.run_audit.specs.declared.verdict.Fault.{Fault}
 use Rattle.run_audit.specs.declared.verdict.AuditCause.TheVariants.{Form, Script}
 use Rattle.audit_law.specs.ClosedRun.{AreNames, AreScripts, IsInterleaving}
-use Rattle.audit_law.proofs.Lines.{HasNo, spaced, spaced_words}
+use Rattle.audit_law.proofs.Lines.{spaced, spaced_words}
 use Rattle.audit_law.proofs.LineForms.{IsNamed, history_line, history_printed, history_read, own_target, report_line, report_printed, report_read}
-use Rattle.audit_law.proofs.Clean.{IsClean, history_clean, line_clean, report_clean, words_printed}
+use Rattle.audit_law.proofs.Clean.{history_clean, report_clean, words_printed}
 
 -- ---- sums
 
@@ -37,8 +35,13 @@ sum-le [] [] same each = omega arith
 sum-le [] (script ∷ scripts) same each = absurd (omega (arith, same))
 sum-le (count ∷ taken) [] same each = absurd (omega (arith, same))
 sum-le (count ∷ taken) (script ∷ scripts) same each =
-    omega (arith, sum_by-cons (λ (count : ℕ). count) count taken, sum_by-cons (λ (list : List Report). length list) script scripts, each 0 (omega arith),
-      sum-le taken scripts (omega (arith, same)) (λ number within. each (suc number) (omega (arith, within))))
+    omega (
+      arith,
+      sum_by-cons (λ (count : ℕ). count) count taken,
+      sum_by-cons (λ (list : List Report). length list) script scripts,
+      each 0 (omega arith),
+      sum-le taken scripts (omega (arith, same)) (λ number within. each (suc number) (omega (arith, within))),
+    )
 
 -- as many or fewer of each, and not fewer of all, so as many of each
 sum-tight : (taken : List ℕ) (scripts : List (List Report)) → length taken ≡ length scripts
@@ -48,8 +51,14 @@ sum-tight [] [] same each full number within = absurd (omega (arith, within))
 sum-tight [] (script ∷ scripts) same each full number within = absurd (omega (arith, same))
 sum-tight (count ∷ taken) [] same each full number within = absurd (omega (arith, same))
 sum-tight (count ∷ taken) (script ∷ scripts) same each full zero within =
-    omega (arith, sum_by-cons (λ (count : ℕ). count) count taken, sum_by-cons (λ (list : List Report). length list) script scripts, each 0 (omega arith), full,
-      sum-le taken scripts (omega (arith, same)) (λ number within. each (suc number) (omega (arith, within))))
+    omega (
+      arith,
+      sum_by-cons (λ (count : ℕ). count) count taken,
+      sum_by-cons (λ (list : List Report). length list) script scripts,
+      each 0 (omega arith),
+      full,
+      sum-le taken scripts (omega (arith, same)) (λ number within. each (suc number) (omega (arith, within))),
+    )
 sum-tight (count ∷ taken) (script ∷ scripts) same each full (suc number) within =
     sum-tight taken scripts (omega (arith, same)) (λ number within. each (suc number) (omega (arith, within)))
     (omega (arith, sum_by-cons (λ (count : ℕ). count) count taken, sum_by-cons (λ (list : List Report). length list) script scripts, each 0 (omega arith), full))
@@ -62,8 +71,13 @@ sum-same [] [] same each = refl
 sum-same [] (script ∷ scripts) same each = absurd (omega (arith, same))
 sum-same (count ∷ taken) [] same each = absurd (omega (arith, same))
 sum-same (count ∷ taken) (script ∷ scripts) same each =
-    omega (arith, sum_by-cons (λ (count : ℕ). count) count taken, sum_by-cons (λ (list : List Report). length list) script scripts, each 0 (omega arith),
-      sum-same taken scripts (omega (arith, same)) (λ number within. each (suc number) (omega (arith, within))))
+    omega (
+      arith,
+      sum_by-cons (λ (count : ℕ). count) count taken,
+      sum_by-cons (λ (list : List Report). length list) script scripts,
+      each 0 (omega arith),
+      sum-same taken scripts (omega (arith, same)) (λ number within. each (suc number) (omega (arith, within))),
+    )
 
 -- ---- what has been taken of the scripts
 
@@ -113,15 +127,19 @@ module _ (tasks links : ℕ) (scripts : List (List Report)) (done : List Report)
     where
       here : get_or (set taken report.reporter (get_or taken report.reporter 0 + 1)) report.reporter 0 ≡ get_or taken report.reporter 0 + 1
       here = get_or-set_same taken report.reporter (get_or taken report.reporter 0 + 1) 0 (omega (arith, there, has.same))
+
       other : (number : ℕ) → (report.reporter ≡ number → ⊥) → get_or (set taken report.reporter (get_or taken report.reporter 0 + 1)) number 0 ≡ get_or taken number 0
       other number differs = get_or-set_other taken report.reporter number (get_or taken report.reporter 0 + 1) 0 (λ e. differs (sym e))
+
       own : get_or (set taken report.reporter (get_or taken report.reporter 0 + 1)) report.reporter 0 ≡ length (reports_of report.reporter (done ++ report ∷ []))
       own = omega (arith, here, has.counted report.reporter there, ap length (reports-own report.reporter done report refl), length_push (reports_of report.reporter done) report)
+
       counted_more : (number : ℕ) → number < length scripts → get_or (set taken report.reporter (get_or taken report.reporter 0 + 1)) number 0 ≡ length (reports_of number (done ++ report ∷ []))
       counted_more number lt = elim (cases_eq report.reporter number) [
         | inl same ↦ subst (λ (n : ℕ). get_or (set taken report.reporter (get_or taken report.reporter 0 + 1)) n 0 ≡ length (reports_of n (done ++ report ∷ []))) same own
         | inr differs ↦ other number differs ∙ has.counted number lt ∙ sym (ap length (reports-other number done report differs))
       ]
+
       within_more : (number : ℕ) → number < length scripts → get_or (set taken report.reporter (get_or taken report.reporter 0 + 1)) number 0 ≤ length (get_or scripts number [])
       within_more number lt = elim (cases_eq report.reporter number) [
         | inl same ↦ subst (λ (n : ℕ). get_or (set taken report.reporter (get_or taken report.reporter 0 + 1)) n 0 ≤ length (get_or scripts n [])) same (omega (arith, here, left))
@@ -185,16 +203,21 @@ module _ (names : LineNames) (are : AreNames names) (tasks links : ℕ) (scripts
     where
       printed : Printed
       printed = record { reports = done; taken = taken }
+
       words : List (List ℕ)
       words = report_line names (length done) report
+
       told : ReportWords
       told = record { place = length done; reporter = report.reporter; amount = report.amount }
+
       script_is : slice_index_or scripts report.reporter [] ≡ reports_of report.reporter done ++ report ∷ reports_of report.reporter later
       script_is = sym (legal.each report.reporter there) ∙ reports-split report.reporter done later report refl
+
       next : next_of scripts taken report.reporter ≡ Some report
       next =
           ap (λ (script : List Report). slice_get script (slice_index taken report.reporter)) script_is
           ∙ slice_get-at (reports_of report.reporter done) report (reports_of report.reporter later) (slice_index taken report.reporter) (has.counted report.reporter there)
+
       is_line : is_line_of names words told (length done) report ≡ true
       is_line =
           and_from (length done == length done) ((report.amount == report.amount) && is_of names words report.target) (eq-eqb (length done) (length done) refl)
@@ -219,14 +242,19 @@ module _ (names : LineNames) (are : AreNames names) (tasks links : ℕ) (scripts
     where
       next : Printed
       next = record { reports = done ++ report ∷ []; taken = set taken report.reporter (get_or taken report.reporter 0 + 1) }
+
       whole : (done ++ report ∷ []) ++ later ≡ done ++ report ∷ later
       whole = append_assoc done (report ∷ []) later
+
       allowed : (report.reporter < length scripts) × IsFit tasks links report
       allowed = All-head (λ (r : Report). (r.reporter < length scripts) × IsFit tasks links r) report later (All-drop-append (λ (r : Report). (r.reporter < length scripts) × IsFit tasks links r) done (report ∷ later) legal.no_other)
+
       script_is : length (slice_index_or scripts report.reporter []) ≡ length (reports_of report.reporter done) + suc (length (reports_of report.reporter later))
       script_is = ap length (sym (legal.each report.reporter allowed.0) ∙ reports-split report.reporter done later report refl) ∙ length-append (reports_of report.reporter done) (report ∷ reports_of report.reporter later)
+
       has_more : HasTaken tasks links scripts (done ++ report ∷ []) (set taken report.reporter (get_or taken report.reporter 0 + 1))
       has_more = taken_more tasks links scripts done taken report has allowed.0 allowed.1 (omega (arith, has.counted report.reporter allowed.0, script_is))
+
       short : length done < total_of scripts
       short = omega (arith, has_more.sum_so, length_push done report, sum-le (set taken report.reporter (get_or taken report.reporter 0 + 1)) scripts has_more.same has_more.within)
 
@@ -242,6 +270,7 @@ module _ (names : LineNames) (are : AreNames names) (tasks links : ℕ) (scripts
     where
       small : length history < 2 ^ 64
       small = omega (arith, all, given.few)
+
       rest : Result Reported Fault
       rest = take_lines names scripts (none_printed scripts) (report_lines names 0 history ++ lines)
 
@@ -257,10 +286,13 @@ module _ (tasks links : ℕ) (scripts : List (List Report)) where
     where
       whole : (done ++ report ∷ []) ++ later ≡ done ++ report ∷ later
       whole = append_assoc done (report ∷ []) later
+
       allowed : (report.reporter < length scripts) × IsFit tasks links report
       allowed = All-head (λ (r : Report). (r.reporter < length scripts) × IsFit tasks links r) report later (All-drop-append (λ (r : Report). (r.reporter < length scripts) × IsFit tasks links r) done (report ∷ later) legal.no_other)
+
       script_is : length (slice_index_or scripts report.reporter []) ≡ length (reports_of report.reporter done) + suc (length (reports_of report.reporter later))
       script_is = ap length (sym (legal.each report.reporter allowed.0) ∙ reports-split report.reporter done later report refl) ∙ length-append (reports_of report.reporter done) (report ∷ reports_of report.reporter later)
+
       has_more : HasTaken tasks links scripts (done ++ report ∷ []) (set taken report.reporter (get_or taken report.reporter 0 + 1))
       has_more = taken_more tasks links scripts done taken report has allowed.0 allowed.1 (omega (arith, has.counted report.reporter allowed.0, script_is))
 
@@ -318,8 +350,10 @@ module _ (names : LineNames) (tasks links : ℕ) (scripts : List (List Report)) 
       found (Some report) here is = test (is_line_of names (words_of line) told (length printed.reports) report) refl is where
         there : told.reporter < length scripts
         there = nothing_past scripts told.reporter (get_or printed.taken told.reporter 0) report here
+
         own : (report.reporter ≡ told.reporter) × IsFit tasks links report
         own = (next_there (get_or scripts told.reporter []) (get_or printed.taken told.reporter 0) report here).2 (λ (r : Report). (r.reporter ≡ told.reporter) × IsFit tasks links r) (given.own told.reporter there)
+
         test : (b : Bool) → is_line_of names (words_of line) told (length printed.reports) report ≡ b
             → ◌≡◌ {A = Result Printed Fault} (cond {A = Result Printed Fault} b (Ok (with_report printed told.reporter report)) (fault (line_after printed) Script)) (Ok next)
             → IsTaken printed next line
@@ -354,13 +388,16 @@ module _ (names : LineNames) (tasks links : ℕ) (scripts : List (List Report)) 
     where
       count : ℕ
       count = length (reports_of report.reporter done)
+
       placed : slice_get (get_or scripts report.reporter []) count ≡ Some report
       placed = subst (λ (n : ℕ). slice_get (get_or scripts report.reporter []) n ≡ Some report) (has.counted report.reporter there) place
+
       longer : take (length (reports_of report.reporter done ++ report ∷ [])) (get_or scripts report.reporter []) ≡ reports_of report.reporter done ++ report ∷ []
       longer =
           ap (λ (n : ℕ). take n (get_or scripts report.reporter [])) (length_push (reports_of report.reporter done) report)
           ∙ (next_there (get_or scripts report.reporter []) count report placed).1
           ∙ ap (λ (front : List Report). front ++ report ∷ []) (begin report.reporter there)
+
       own : take (length (reports_of report.reporter (done ++ report ∷ []))) (get_or scripts report.reporter []) ≡ reports_of report.reporter (done ++ report ∷ [])
       own = subst (λ (reports : List Report). take (length reports) (get_or scripts report.reporter []) ≡ reports) (sym (reports-own report.reporter done report refl)) longer
 
@@ -388,6 +425,7 @@ module _ (names : LineNames) (tasks links : ℕ) (scripts : List (List Report)) 
     where
       done_so : done ≡ reported.reports
       done_so = ap (λ (r : Reported). r.reports) is
+
       tight : (number : ℕ) → number < length scripts → get_or taken number 0 ≡ length (get_or scripts number [])
       tight = sum-tight taken scripts has.same has.within (omega (arith, full, has.sum_so))
 
@@ -405,9 +443,11 @@ module _ (names : LineNames) (tasks links : ℕ) (scripts : List (List Report)) 
     where
       printed : Printed
       printed = record { reports = done; taken = taken }
+
       Later : Type 0
       Later = (next : List Report) (taken' : List ℕ) → HasTaken tasks links scripts next taken' → Begin scripts next
           → take_lines names scripts (record { reports = next; taken = taken' }) lines ≡ Ok reported → IsRead next lines reported
+
       one : Later → (next : Printed) → take_line names scripts printed line ≡ Ok next → take_lines names scripts next lines ≡ Ok reported → IsRead done (line ∷ lines) reported
       one later next taken_so rest =
           let here : IsTaken printed next line = line_read printed next line taken_so in
@@ -427,9 +467,11 @@ module _ (names : LineNames) (tasks links : ℕ) (scripts : List (List Report)) 
             legal = read.legal;
             all = read.all;
           }
+
       step : Later → (answer : Result Printed Fault) → take_line names scripts printed line ≡ answer → continue_with (λ next. take_lines names scripts next lines) answer ≡ Ok reported → IsRead done (line ∷ lines) reported
       step later (Err error) answered rest = absurd cc
       step later (Ok next) answered rest = one later next answered rest
+
       go : (b : Bool) → nat_lt (length done) (total_of scripts) ≡ b → Later
           → ◌≡◌ {A = Result Reported Fault} (cond {A = Result Reported Fault} b (continue_with (λ next. take_lines names scripts next lines) (take_line names scripts printed line)) (Ok (record { reports = done; lines = line ∷ lines }))) (Ok reported)
           → IsRead done (line ∷ lines) reported
@@ -448,6 +490,7 @@ module _ (names : LineNames) (tasks links : ℕ) (scripts : List (List Report)) 
   history_is (line ∷ lines) reported is = go (history_of (words_of line)) refl is where
     rest : Result Reported Fault
     rest = take_lines names scripts (none_printed scripts) lines
+
     go : (number : Option ℕ) → history_of (words_of line) ≡ number → begins (total_of scripts) number rest ≡ Ok reported → IsHistory (line ∷ lines) reported
     go None read e = absurd cc
     go (Some number) read e = test (number == total_of scripts) refl e where

@@ -1,6 +1,6 @@
 -- Lines and words: cut apart and joined again.
-use Rattle.std.proofs.Common.{◌≡◌, ◌<◌, ◌+◌, ◌++◌, ◌==◌, ℕ, zero, suc, Bool, true, false, cond, List, [], ◌∷◌, length, map, refl, sym, ap, ◌∙◌, subst, arith, append-nil, append_assoc, All}
-use Rattle.std.specs.List.{slice_split, onto_first, join_with_byte, flat_map, count_by}
+use Rattle.std.proofs.Common.{◌≡◌, ◌<◌, ◌++◌, ◌==◌, ℕ, false, List, [], ◌∷◌, length, refl, sym, ap, ◌∙◌, arith, append_assoc, All}
+use Rattle.std.specs.List.{slice_split, join_with_byte}
 use Rattle.std.proofs.lemmas.List.Splits.{join_with_byte-slice_split, length-slice_split, slice_split_at, slice_split_none}
 use Rattle.std.proofs.lemmas.List.Elements.{All-head, All-tail}
 use Rattle.run_audit.specs.Words.{all_but_last, last_of, left_of, lines_of, pieces_of, words_of}

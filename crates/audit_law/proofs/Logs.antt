@@ -1,9 +1,8 @@
 -- Closed legal runs by their crew logs, and by the lists that their lines show.
-use Rattle.std.proofs.Common.{◌≡◌, ◌<◌, ◌≤◌, ◌+◌, ◌^◌, ◌++◌, ℕ, zero, suc, List, [], ◌∷◌, Vec, Global, length, map, take, get_or, refl, sym, ap, ◌∙◌, subst, arith, append_assoc, append-nil, All}
+use Rattle.std.proofs.Common.{◌≡◌, ◌<◌, ◌≤◌, ◌++◌, ℕ, List, [], ◌∷◌, Vec, Global, length, map, take, get_or, refl, sym, ap, ◌∙◌, subst, arith, append-nil, All}
 use Rattle.std.specs.Prelude.{slice_index_or}
 use Rattle.std.proofs.lemmas.List.{get_or-map, length-append, length-map, nil_from_length}
-use Rattle.std.proofs.lemmas.List.Elements.{All-cons, All-head, All-nil, All-tail, All-weaker, All-map}
-use Rattle.bwe_specs.specs.declared.limits.TheConstants.{MAX_READERS, MAX_REPORTS}
+use Rattle.std.proofs.lemmas.List.Elements.{All-cons, All-head, All-nil, All-tail, All-map}
 use Rattle.bwe_specs.specs.declared.report.Report.{Report}
 use Rattle.bwe_specs.specs.Allocation.{Table}
 use Rattle.bwe_specs.specs.Reports.{reports_of}
@@ -14,16 +13,16 @@ use Rattle.crew_actors.specs.declared.log.ReadLine.{ReadLine}
 use Rattle.crew_actors.specs.declared.log.ReaderLog.{ReaderLog}
 use Rattle.crew_actors.specs.declared.log.CrewLog.{CrewLog}
 use Rattle.crew_actors.specs.Lines.{IsLineOf, NeverGoBack}
-use Rattle.crew_actors.specs.LegalCrewLog.{IsLegalCrewLog, IsReaderOf, lines_of as reader_lines_of}
+use Rattle.crew_actors.specs.LegalCrewLog.{IsReaderOf, lines_of as reader_lines_of}
 use Rattle.table_text.specs.TableText.{text_of}
-use Rattle.run_text.specs.RunText.{RunNames, run_text_of}
-use Rattle.run_audit.specs.History.{scripts_of, total_of}
+use Rattle.run_text.specs.RunText.{RunNames}
+use Rattle.run_audit.specs.History.{scripts_of}
 use Rattle.run_audit.specs.declared.due.TheConstants.{MAX_READS}
-use Rattle.audit_law.specs.ClosedRun.{AreAudited, IsClosedRun, IsInterleaving, line_names}
+use Rattle.audit_law.specs.ClosedRun.{AreAudited, IsClosedRun, IsInterleaving}
 use Rattle.audit_law.proofs.Vectors.{vec_of}
 use Rattle.audit_law.proofs.Lines.{printed}
 use Rattle.audit_law.proofs.Histories.{history_length}
-use Rattle.audit_law.proofs.Blocks.{IsBlock, IsRight}
+use Rattle.audit_law.proofs.Blocks.{IsRight}
 use Rattle.audit_law.proofs.Readers.{IsSeen, Seen}
 use Rattle.audit_law.proofs.Texts.{IsClosed, all_seen_of, front_lines, run_text_is, seen_of}
 use Rattle.audit_law.proofs.Whole.{IsRun}
@@ -94,6 +93,7 @@ module _ (table_of : List Report → Table) (allowed : Report → Type 0) (reads
     where
       whole : history ++ reader.beyond.items ≡ history
       whole = ap (λ (beyond : List Report). history ++ beyond) (reader_closed reader (is, same)).none ∙ append-nil history
+
       line_right : (line : ReadLine) → IsLineOf (Belongs table_of) table_total history line → IsRight (total_at table_of history) (length history) line
       line_right line of = (of.within, of.total ∙ ap table_total of.belongs_so)
 
@@ -107,7 +107,7 @@ module _ (table_of : List Report → Table) (allowed : Report → Type 0) (reads
       reader_from first (All-head AreFew first later few) ∷ readers_from later (All-tail AreFew first later few)
 
   seen-readers : (seen : List Seen) (few : All AreFew seen) → all_seen_of (readers_from seen few) ≡ seen
-  unfolding readers_from reader_from
+  unfolding readers_from
   seen-readers [] few = refl
   seen-readers (first ∷ later) few = ap (λ (rest : List Seen). first ∷ rest) (seen-readers later (All-tail AreFew first later few))
 
@@ -116,7 +116,6 @@ module _ (table_of : List Report → Table) (allowed : Report → Type 0) (reads
 
   reader_is : (seen : Seen) (few : length seen.reads ≤ MAX_READS) → IsSeen (total_at table_of history) (length history) reads seen
       → IsReaderOf (Belongs table_of) table_total allowed reads history (reader_from seen few)
-  unfolding reader_from
   reader_is seen few is = record {
     reads_so = is.count;
     length_so = ap length (sym (append-nil history));
@@ -148,23 +147,31 @@ module _ (names : RunNames) (table_of : List Report → Table) (table : Table) (
   run_of text run = go run.log.readers.items refl where
     log : CrewLog Table
     log = run.log
+
     history : List Report
     history = log.history.items
+
     allowed : Report → Type 0
     allowed = IsAllowed (length scripts) (IsFit tasks links)
+
     legal : IsInterleaving tasks links (scripts_of scripts) history
     legal = interleaving_from tasks links scripts history run.legal.scripts_so run.legal.no_other
+
     part : All (IsPart table_of allowed run.reads history) log.readers.items
     part k d lt = (run.legal.each_reader k d lt, run.closed k d lt)
+
     closed : All (IsClosed (length history)) log.readers.items
     closed k d lt = reader_closed table_of allowed run.reads history (get_or log.readers.items k d) (part k d lt)
+
     text_so : text ≡ printed (front_lines names history (scripts_of scripts) (all_seen_of log.readers.items)) ++ text_of names.table table
     text_so =
         run.text_so
         ∙ run_text_is names log (scripts_of scripts) (run.legal.sent ∙ lengths-are scripts) closed
         ∙ ap (λ (t : Table). printed (front_lines names history (scripts_of scripts) (all_seen_of log.readers.items)) ++ text_of names.table t) (run.legal.table_so ∙ audited.table_so history legal)
+
     seen : All (IsSeen (total_at table_of history) (length history) run.reads) (all_seen_of log.readers.items)
     seen = All-map (IsSeen (total_at table_of history) (length history) run.reads) seen_of log.readers.items (λ k d lt. reader_seen table_of allowed run.reads history (get_or log.readers.items k d) (part k d lt))
+
     go : (readers : List ReaderLog) → log.readers.items ≡ readers → IsRun names tasks links (scripts_of scripts) (λ reports. table_total (table_of reports)) table text
     go [] is = absurd (omega (arith, run.some_readers, run.legal.readers_so, ap length is))
     go (first ∷ later) is = record {
@@ -205,18 +212,25 @@ module _ (names : RunNames) (table_of : List Report → Table) (table : Table) (
     where
       history : List Report
       history = run.history
+
       allowed : Report → Type 0
       allowed = IsAllowed (length scripts) (IsFit tasks links)
+
       seen : List Seen
       seen = run.first ∷ run.later
+
       few : All AreFew seen
       few k d lt = omega (arith, (run.seen k d lt).count, run.few_reads)
+
       readers : List ReaderLog
       readers = readers_from table_of allowed run.reads history seen few
+
       count : length readers ≡ length seen
       count = length-readers table_of allowed run.reads history seen few
+
       parts : All (IsPart table_of allowed run.reads history) readers
       parts = readers_are table_of allowed run.reads history seen few run.seen
+
       log : CrewLog Table
       log = record {
         history = vec_of history (omega (arith, history_length tasks links (scripts_of scripts) history run.legal, audited.scripts_so.few));

@@ -1,5 +1,5 @@
 -- The blocks of all readers and the table behind them, there and back.
-use Rattle.std.proofs.Common.{◌≡◌, ◌<◌, ◌≤◌, ◌+◌, ◌^◌, ◌++◌, ◌==◌, ◌&&◌, ℕ, zero, suc, Bool, true, false, cond, not, List, [], ◌∷◌, length, nat_lt, Option, Some, None, Result, Ok, Err, refl, sym, ap, ◌∙◌, subst, arith, append_assoc, append-nil, All}
+use Rattle.std.proofs.Common.{◌≡◌, ◌<◌, ◌≤◌, ◌+◌, ◌^◌, ◌++◌, ◌==◌, ◌&&◌, ℕ, zero, suc, Bool, true, false, cond, not, List, [], ◌∷◌, length, nat_lt, Option, Some, None, Result, Ok, Err, refl, sym, ap, ◌∙◌, subst, arith, append_assoc, All}
 use Rattle.std.proofs.lemmas.List.Elements.{All-cons, All-head, All-nil, All-tail}
 use Rattle.std.proofs.lemmas.Bool.{and_from, and_parts, eq-eqb, eqb-true, lt-ltb, ltb-true}
 use Rattle.bwe_specs.specs.declared.limits.TheConstants.{MAX_READERS}
@@ -9,9 +9,9 @@ use Rattle.run_audit.specs.Words.{words_of}
 use Rattle.run_audit.specs.Forms.{LineNames, reader_of}
 use Rattle.run_audit.specs.History.{total_of}
 use Rattle.run_audit.specs.Walk.{Walked, after_line, after_reader, after_table, is_reader, leads_to, new_block, reader_leads, step_from, with_table}
-use Rattle.run_audit.specs.Verdict.{at_end, go_on, judge}
+use Rattle.run_audit.specs.Verdict.{go_on, judge}
 use Rattle.run_audit.specs.declared.due.Due.{Due}
-use Rattle.run_audit.specs.declared.due.Due.TheVariants.{Reporter, Reader, Line, Next, Table}
+use Rattle.run_audit.specs.declared.due.Due.TheVariants.{Reader, Line, Next, Table}
 use Rattle.run_audit.specs.declared.due.Step.{Step}
 use Rattle.run_audit.specs.declared.due.TheConstants.{MAX_READS}
 use Rattle.run_audit.specs.declared.forms.ReaderWords.{ReaderWords}
@@ -165,9 +165,13 @@ module _ (names : LineNames) (scripts : List (List Report)) (total_at : ℕ → 
   block_seen number reads table lines block =
       let count : length block.reads ≡ reads = omega (arith, eqb-true (0 + length block.reads) reads block.wanted) in
       let seen : Seen = record { reads = block.reads; last = block.last } in (
-        seen, block.rest, block.number, block.lines_so, record { count = count; is = block.is },
+        seen,
+        block.rest,
+        block.number,
+        block.lines_so,
+        record { count = count; is = block.is },
         subst (λ (n : ℕ). judge names scripts total_at left (record { due = Next n reads; table = table }) block.number block.rest ≡ Legal) (omega arith)
-        (subst (λ (n : ℕ). judge names scripts total_at left (record { due = Next (number + 1) n; table = table }) block.number block.rest ≡ Legal) (omega (arith, count)) block.legal),
+            (subst (λ (n : ℕ). judge names scripts total_at left (record { due = Next (number + 1) n; table = table }) block.number block.rest ≡ Legal) (omega (arith, count)) block.legal),
       )
 
   end_back : (table : List (List ℕ)) (number reads place : ℕ) → judge names scripts total_at left (record { due = Next number reads; table = table }) place [] ≡ Legal → (table ≡ []) × (left ≡ [])
@@ -210,6 +214,7 @@ module _ (names : LineNames) (scripts : List (List Report)) (total_at : ℕ → 
     Later : Type 0
     Later = (number : ℕ) (place : ℕ) (lines : List (List ℕ)) → number + room ≡ MAX_READERS
         → judge names scripts total_at left (record { due = Next number reads; table = table }) place lines ≡ Legal → AreRead number room reads table lines
+
     go : Later → (b : Bool) → is_reader line ≡ b → AreRead number (suc room) reads table (line ∷ lines)
     go later false is = table_read table number (suc room) reads place line lines is legal
     go later true is =

@@ -1,21 +1,19 @@
 -- One line more behind the history; the reporters' lines and the table's, there and back.
-use Rattle.std.proofs.Common.{◌≡◌, ◌<◌, ◌≤◌, ◌+◌, ◌^◌, ◌++◌, ◌==◌, ◌&&◌, ℕ, zero, suc, Bool, true, false, cond, not, List, [], ◌∷◌, length, map, get_or, nat_lt, codes, Option, Some, None, Result, Ok, Err, refl, sym, ap, ◌∙◌, subst, arith, append_assoc}
+use Rattle.std.proofs.Common.{◌≡◌, ◌<◌, ◌≤◌, ◌+◌, ◌^◌, ◌++◌, ◌==◌, ◌&&◌, ℕ, suc, Bool, true, false, cond, not, List, [], ◌∷◌, length, Option, Some, None, Result, Ok, Err, refl, sym, ap, ◌∙◌, subst, arith, append_assoc}
 use Rattle.std.specs.Prelude.{slice_index_or}
 use Rattle.std.specs.Str.{bytes_eq}
 use Rattle.std.proofs.lemmas.List.{length-append, get_or_at}
 use Rattle.std.proofs.lemmas.Bool.{and_from, and_parts, eq-eqb, eqb-true, le-ltb, lt-ltb, ne_eqb}
-use Rattle.std.proofs.lemmas.Slice.Eq.{bytes_eq-Decides}
 use Rattle.bwe_specs.specs.declared.report.Report.{Report}
 use Rattle.run_audit.specs.Words.{word_at, words_of}
 use Rattle.run_audit.specs.Forms.{LineNames, sent_of}
 use Rattle.run_audit.specs.Walk.{Walk, Walked, after_line, after_reporter, after_table, due_from, is_over, is_reader, leads_to, sent_leads, step_from, with_table}
 use Rattle.run_audit.specs.Verdict.{at_end, go_on, is_total, judge}
 use Rattle.run_audit.specs.declared.due.Due.{Due}
-use Rattle.run_audit.specs.declared.due.Due.TheVariants.{Reporter, Reader, Line, Next, Table}
+use Rattle.run_audit.specs.declared.due.Due.TheVariants.{Reporter, Reader, Next, Table}
 use Rattle.run_audit.specs.declared.due.Step.{Step}
 use Rattle.run_audit.specs.declared.verdict.AuditCause.{AuditCause}
 use Rattle.run_audit.specs.declared.verdict.AuditCause.TheVariants as causes
-use Rattle.run_audit.specs.declared.verdict.AuditVerdict.{AuditVerdict}
 use Rattle.run_audit.specs.declared.verdict.AuditVerdict.TheVariants.{Legal, Wrong}
 use Rattle.audit_law.specs.ClosedRun.{AreNames}
 use Rattle.audit_law.proofs.Lines.{spaced, spaced_words}
@@ -137,8 +135,10 @@ module _ (names : LineNames) (scripts : List (List Report)) (total_at : ℕ → 
       where
         sent : ℕ
         sent = length (slice_index_or scripts next [])
+
         line : List (List ℕ)
         line = sent_line names next sent
+
         small : sent < 2 ^ 64
         small = few next within
 
@@ -158,8 +158,10 @@ module _ (names : LineNames) (scripts : List (List Report)) (total_at : ℕ → 
       where
         longer : length (front ++ script ∷ []) ≡ length front + 1
         longer = omega (arith, length-append front (script ∷ []))
+
         within : length front < length scripts
         within = omega (arith, ap length is, length-append front (script ∷ later))
+
         script_is : slice_index_or scripts (length front) [] ≡ script
         script_is = ap (λ (list : List (List Report)). slice_index_or list (length front) []) is ∙ get_or_at front script later [] (length front) refl
 
@@ -179,7 +181,7 @@ module _ (names : LineNames) (scripts : List (List Report)) (total_at : ℕ → 
       test true right e =
           let parts = and_parts (bytes_eq (word_at (words_of line) 1) (word_at names.reporters next)) (sent == length (slice_index_or scripts next [])) right in (
             spaced_words line ∙ ap spaced (sent_read names (words_of line) next sent read parts.0)
-            ∙ ap (λ (n : ℕ). spaced (sent_line names next n)) (eqb-true sent (length (slice_index_or scripts next [])) parts.1),
+                ∙ ap (λ (n : ℕ). spaced (sent_line names next n)) (eqb-true sent (length (slice_index_or scripts next [])) parts.1),
             cc,
           )
 
@@ -222,13 +224,18 @@ module _ (names : LineNames) (scripts : List (List Report)) (total_at : ℕ → 
     where
       longer : length (front ++ script ∷ []) ≡ length front + 1
       longer = omega (arith, length-append front (script ∷ []))
+
       within : length front < length scripts
       within = omega (arith, ap length is, length-append front (script ∷ later))
+
       step : IsStepped (record { due = Reporter (length front); table = table }) number line lines
       step = step_back (record { due = Reporter (length front); table = table }) number line lines (subst (λ (due : Due). judge names scripts total_at left (record { due = due; table = table }) number (line ∷ lines) ≡ Legal) (due_some (length front) within) legal)
+
       here : (line ≡ spaced (sent_line names (length front) (length (slice_index_or scripts (length front) [])))) × (step.walked ≡ record { walk = record { due = due_from scripts (length front + 1); table = table }; shown = None })
       here = sent_back table (length front) line step.walked step.is
+
       line_so : line ≡ spaced (sent_line names (length front) (length script))
       line_so = here.0 ∙ ap (λ (list : List Report). spaced (sent_line names (length front) (length list))) (ap (λ (list : List (List Report)). slice_index_or list (length front) []) is ∙ get_or_at front script later [] (length front) refl)
+
       legal_next : judge names scripts total_at left (record { due = due_from scripts (length front + 1); table = table }) (number + 1) lines ≡ Legal
       legal_next = subst (λ (walked : Walked). judge names scripts total_at left walked.walk (number + 1) lines ≡ Legal) here.1 step.legal

@@ -1,5 +1,5 @@
 -- The text of a run is its lines, and the table's text behind them.
-use Rattle.std.proofs.Common.{◌≡◌, ◌<◌, ◌≤◌, ◌+◌, ◌++◌, ℕ, zero, suc, List, [], ◌∷◌, Vec, Global, length, map, codes, decimal, refl, sym, ap, ap₂, ◌∙◌, subst, arith, append_assoc, append-nil, All}
+use Rattle.std.proofs.Common.{◌≡◌, ◌++◌, ℕ, suc, List, [], ◌∷◌, length, map, codes, decimal, refl, sym, ap, ◌∙◌, append_assoc, append-nil, All}
 use Rattle.std.specs.Prelude.{flat_map}
 use Rattle.std.proofs.lemmas.List.Elements.{All-head, All-tail}
 use Rattle.bwe_specs.specs.declared.report.Target.{Target}
@@ -10,10 +10,10 @@ use Rattle.crew_actors.specs.declared.log.ReadLine.{ReadLine}
 use Rattle.crew_actors.specs.declared.log.ReaderLog.{ReaderLog}
 use Rattle.crew_actors.specs.declared.log.CrewLog.{CrewLog}
 use Rattle.table_text.specs.TableText.{text_of}
-use Rattle.run_text.specs.RunText.{RunNames, beyond_line, final_line as final_text, numbered, read_line as read_text, reader_lines as reader_text, report_line as report_text, report_word, run_text_of, sent_line as sent_text, shown as shown_text, target_name, told as told_text}
+use Rattle.run_text.specs.RunText.{RunNames, beyond_line, final_line as final_text, numbered, read_line as read_text, reader_lines as reader_text, report_line as report_text, report_word, run_text_of, sent_line as sent_text, target_name}
 use Rattle.audit_law.specs.ClosedRun.{line_names}
 use Rattle.audit_law.proofs.Lines.{printed, printed-append, spaced}
-use Rattle.audit_law.proofs.LineForms.{history_line, name_of, reader_line, report_line, sent_line, shown_line}
+use Rattle.audit_law.proofs.LineForms.{history_line, reader_line, report_line, sent_line}
 use Rattle.audit_law.proofs.Histories.{report_lines}
 use Rattle.audit_law.proofs.Steps.{sent_lines}
 use Rattle.audit_law.proofs.Blocks.{final_words, read_lines, read_words}
@@ -119,14 +119,19 @@ unfolding run_text_of front_lines
 run_text_is names log scripts sent closed = ap (λ (t : List ℕ). t ++ text_of names.table log.table) whole where
   history : List Report
   history = log.history.items
+
   reports : List (List ℕ)
   reports = report_lines (line_names names) 0 history
+
   first : List (List ℕ)
   first = spaced (history_line (length history)) ∷ []
+
   senders : List (List ℕ)
   senders = sent_lines (line_names names) 0 scripts
+
   seen : List (List ℕ)
   seen = all_seen (length history) 0 (all_seen_of log.readers.items)
+
   whole : codes "history " ++ decimal (length history) ++ codes "\n" ++ numbered (report_text names) 0 history ++ numbered (sent_text names) 0 log.sent.items ++ numbered (reader_text names (length history)) 0 log.readers.items
       ≡ printed (((first ++ reports) ++ senders) ++ seen)
   whole =
@@ -134,6 +139,6 @@ run_text_is names log scripts sent closed = ap (λ (t : List ℕ). t ++ text_of 
       ∙ ap (λ (s : List ℕ). printed first ++ printed reports ++ s ++ numbered (reader_text names (length history)) 0 log.readers.items) (ap (numbered (sent_text names) 0) sent ∙ sent_are names 0 scripts)
       ∙ ap (λ (r : List ℕ). printed first ++ printed reports ++ printed senders ++ r) (readers_are names (length history) 0 log.readers.items closed)
       ∙ sym (
-        printed-append ((first ++ reports) ++ senders) seen
-        ∙ ap (λ (t : List ℕ). t ++ printed seen) (printed-append (first ++ reports) senders ∙ ap (λ (t : List ℕ). t ++ printed senders) (printed-append first reports))
+      printed-append ((first ++ reports) ++ senders) seen
+      ∙ ap (λ (t : List ℕ). t ++ printed seen) (printed-append (first ++ reports) senders ∙ ap (λ (t : List ℕ). t ++ printed senders) (printed-append first reports))
       )

@@ -1,5 +1,5 @@
 -- A `Vec` with given elements.
-use Rattle.std.proofs.Common.{◌≡◌, ◌<◌, ◌≤◌, ◌^◌, ℕ, List, Vec, Global, length, refl, arith}
+use Rattle.std.proofs.Common.{◌<◌, ◌^◌, List, Vec, Global, length, refl, arith}
 use denote.RawPtr.{null_ptr}
 
 -- a `Vec` of these elements, of which there are not too many

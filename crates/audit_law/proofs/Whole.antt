@@ -1,7 +1,6 @@
 -- The verdict on a whole text, there and back.
-use Rattle.std.proofs.Common.{◌≡◌, ◌<◌, ◌≤◌, ◌+◌, ◌^◌, ◌++◌, ℕ, zero, suc, Bool, true, false, List, [], ◌∷◌, length, take, get_or, Result, Ok, Err, refl, sym, ap, ◌∙◌, subst, arith, append_assoc, append-nil, All}
+use Rattle.std.proofs.Common.{◌≡◌, ◌<◌, ◌≤◌, ◌+◌, ◌^◌, ◌++◌, ℕ, zero, suc, List, [], ◌∷◌, length, take, Result, Ok, Err, refl, sym, ap, ◌∙◌, subst, arith, append_assoc, append-nil, All}
 use Rattle.std.specs.Prelude.{slice_index_or}
-use Rattle.std.specs.List.{sum_by}
 use Rattle.std.proofs.lemmas.List.Elements.{All-append, All-cons, All-nil, All-take, All-weaker}
 use Rattle.std.proofs.lemmas.List.Sums.{sum_by-cons}
 use Rattle.bwe_specs.specs.declared.limits.TheConstants.{MAX_READERS}
@@ -11,14 +10,12 @@ use Rattle.demand_book.specs.Fit.{IsFit}
 use Rattle.table_text.specs.TableText.{text_of}
 use Rattle.run_text.specs.RunText.{RunNames}
 use Rattle.run_audit.specs.Words.{left_of, lines_of}
-use Rattle.run_audit.specs.Forms.{LineNames}
 use Rattle.run_audit.specs.History.{Reported, history_in, total_of}
-use Rattle.run_audit.specs.Walk.{due_from}
 use Rattle.run_audit.specs.Verdict.{judge, judge_rest, verdict_of}
 use Rattle.run_audit.specs.declared.due.TheConstants.{MAX_READS}
 use Rattle.run_audit.specs.declared.due.Due.TheVariants.{Reader}
 use Rattle.run_audit.specs.declared.verdict.Fault.{Fault}
-use Rattle.run_audit.specs.declared.verdict.AuditVerdict.TheVariants.{Legal, Wrong}
+use Rattle.run_audit.specs.declared.verdict.AuditVerdict.TheVariants.{Legal}
 use Rattle.audit_law.specs.ClosedRun.{AreNames, AreScripts, IsInterleaving, line_names}
 use Rattle.audit_law.proofs.Lines.{HasNo, left_of-printed, lines_of-printed, printed, printed-append, spaced, text_is}
 use Rattle.audit_law.proofs.LineForms.{history_line}
@@ -92,8 +89,10 @@ module _ (names : RunNames) (tasks links : ℕ) (scripts : List (List Report)) (
       where
         count : length history ≡ total_of scripts
         count = history_length tasks links scripts history legal
+
         tabled : List (List ℕ)
         tabled = lines_of (text_of names.table table)
+
         rest : List (List ℕ)
         rest = sent_lines (line_names names) 0 scripts ++ (all_seen (length history) 0 (first ∷ later) ++ tabled)
 
@@ -106,12 +105,16 @@ module _ (names : RunNames) (tasks links : ℕ) (scripts : List (List Report)) (
       where
         tabled : List (List ℕ)
         tabled = lines_of (text_of names.table table)
+
         front : List (List ℕ)
         front = front_lines names run.history scripts (run.first ∷ run.later)
+
         left : List ℕ
         left = left_of (printed front ++ text_of names.table table)
+
         clean : All (HasNo 10) front
         clean = front_clean run.history run.reads (run.first ∷ run.later) run.legal run.few run.seen
+
         none : left ≡ []
         none = left_of-printed front (text_of names.table table) clean ∙ table_left names.table table
 
@@ -120,6 +123,7 @@ module _ (names : RunNames) (tasks links : ℕ) (scripts : List (List Report)) (
     legal_run text legal = go (history_in (line_names names) scripts (lines_of text)) refl legal where
       tabled : List (List ℕ)
       tabled = lines_of (text_of names.table table)
+
       go : (answer : Result Reported Fault) → history_in (line_names names) scripts (lines_of text) ≡ answer → judge_rest (line_names names) scripts total tabled (left_of text) answer ≡ Legal → IsRun text
       go (Err fault) read e = absurd cc
       go (Ok reported) read e =
