@@ -1,0 +1,3 @@
+pub mod DocumentNames
+pub mod DocumentTree
+pub mod DocumentTotals

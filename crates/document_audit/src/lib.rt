@@ -1,0 +1,4 @@
+//! The audit of the runs of a document.
+#![tactic(auto)]
+
+fn nothing() {}
