@@ -32,11 +32,11 @@ use Rattle.audit_law.proofs.Whole.{IsRun}
 no_reports : Vec Report Global
 no_reports = vec_of [] (omega arith)
 
-script_at : (scripts : List (Vec Report Global)) (number : ℕ) (other : Vec Report Global) → number < length scripts
+pub script_at : (scripts : List (Vec Report Global)) (number : ℕ) (other : Vec Report Global) → number < length scripts
     → slice_index_or (scripts_of scripts) number [] ≡ (slice_index_or scripts number other).items
 script_at scripts number other within = get_or-map (λ (script : Vec Report Global). script.items) scripts number other [] within
 
-script_count : (scripts : List (Vec Report Global)) → length (scripts_of scripts) ≡ length scripts
+pub script_count : (scripts : List (Vec Report Global)) → length (scripts_of scripts) ≡ length scripts
 script_count scripts = length-map scripts (λ (script : Vec Report Global). script.items)
 
 lengths-are : (scripts : List (Vec Report Global)) → map (λ script. length script.items) scripts ≡ map (λ script. length script) (scripts_of scripts)
@@ -51,7 +51,7 @@ module _ (tasks links : ℕ) (scripts : List (Vec Report Global)) (history : Lis
     no_other = subst (λ (n : ℕ). All (λ report. (report.reporter < n) × IsFit tasks links report) history) (sym (script_count scripts)) no_other;
   }
 
-  each_from : IsInterleaving tasks links (scripts_of scripts) history → (number : ℕ) (other : Vec Report Global) → number < length scripts → reports_of number history ≡ (slice_index_or scripts number other).items
+  pub each_from : IsInterleaving tasks links (scripts_of scripts) history → (number : ℕ) (other : Vec Report Global) → number < length scripts → reports_of number history ≡ (slice_index_or scripts number other).items
   each_from legal number other within = legal.each number (omega (arith, within, script_count scripts)) ∙ script_at scripts number other within
 
   allowed_from : IsInterleaving tasks links (scripts_of scripts) history → All (IsAllowed (length scripts) (IsFit tasks links)) history

@@ -1,3 +1,4 @@
 pub mod DocumentNames
 pub mod DocumentTree
 pub mod DocumentTotals
+pub mod Audited
