@@ -1,13 +1,16 @@
 -- An accepted document has what the law of the audit asks.
-use Rattle.std.proofs.Common.{◌≡◌, ◌≢◌, ◌<◌, ◌≤◌, ◌+◌, ◌^◌, ℕ, zero, suc, List, [], ◌∷◌, Vec, Global, length, map, get_or, Option, Some, None, Result, Ok, Err, refl, sym, ap, ◌∙◌, subst, arith, All}
+use Rattle.std.proofs.Common.{◌≡◌, ◌≢◌, ◌<◌, ◌≤◌, ◌+◌, ◌^◌, ◌==◌, ℕ, zero, suc, List, [], ◌∷◌, Vec, Global, length, map, get_or, Option, Some, None, Result, Ok, Err, refl, sym, ap, ◌∙◌, subst, arith, All}
 use Rattle.std.specs.Prelude.{⊤, slice_index_or, unwrap_or}
-use Rattle.std.proofs.lemmas.List.Elements.{All-cons, All-head, All-nil, All-tail, All-weaker}
+use Rattle.std.proofs.lemmas.List.Elements.{All-head, All-map, All-tail, All-weaker}
+use Rattle.std.proofs.lemmas.List.Sums.{count_by-le-length, length-filter}
 use Rattle.bwe_specs.specs.declared.limits.TheConstants.{MAX_AMOUNT, MAX_REPORTERS, MAX_REPORTS}
 use Rattle.bwe_specs.specs.declared.report.Report.{Report}
 use Rattle.bwe_specs.specs.declared.report.Target.{Target}
 use Rattle.bwe_specs.specs.Allocation.{allocation}
 use Rattle.bwe_specs.specs.Tree.{Cluster}
 use Rattle.bwe_specs.specs.TreeFunctions.{AreClusters}
+use Rattle.bwe_specs.specs.Reports.{numbers as numbers_below, reports_of}
+use Rattle.document_run.specs.Runs.{items_of, scripts_of}
 use Rattle.crew.specs.Starting.{AreScripts as AreCrewScripts}
 use Rattle.demand_book.specs.Fit.{IsFit}
 use Rattle.document_run.proofs.Owned.{are-scripts, few-scripts, history-table, room-scripts}
@@ -39,6 +42,7 @@ use Rattle.run_audit.proofs.Counts.{total_counted}
 use Rattle.run_audit.specs.History.{scripts_of as lists_of, total_of}
 use Rattle.run_text.specs.RunText.{run_names_of}
 use Rattle.audit_law.specs.ClosedRun.{AreAudited, AreNames, AreScripts, IsInterleaving, line_names}
+use Rattle.audit_law.proofs.Vectors.{vec_of}
 use Rattle.audit_law.proofs.Logs.{each_from, script_at, script_count}
 use Rattle.document_audit.specs.Laws.{AreScriptsOf, plan_in}
 use Rattle.document_audit.proofs.DocumentNames.{ArePlain, names_plain}
@@ -108,3 +112,90 @@ read_of bytes accepted e =
     let value = bind_ok (value_of (json bytes)) document_of_value accepted e in
     let raw = bind_ok (refused_by bad_shape (document_at value.0)) document_of_raw accepted value.2 in
     by_raw raw.0 accepted raw.2
+
+-- ---- what the law of the audit asks
+
+module _ (bytes : List ℕ) (document : code.Document) (usable : IsUsable document) (accepted : IsAccepted (documents.document bytes) document) where
+  read : IsReadOf accepted.0
+  read = read_of bytes accepted.0 accepted.1
+
+  plain : ArePlain (names_view document.names)
+  plain = subst ArePlain (sym accepted.2.names) (names_plain read.raw read.u accepted.0.names read.range read.listed)
+
+  names-are : AreNames (line_names (run_names_of document.names))
+  names-are = record { tasks = plain.tasks; links = plain.links; reporters = plain.reporters; apart = plain.apart }
+
+  clusters-are : AreClusters document.tree.top document.tree.clusters
+  clusters-are =
+      let made : AreClusters accepted.0.top accepted.0.clusters =
+      subst (λ (top : ℕ). AreClusters top accepted.0.clusters) (sym read.top_so) (subst (AreClusters read.raw.top) (sym read.clusters_so) (clusters_right read.raw.top read.raw.groups read.functions)) in
+      subst (λ tree. AreClusters tree.top tree.clusters) (sym accepted.2.tree) made
+
+  tasks-few : length (task_numbers document.tree.clusters) ≤ 20_000
+  tasks-few = subst (λ tree. length (task_numbers tree.clusters) ≤ 20_000) (sym accepted.2.tree) (few_tasks accepted.0.clusters read.tree)
+
+  totals-are : (reports : List Report) → All (IsFit (tasks_in document) (link_count document)) reports → table_total (allocation (plan_in document) reports) < 2 ^ 64
+  totals-are reports fit =
+      total_small (plan_in document) reports clusters-are usable.groups tasks-few (All-weaker (IsFit (tasks_in document) (link_count document)) (λ (report : Report). report.amount ≤ MAX_AMOUNT) (λ report is. is.1) reports fit)
+
+  module _ (scripts : List (Vec Report Global)) (split : AreScriptsOf document scripts) where
+    counted : length scripts ≡ reporter_count document
+    counted = split-count (reporter_count document) document.script.items scripts split
+
+    scripts-are : AreScripts (line_names (run_names_of document.names)) (tasks_in document) (link_count document) (lists_of scripts)
+    scripts-are = record {
+      tasks_named = omega (arith, usable.task_names);
+      links_named = omega (arith, usable.link_names);
+      reporters_named = omega (arith, script_count scripts, counted);
+      own = λ number lt. own number (omega (arith, lt, script_count scripts));
+      few_reporters = omega (arith, script_count scripts, few-scripts document usable scripts split);
+      few = subst (λ count. count ≤ MAX_REPORTS) (sym (total_counted scripts)) (room-scripts document usable scripts split);
+    }
+      where
+        are : AreCrewScripts (tasks_in document) (link_count document) scripts
+        are = are-scripts document usable scripts split
+        own_at : (number : ℕ) (other : Vec Report Global) → number < length scripts → All (λ report. (report.reporter ≡ number) × IsFit (tasks_in document) (link_count document) report) (slice_index_or (lists_of scripts) number [])
+        own_at number other lt =
+            subst (All (λ report. (report.reporter ≡ number) × IsFit (tasks_in document) (link_count document) report)) (sym (script_at scripts number other lt))
+            (λ k d within. ((are number other lt).0 k d within, (are number other lt).1 k d within))
+        own : (number : ℕ) → number < length scripts → All (λ report. (report.reporter ≡ number) × IsFit (tasks_in document) (link_count document) report) (slice_index_or (lists_of scripts) number [])
+        own number lt = own_at number (vec_of [] (omega arith)) lt
+
+    owner : Target → ℕ
+    owner target = unwrap_or (owner_of document.task_owners.items document.link_owners.items target) 0
+
+    tables-are : (history : List Report) → IsInterleaving (tasks_in document) (link_count document) (lists_of scripts) history
+        → allocation (plan_in document) history ≡ allocation (plan_in document) document.script.items
+    unfolding owner
+    tables-are history legal =
+        history-table (plan_in document) owner (reporter_count document) document.script.items history scripts split (each_from (tasks_in document) (link_count document) scripts history legal)
+        (λ k d lt. sym (ap (λ (o : Option ℕ). unwrap_or o 0) (usable.by_owners k d lt)))
+        (λ k d lt. (usable.reports k d lt).0)
+        (λ k d lt. subst (λ (count : ℕ). (get_or history k d).reporter < count) (script_count scripts ∙ counted) (legal.no_other k d lt).0)
+
+    pub audited : AreAudited (run_names_of document.names) (allocation (plan_in document)) (allocation (plan_in document) document.script.items) (tasks_in document) (link_count document) scripts
+    audited = record { names_so = names-are; scripts_so = scripts-are; totals = totals-are; table_so = tables-are }
+
+-- ---- scripts of lists
+
+vecs_of : (lists : List (List Report)) → All (λ list. length list < 2 ^ 63) lists → List (Vec Report Global)
+vecs_of [] few = []
+vecs_of (list ∷ lists) few =
+    vec_of list (All-head (λ (list : List Report). length list < 2 ^ 63) list lists few) ∷ vecs_of lists (All-tail (λ (list : List Report). length list < 2 ^ 63) list lists few)
+
+items-vecs_of : (lists : List (List Report)) (few : All (λ list. length list < 2 ^ 63) lists) → items_of (vecs_of lists few) ≡ lists
+unfolding vecs_of
+items-vecs_of [] few = refl
+items-vecs_of (list ∷ lists) few = ap (λ (rest : List (List Report)). list ∷ rest) (items-vecs_of lists (All-tail (λ (list : List Report). length list < 2 ^ 63) list lists few))
+
+reports-le : (reporter : ℕ) (reports : List Report) → length (reports_of reporter reports) ≤ length reports
+reports-le reporter reports = omega (arith, length-filter (λ (report : Report). report.reporter == reporter) reports, count_by-le-length (λ (report : Report). report.reporter == reporter) reports)
+
+-- there are scripts that are the document's script split by reporter
+pub some_scripts : (document : code.Document) → IsUsable document → (scripts : List (Vec Report Global)) × AreScriptsOf document scripts
+some_scripts document usable = (vecs_of lists few, items-vecs_of lists few) where
+  lists : List (List Report)
+  lists = scripts_of (reporter_count document) document.script.items
+  few : All (λ list. length list < 2 ^ 63) lists
+  few = All-map (λ (list : List Report). length list < 2 ^ 63) (λ (reporter : ℕ). reports_of reporter document.script.items) (numbers_below (reporter_count document))
+      (λ k d lt. omega (arith, reports-le (get_or (numbers_below (reporter_count document)) k d) document.script.items, usable.few_reports))

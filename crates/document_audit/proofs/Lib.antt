@@ -2,3 +2,4 @@ pub mod DocumentNames
 pub mod DocumentTree
 pub mod DocumentTotals
 pub mod Audited
+pub mod Verdicts
