@@ -11,3 +11,4 @@ pub mod Texts
 pub mod Ends
 pub mod Whole
 pub mod Logs
+pub mod AuditLaw

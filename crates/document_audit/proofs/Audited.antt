@@ -1,13 +1,12 @@
 -- An accepted document has what the law of the audit asks.
-use Rattle.std.proofs.Common.{◌≡◌, ◌≢◌, ◌<◌, ◌≤◌, ◌+◌, ◌^◌, ◌==◌, ℕ, zero, suc, List, [], ◌∷◌, Vec, Global, length, map, get_or, Option, Some, None, Result, Ok, Err, refl, sym, ap, ◌∙◌, subst, arith, All}
+use Rattle.std.proofs.Common.{◌≡◌, ◌<◌, ◌≤◌, ◌^◌, ◌==◌, ℕ, List, [], ◌∷◌, Vec, Global, length, get_or, Option, Some, None, Result, Ok, Err, refl, sym, ap, ◌∙◌, subst, arith, All}
 use Rattle.std.specs.Prelude.{⊤, slice_index_or, unwrap_or}
 use Rattle.std.proofs.lemmas.List.Elements.{All-head, All-map, All-tail, All-weaker}
 use Rattle.std.proofs.lemmas.List.Sums.{count_by-le-length, length-filter}
-use Rattle.bwe_specs.specs.declared.limits.TheConstants.{MAX_AMOUNT, MAX_REPORTERS, MAX_REPORTS}
+use Rattle.bwe_specs.specs.declared.limits.TheConstants.{MAX_AMOUNT, MAX_REPORTS}
 use Rattle.bwe_specs.specs.declared.report.Report.{Report}
 use Rattle.bwe_specs.specs.declared.report.Target.{Target}
 use Rattle.bwe_specs.specs.Allocation.{allocation}
-use Rattle.bwe_specs.specs.Tree.{Cluster}
 use Rattle.bwe_specs.specs.TreeFunctions.{AreClusters}
 use Rattle.bwe_specs.specs.Reports.{numbers as numbers_below, reports_of}
 use Rattle.document_run.specs.Runs.{items_of, scripts_of}
@@ -26,7 +25,7 @@ use Rattle.doc_passes.specs.Ranges.{ranges}
 use Rattle.doc_passes.specs.Names.{NameLists, name_lists}
 use Rattle.doc_passes.specs.Numbers.{Numbers, numbers}
 use Rattle.plan_doc.specs.declared.document.Document as code
-use Rattle.plan_doc.specs.Accepted.{IsAccepted, IsDocumentOf}
+use Rattle.plan_doc.specs.Accepted.{IsAccepted}
 use Rattle.plan_doc.specs.Conditions.{IsUsable, link_count, reporter_count, tasks_in}
 use Rattle.plan_doc.specs.Document as documents
 use Rattle.plan_doc.specs.Document.{Accepted, accepted as accepted_by, clusters_of, document, document_by, document_of_raw, document_of_value, links_of, over_limit, refused_by, unless, value_of}
@@ -39,7 +38,7 @@ use Rattle.wan_topology.specs.Faults.{topology_fault}
 use Rattle.wan_topology.specs.Network.{network_of}
 use Rattle.raw_document.specs.declared.doc_path.PathStep.{PathStep}
 use Rattle.run_audit.proofs.Counts.{total_counted}
-use Rattle.run_audit.specs.History.{scripts_of as lists_of, total_of}
+use Rattle.run_audit.specs.History.{scripts_of as lists_of}
 use Rattle.run_text.specs.RunText.{run_names_of}
 use Rattle.audit_law.specs.ClosedRun.{AreAudited, AreNames, AreScripts, IsInterleaving, line_names}
 use Rattle.audit_law.proofs.Vectors.{vec_of}
@@ -154,10 +153,12 @@ module _ (bytes : List ℕ) (document : code.Document) (usable : IsUsable docume
       where
         are : AreCrewScripts (tasks_in document) (link_count document) scripts
         are = are-scripts document usable scripts split
+
         own_at : (number : ℕ) (other : Vec Report Global) → number < length scripts → All (λ report. (report.reporter ≡ number) × IsFit (tasks_in document) (link_count document) report) (slice_index_or (lists_of scripts) number [])
         own_at number other lt =
             subst (All (λ report. (report.reporter ≡ number) × IsFit (tasks_in document) (link_count document) report)) (sym (script_at scripts number other lt))
             (λ k d within. ((are number other lt).0 k d within, (are number other lt).1 k d within))
+
         own : (number : ℕ) → number < length scripts → All (λ report. (report.reporter ≡ number) × IsFit (tasks_in document) (link_count document) report) (slice_index_or (lists_of scripts) number [])
         own number lt = own_at number (vec_of [] (omega arith)) lt
 
@@ -196,6 +197,7 @@ pub some_scripts : (document : code.Document) → IsUsable document → (scripts
 some_scripts document usable = (vecs_of lists few, items-vecs_of lists few) where
   lists : List (List Report)
   lists = scripts_of (reporter_count document) document.script.items
+
   few : All (λ list. length list < 2 ^ 63) lists
   few = All-map (λ (list : List Report). length list < 2 ^ 63) (λ (reporter : ℕ). reports_of reporter document.script.items) (numbers_below (reporter_count document))
       (λ k d lt. omega (arith, reports-le (get_or (numbers_below (reporter_count document)) k d) document.script.items, usable.few_reports))

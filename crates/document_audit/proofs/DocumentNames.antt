@@ -1,5 +1,5 @@
 -- The names of an accepted document are plain, and no two reporters have one name.
-use Rattle.std.proofs.Common.{◌≡◌, ◌≢◌, ◌<◌, ◌≤◌, ◌+◌, ◌++◌, ◌==◌, ◌&&◌, ◌||◌, ℕ, zero, suc, Bool, true, false, cond, List, [], ◌∷◌, length, get_or, Result, Ok, Err, refl, sym, ap, ◌∙◌, subst, arith, inl, inr, ◌⊎◌, All}
+use Rattle.std.proofs.Common.{◌≡◌, ◌≢◌, ◌<◌, ◌≤◌, ◌+◌, ◌++◌, ◌&&◌, ℕ, suc, Bool, true, false, cond, List, [], ◌∷◌, length, get_or, Result, Ok, Err, refl, sym, ap, ◌∙◌, subst, arith, inl, inr, ◌⊎◌, All}
 use Rattle.std.specs.Prelude.{⊤, nat_le, slice_index_or}
 use Rattle.std.specs.List.{list_all, list_any}
 use Rattle.std.specs.Str.{bytes_eq}
@@ -189,12 +189,16 @@ unfolding AreApart
 apart_more before after name apart e number other before_other within = go (cases_lt other (length before)) where
   is : (list_any (bytes_eq name) before ≡ false) × (after ≡ before ++ name ∷ [])
   is = fresh_is before after name e
+
   size : length after ≡ length before + 1
   size = ap length is.1 ∙ length_push before name
+
   at : (place : ℕ) → get_or after place [] ≡ get_or (before ++ name ∷ []) place []
   at place = ap (λ (names : List (List ℕ)). get_or names place []) is.1
+
   first : number < length before → get_or after number [] ≡ get_or before number []
   first lt = at number ∙ get_or_append_left before (name ∷ []) [] number lt
+
   go : (other < length before) ⊎ (length before ≤ other) → get_or after number [] ≡ get_or after other [] → ⊥
   go (inl lt) same = apart number other before_other lt (sym (first (omega (arith, before_other, lt))) ∙ same ∙ at other ∙ get_or_append_left before (name ∷ []) [] other lt)
   go (inr past) same =

@@ -1,25 +1,22 @@
 -- The total of each allocation of a plan has 64 bits.
-use Rattle.std.proofs.Common.{◌≡◌, ◌<◌, ◌≤◌, ◌+◌, ◌*◌, ◌^◌, ◌++◌, ℕ, zero, suc, Bool, true, false, cond, List, [], ◌∷◌, length, map, get_or, Option, Some, None, refl, sym, ap, ◌∙◌, subst, arith, All, flat_map}
-use Rattle.std.specs.Prelude.{find, option_map, reverse, slice_index_or, unwrap_or}
+use Rattle.std.proofs.Common.{◌≡◌, ◌<◌, ◌≤◌, ◌+◌, ◌*◌, ◌^◌, ℕ, zero, suc, Bool, true, false, cond, List, [], ◌∷◌, length, map, get_or, Option, Some, None, refl, sym, subst, arith, All, flat_map}
+use Rattle.std.specs.Prelude.{find, option_map, reverse, unwrap_or}
 use Rattle.std.specs.List.{sum_by}
 use Rattle.std.proofs.lemmas.List.{get_or-reverse, length-append, length-map, length-reverse}
-use Rattle.std.proofs.lemmas.List.Elements.{All-get_or, All-head, All-tail}
+use Rattle.std.proofs.lemmas.List.Elements.{All-head, All-tail}
 use Rattle.std.proofs.lemmas.List.Sums.{sum_by-cons}
 use Rattle.bwe_specs.specs.declared.limits.TheConstants.{MAX_AMOUNT}
 use Rattle.bwe_specs.specs.declared.report.Report.{Report}
-use Rattle.bwe_specs.specs.declared.report.Target.{Target}
-use Rattle.bwe_specs.specs.Bounded.{greatest_upto, sum_below}
-use Rattle.bwe_specs.specs.FunctionValue.{Point, function_value}
+use Rattle.bwe_specs.specs.Bounded.{sum_below}
+use Rattle.bwe_specs.specs.FunctionValue.{Point}
 use Rattle.bwe_specs.specs.Distribution.{children_sum}
 use Rattle.bwe_specs.specs.Filling.{Wan, filling}
 use Rattle.bwe_specs.specs.Reports.{demand_after, is_task, last_amount}
-use Rattle.bwe_specs.specs.Tree.{Cluster, Job, User, Weighted, cluster_value, group_value, inner_share, job_value, node_value, task_value, user_value}
+use Rattle.bwe_specs.specs.Tree.{Cluster, Job, User, Weighted, cluster_value, inner_share, job_value, node_value, task_value, user_value}
 use Rattle.bwe_specs.specs.TreeFunctions.{AreClusters}
 use Rattle.bwe_specs.specs.Allocation.{Plan, allocation, group_line, wan_after}
 use Rattle.bwe_specs.proofs.Plans.{plan-never_falls}
-use Rattle.bwe_specs.proofs.Totals.{total}
 use Rattle.allocator.proofs.Filled.{amounts-total, sum_by-numbers}
-use Rattle.demand_book.specs.Fit.{IsFit}
 use Rattle.limit_table.specs.Tables.{total_of}
 use Rattle.policy_tree.specs.Trees.{cluster_numbers, job_numbers, task_numbers, user_numbers}
 
@@ -95,8 +92,13 @@ total_small plan reports are same few all =
   where
     wan : Wan
     wan = wan_after plan reports
+
     bound : sum_below (length plan.groups) (λ group. wan.value group wan.top) ≤ 20_000_000_000_000_000
     bound =
         subst (λ (n : ℕ). sum_below n (λ group. wan.value group wan.top) ≤ 20_000_000_000_000_000) same
-        (omega (arith, few, sum_below-list (λ cluster. cluster_value plan.top (demand_after reports) cluster plan.top) plan.clusters (record { configured = None; users = [] }),
-          values_most plan.top (demand_after reports) (λ task. demand_small reports task all) plan.clusters plan.top))
+        (omega (
+          arith,
+          few,
+          sum_below-list (λ cluster. cluster_value plan.top (demand_after reports) cluster plan.top) plan.clusters (record { configured = None; users = [] }),
+          values_most plan.top (demand_after reports) (λ task. demand_small reports task all) plan.clusters plan.top,
+        ))

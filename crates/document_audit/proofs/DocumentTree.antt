@@ -1,5 +1,5 @@
 -- The functions of an accepted document are right, and it has few tasks.
-use Rattle.std.proofs.Common.{◌≡◌, ◌<◌, ◌≤◌, ◌+◌, ℕ, zero, suc, Bool, true, false, cond, List, [], ◌∷◌, length, map, nat_lt, Option, Some, None, refl, sym, ap, ◌∙◌, subst, arith}
+use Rattle.std.proofs.Common.{◌≡◌, ◌≤◌, ◌+◌, ℕ, suc, Bool, true, false, cond, List, [], ◌∷◌, length, map, nat_lt, Option, Some, None, refl}
 use Rattle.std.specs.Prelude.{option_map, position}
 use Rattle.std.specs.Option.{option_or}
 use Rattle.std.proofs.lemmas.Bool.{ltb-false}
@@ -11,11 +11,11 @@ use Rattle.bwe_specs.specs.FunctionValue.{IsFunction}
 use Rattle.bwe_specs.specs.Tree.{Cluster}
 use Rattle.bwe_specs.specs.TreeFunctions.{AreClusters, AreJobs, AreUsers, IsConfigured}
 use Rattle.policy_tree.specs.States.{cluster_tasks, job_tasks, user_tasks}
-use Rattle.policy_tree.specs.Numbering.{numbered, numbered_cluster, numbered_clusters, numbered_job, numbered_jobs, numbered_user, numbered_users, points_by}
+use Rattle.policy_tree.specs.Numbering.{numbered, numbered_cluster, numbered_clusters, numbered_jobs, numbered_users, points_by}
 use Rattle.policy_tree.specs.Trees.{task_numbers}
 use Rattle.policy_tree.specs.Walk.{fault_by, is_childless, tree_fault, walk}
 use Rattle.policy_tree.specs.declared.fault.TreeFault.{TreeFault}
-use Rattle.policy_tree.specs.declared.fault.TreeFault.TheVariants.{EmptyNode, TooManyTasks}
+use Rattle.policy_tree.specs.declared.fault.TreeFault.TheVariants.{TooManyTasks}
 use Rattle.raw_document.specs.declared.key.DocKey.TheVariants as keys
 use Rattle.raw_document.specs.declared.doc_path.PathStep.{PathStep}
 use Rattle.raw_document.specs.declared.doc_path.PathStep.TheVariants.{Index, Key}
@@ -35,6 +35,7 @@ here_none : (top : ℕ) (points : List (ℕ × ℕ)) → refused_here top points
 here_none top points e = (function_fault-none points top (go (function_fault points top) e)).0 where
   named : FunctionFault → RefusedFunction
   named cause = record { path = []; cause = cause }
+
   go : (fault : Option FunctionFault) → option_map named fault ≡ None → fault ≡ None
   go None e = refl
   go (Some cause) e = absurd cc

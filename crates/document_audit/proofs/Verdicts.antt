@@ -1,5 +1,5 @@
 -- The verdict on a text for a document, by scripts that are its script split by reporter.
-use Rattle.std.proofs.Common.{◌≡◌, ℕ, List, Vec, Global, sym, ap}
+use Rattle.std.proofs.Common.{◌≡◌, ℕ, List, Vec, Global, ap}
 use Rattle.bwe_specs.specs.declared.report.Report.{Report}
 use Rattle.bwe_specs.specs.Allocation.{allocation}
 use Rattle.limit_table.specs.Tables.{total_of}
@@ -15,4 +15,4 @@ pub verdict_is : (document : Document) (scripts : List (Vec Report Global)) (tex
     → verdict_on (run_names_of document.names) (allocation (plan_in document)) (allocation (plan_in document) document.script.items) scripts text ≡ document_verdict document text
 verdict_is document scripts text split =
     ap (λ (lists : List (List Report)). verdict_of (line_names (run_names_of document.names)) lists (λ reports. total_of (allocation (plan_in document) reports))
-        (text_of (texts_of document.names) (allocation (plan_in document) document.script.items)) text) split
+    (text_of (texts_of document.names) (allocation (plan_in document) document.script.items)) text) split

@@ -8,6 +8,4 @@
 
 mod laws;
 
-pub use laws::{
-    accepted_document_is_audited, document_run_is_legal, legal_text_is_a_document_run,
-};
+pub use laws::{accepted_document_is_audited, document_run_is_legal, legal_text_is_a_document_run};

@@ -1,11 +1,8 @@
 use Rattle.std.proofs.Common.{sym, ◌∙◌}
 use Rattle.bwe_specs.specs.Allocation.{allocation}
-use Rattle.limit_table.specs.Tables.{total_of}
 use Rattle.plan_doc.specs.Conditions.{link_count, tasks_in}
-use Rattle.run_audit.specs.History.{scripts_of}
 use Rattle.run_text.specs.RunText.{run_names_of}
-use Rattle.audit_law.proofs.Logs.{run_of}
-use Rattle.audit_law.proofs.Whole.{run_legal}
+use Rattle.audit_law.proofs.AuditLaw.{run-legal}
 use Rattle.document_audit.specs.Laws.{plan_in}
 use Rattle.document_audit.proofs.Audited.{audited}
 use Rattle.document_audit.proofs.Verdicts.{verdict_is}
@@ -13,8 +10,6 @@ use Rattle.document_audit.proofs.laws.document_run_is_legal.Goals as goal
 
 pub returns : goal.returns
 returns c bytes document text usable accepted run =
-    let given = audited bytes document usable accepted run.scripts run.split in
     sym (verdict_is document run.scripts text run.split)
-    ∙ run_legal (run_names_of document.names) (tasks_in document) (link_count document) (scripts_of run.scripts) (λ reports. total_of (allocation (plan_in document) reports)) (allocation (plan_in document) document.script.items)
-    given.names_so given.scripts_so given.totals text
-    (run_of (run_names_of document.names) (allocation (plan_in document)) (allocation (plan_in document) document.script.items) (tasks_in document) (link_count document) run.scripts given text run.run)
+    ∙ run-legal (run_names_of document.names) (allocation (plan_in document)) (allocation (plan_in document) document.script.items) (tasks_in document) (link_count document) run.scripts text
+    (audited bytes document usable accepted run.scripts run.split) run.run

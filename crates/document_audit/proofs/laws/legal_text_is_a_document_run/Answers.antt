@@ -1,11 +1,8 @@
-use Rattle.std.proofs.Common.{sym, ◌∙◌}
+use Rattle.std.proofs.Common.{◌∙◌}
 use Rattle.bwe_specs.specs.Allocation.{allocation}
-use Rattle.limit_table.specs.Tables.{total_of}
 use Rattle.plan_doc.specs.Conditions.{link_count, tasks_in}
-use Rattle.run_audit.specs.History.{scripts_of}
 use Rattle.run_text.specs.RunText.{run_names_of}
-use Rattle.audit_law.proofs.Logs.{closed_of}
-use Rattle.audit_law.proofs.Whole.{legal_run}
+use Rattle.audit_law.proofs.AuditLaw.{legal-run}
 use Rattle.document_audit.specs.Laws.{plan_in}
 use Rattle.document_audit.proofs.Audited.{audited, some_scripts}
 use Rattle.document_audit.proofs.Verdicts.{verdict_is}
@@ -14,12 +11,10 @@ use Rattle.document_audit.proofs.laws.legal_text_is_a_document_run.Goals as goal
 pub returns : goal.returns
 returns c bytes document text usable accepted legal =
     let made = some_scripts document usable in
-    let given = audited bytes document usable accepted made.0 made.1 in
     record {
       scripts = made.0;
       split = made.1;
       run =
-          closed_of (run_names_of document.names) (allocation (plan_in document)) (allocation (plan_in document) document.script.items) (tasks_in document) (link_count document) made.0 given text
-          (legal_run (run_names_of document.names) (tasks_in document) (link_count document) (scripts_of made.0) (λ reports. total_of (allocation (plan_in document) reports)) (allocation (plan_in document) document.script.items)
-          given.names_so given.scripts_so given.totals text (verdict_is document made.0 text made.1 ∙ legal));
+          legal-run (run_names_of document.names) (allocation (plan_in document)) (allocation (plan_in document) document.script.items) (tasks_in document) (link_count document) made.0 text
+          (audited bytes document usable accepted made.0 made.1) (verdict_is document made.0 text made.1 ∙ legal);
     }
