@@ -17,7 +17,7 @@ pub const MAX_READS: u64 = 1_000;
 
 /// A reader's block so far.
 #[derive(Clone, Copy, Drop)]
-pub(crate) struct Block {
+pub struct Block {
     pub number: u64,
     /// How many reads reader 0 made; none in its own block.
     pub wanted: Option<u64>,
@@ -28,7 +28,7 @@ pub(crate) struct Block {
 
 /// What is due.
 #[derive(Clone, Copy, Drop)]
-pub(crate) enum Due {
+pub enum Due {
     /// The line of a reporter.
     Reporter { next: u64 },
     /// The first line of reader 0.
@@ -43,7 +43,7 @@ pub(crate) enum Due {
 
 /// Where a line leads, and what it shows.
 #[derive(Clone, Copy, Drop)]
-pub(crate) struct Step {
+pub struct Step {
     pub due: Due,
     pub shown: Option<Shown>,
 }

@@ -10,7 +10,7 @@ use doc_names::Names;
 
 /// What a report's line says beside the name of its task or link.
 #[derive(Clone, Copy, Drop)]
-pub(crate) struct ReportWords {
+pub struct ReportWords {
     pub place: u64,
     pub reporter: usize,
     pub amount: u64,
@@ -18,14 +18,14 @@ pub(crate) struct ReportWords {
 
 /// What a reader's line says.
 #[derive(Clone, Copy, Drop)]
-pub(crate) struct ReaderWords {
+pub struct ReaderWords {
     pub number: u64,
     pub length: u64,
 }
 
 /// What a read showed.
 #[derive(Clone, Copy, Drop)]
-pub(crate) struct Shown {
+pub struct Shown {
     pub floor: u64,
     pub prefix: u64,
     pub total: u64,

@@ -35,7 +35,7 @@ pub enum AuditVerdict {
 
 /// A line at fault.
 #[derive(Clone, Copy, Drop)]
-pub(crate) struct Fault {
+pub struct Fault {
     pub line: u64,
     pub cause: AuditCause,
 }

@@ -1,0 +1,14 @@
+pub mod Numbers
+pub mod Lines
+pub mod LineForms
+pub mod Clean
+pub mod Histories
+pub mod Steps
+pub mod Blocks
+pub mod Readers
+pub mod Vectors
+pub mod Texts
+pub mod Ends
+pub mod Whole
+pub mod Logs
+pub mod AuditLaw

@@ -1,0 +1,2 @@
+pub mod ClosedRun
+pub mod Laws

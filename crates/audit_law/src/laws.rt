@@ -1,0 +1,13 @@
+//! The law of the audit, both ways, each as the contract of a function that does nothing.
+
+ghost use Rattle.audit_law.specs.Laws.{LegalRunIsLegal, LegalTextIsARun};
+
+/// The text of each closed legal run is legal.
+pub fn legal_run_is_legal()
+    ensures { LegalRunIsLegal }
+{}
+
+/// Each legal text is that of a closed legal run.
+pub fn legal_text_is_a_run()
+    ensures { LegalTextIsARun }
+{}

@@ -1,0 +1,5 @@
+pub mod DocumentNames
+pub mod DocumentTree
+pub mod DocumentTotals
+pub mod Audited
+pub mod Verdicts

@@ -1,0 +1,18 @@
+//! The law of the audit for an accepted document, each part as the contract of a function that does nothing.
+
+ghost use Rattle.document_audit.specs.Laws.{AcceptedDocumentIsAudited, DocumentRunIsLegal, LegalTextIsADocumentRun};
+
+/// An accepted document has what the law of the audit asks of names, scripts, totals and tables.
+pub fn accepted_document_is_audited()
+    ensures { AcceptedDocumentIsAudited }
+{}
+
+/// The text of each closed legal run of an accepted document is legal.
+pub fn document_run_is_legal()
+    ensures { DocumentRunIsLegal }
+{}
+
+/// Each text that is legal for an accepted document is that of a closed legal run of it.
+pub fn legal_text_is_a_document_run()
+    ensures { LegalTextIsADocumentRun }
+{}
