@@ -23,7 +23,7 @@ use Rattle.run_audit.specs.History as history
 use Rattle.run_audit.specs.Verdict.{AreFit, verdict_of}
 use Rattle.table_text.specs.TableText.{texts_of, text_of}
 use Rattle.bwe_cli.specs.AuditReply.{audit_verdict}
-use Rattle.bwe_cli.specs.Plans.{plan_in, plan_of}
+use Rattle.plan_doc.specs.Plans.{plan_in, plan_of}
 use Rattle.bwe_cli.proofs.RunReply.{plan-is}
 
 -- ---- two readings of one document

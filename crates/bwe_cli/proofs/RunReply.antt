@@ -13,7 +13,7 @@ use Rattle.plan_doc.specs.Document.{Accepted}
 use Rattle.run_text.specs.RunText.{run_names_of, run_text_of}
 use Rattle.document_run.specs.Runs.{IsRunOf}
 use Rattle.document_run.proofs.Split.{split-count}
-use Rattle.bwe_cli.specs.Plans.{plan_in, plan_of}
+use Rattle.plan_doc.specs.Plans.{plan_in, plan_of}
 use Rattle.bwe_cli.specs.RunLine.{IsRunReply, run_printed}
 
 abbrev plan_parts : ℕ → List Cluster → List PathGroups → List ℕ → Plan

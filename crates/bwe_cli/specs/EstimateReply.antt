@@ -8,7 +8,7 @@ use Rattle.sample_lines.specs.RefusalLine.{sample_refusal}
 use Rattle.sample_lines.specs.SampleLine.{Known}
 use Rattle.sample_lines.specs.SampleReports.{reports_in}
 use Rattle.table_text.specs.TableText.{NameTexts}
-use Rattle.bwe_cli.specs.Plans.{plan_of}
+use Rattle.plan_doc.specs.Plans.{plan_of}
 use Rattle.bwe_cli.specs.Replies.{printed, table_reply}
 
 -- the table of the script with these reports behind it, or the line for the first sample at fault

@@ -1,4 +1,3 @@
-pub mod Plans
 pub mod Replies
 pub mod RunLine
 pub mod MadeLines

@@ -13,7 +13,7 @@ use Rattle.plan_doc.specs.Refusals.{Refusal}
 use Rattle.table_text.specs.BulkText.{bulk_text_of}
 use Rattle.bwe_cli.specs.declared.made.MadeLine.{MadeLine}
 use Rattle.bwe_cli.specs.declared.made.MadeLine.TheVariants.{Make, Bulk}
-use Rattle.bwe_cli.specs.Plans.{plan_of}
+use Rattle.plan_doc.specs.Plans.{plan_of}
 use Rattle.bwe_cli.specs.Replies.{refused_reply}
 
 -- a line that reads nothing

@@ -11,7 +11,7 @@ use Rattle.bwe_cli.specs.AuditReply.{audit_reply}
 use Rattle.bwe_cli.specs.EnforceReply.{enforce_reply}
 use Rattle.bwe_cli.specs.EstimateReply.{accepted_estimate_reply}
 use Rattle.bwe_cli.specs.Parted.{parted_reply}
-use Rattle.bwe_cli.specs.Plans.{plan_of}
+use Rattle.plan_doc.specs.Plans.{plan_of}
 use Rattle.bwe_cli.specs.Replies.{printed}
 use Rattle.bwe_cli.specs.TiersReply.{tiers_reply}
 

@@ -19,7 +19,7 @@ use Rattle.plan_doc.specs.Names.{NameLists}
 use Rattle.plan_doc.specs.Document.{Accepted, document}
 use Rattle.plan_doc.specs.Refusals.{Refusal}
 use Rattle.plan_doc.specs.RefusalLines.{refusal_line}
-use Rattle.bwe_cli.specs.Plans.{plan_of}
+use Rattle.plan_doc.specs.Plans.{plan_of}
 
 -- the names that a text prints
 abbrev pub printed : NameLists → NameTexts

@@ -12,7 +12,7 @@ use Rattle.plan_doc.specs.Refusals.{Refusal}
 use Rattle.run_text.specs.RunText.{RunNames, run_text_of}
 use Rattle.document_run.specs.Runs.{IsRunOf}
 use Rattle.bwe_cli.specs.declared.run.Asked.{Asked}
-use Rattle.bwe_cli.specs.Plans.{plan_of}
+use Rattle.plan_doc.specs.Plans.{plan_of}
 use Rattle.bwe_cli.specs.Replies.{printed, refused_reply}
 
 -- the numbers of a line `run`

@@ -7,7 +7,7 @@ ghost use Rattle.plan_doc.specs.Conditions.{IsUsable, tasks_in};
 ghost use Rattle.plan_doc.specs.Document.{document as document_of};
 ghost use Rattle.plan_doc.specs.Links.{names_view};
 ghost use Rattle.bwe_cli.specs.AuditReply.{audit_reply, audit_status};
-ghost use Rattle.bwe_cli.specs.Plans.{plan_in};
+ghost use Rattle.plan_doc.specs.Plans.{plan_in};
 
 use crate::solve::table_of;
 use allocator::Allocator;

@@ -5,7 +5,7 @@ ghost use Rattle.bwe_specs.specs.Allocation.{wan_after};
 ghost use Rattle.bwe_specs.specs.RightClosings.{verdict as verdict_of};
 ghost use Rattle.table_text.specs.TableText.{texts_of};
 ghost use Rattle.plan_doc.specs.Conditions.{IsUsable};
-ghost use Rattle.bwe_cli.specs.Plans.{plan_in};
+ghost use Rattle.plan_doc.specs.Plans.{plan_in};
 ghost use Rattle.bwe_cli.specs.Replies.{check_reply, verdict_status};
 
 use allocator::{Allocator, after_script};

@@ -5,7 +5,7 @@ ghost use Rattle.event_lines.specs.EventLines.{AreThere};
 ghost use Rattle.plan_doc.specs.Conditions.{IsUsable, reporter_count};
 ghost use Rattle.plan_doc.specs.Links.{names_view};
 ghost use Rattle.bwe_cli.specs.EnforceReply.{enforce_reply, enforced_reply};
-ghost use Rattle.bwe_cli.specs.Plans.{plan_in};
+ghost use Rattle.plan_doc.specs.Plans.{plan_in};
 
 use allocator::Allocator;
 use bwe_specs::OutOfMemory;

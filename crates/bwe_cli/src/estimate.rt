@@ -9,7 +9,7 @@ ghost use Rattle.plan_doc.specs.Conditions.{IsUsable};
 ghost use Rattle.sample_lines.specs.Held.{IsByOwner};
 ghost use Rattle.sample_lines.specs.KnownView.{known_by};
 ghost use Rattle.bwe_cli.specs.EstimateReply.{estimate_reply};
-ghost use Rattle.bwe_cli.specs.Plans.{plan_in};
+ghost use Rattle.plan_doc.specs.Plans.{plan_in};
 ghost use Rattle.bwe_cli.specs.Replies.{table_reply};
 
 use crate::solve::solve;

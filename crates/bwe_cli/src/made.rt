@@ -6,7 +6,7 @@ ghost use Rattle.doc_maker.specs.Made.{IsSize, made_document};
 ghost use Rattle.one_run.specs.Endings.{UnreadEnding};
 ghost use Rattle.plan_doc.specs.Conditions.{IsUsable};
 ghost use Rattle.plan_doc.specs.Document.{document as document_of};
-ghost use Rattle.bwe_cli.specs.Plans.{plan_in};
+ghost use Rattle.plan_doc.specs.Plans.{plan_in};
 ghost use Rattle.bwe_cli.specs.MadeLines.{bulk_reply, made_line_of as made_line_of_texts, made_reply, made_size, summary_reply};
 
 use crate::documents::refused;

@@ -3,7 +3,7 @@
 ghost use Rattle.std.specs.Prelude.{◌≡◌, IfOk, length};
 ghost use Rattle.table_text.specs.TableText.{texts_of};
 ghost use Rattle.plan_doc.specs.Conditions.{IsUsable};
-ghost use Rattle.bwe_cli.specs.Plans.{plan_in};
+ghost use Rattle.plan_doc.specs.Plans.{plan_in};
 ghost use Rattle.bwe_cli.specs.TiersReply.{tiered_reply, tiers_reply};
 
 use allocator::{Allocator, after_script};

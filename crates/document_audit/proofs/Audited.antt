@@ -43,7 +43,8 @@ use Rattle.run_text.specs.RunText.{run_names_of}
 use Rattle.audit_law.specs.ClosedRun.{AreAudited, AreNames, AreScripts, IsInterleaving, line_names}
 use Rattle.audit_law.proofs.Vectors.{vec_of}
 use Rattle.audit_law.proofs.Logs.{each_from, script_at, script_count}
-use Rattle.document_audit.specs.Laws.{AreScriptsOf, plan_in}
+use Rattle.document_audit.specs.Laws.{AreScriptsOf}
+use Rattle.plan_doc.specs.Plans.{plan_in}
 use Rattle.document_audit.proofs.DocumentNames.{ArePlain, names_plain}
 use Rattle.document_audit.proofs.DocumentTree.{clusters_right, few_tasks}
 use Rattle.document_audit.proofs.DocumentTotals.{total_small}

@@ -9,7 +9,8 @@ use Rattle.run_text.specs.RunText.{run_names_of}
 use Rattle.table_text.specs.TableText.{text_of, texts_of}
 use Rattle.audit_law.specs.ClosedRun.{line_names}
 use Rattle.audit_law.specs.Laws.{verdict_on}
-use Rattle.document_audit.specs.Laws.{AreScriptsOf, document_verdict, plan_in}
+use Rattle.document_audit.specs.Laws.{AreScriptsOf, document_verdict}
+use Rattle.plan_doc.specs.Plans.{plan_in}
 
 pub verdict_is : (document : Document) (scripts : List (Vec Report Global)) (text : List ℕ) → AreScriptsOf document scripts
     → verdict_on (run_names_of document.names) (allocation (plan_in document)) (allocation (plan_in document) document.script.items) scripts text ≡ document_verdict document text

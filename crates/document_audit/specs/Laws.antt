@@ -2,28 +2,20 @@
 use Rattle.std.specs.Prelude.{◌≡◌, ℕ, List, Vec}
 use Rattle.std.specs.declared.alloc.Global.{Global}
 use Rattle.bwe_specs.specs.declared.report.Report.{Report}
-use Rattle.bwe_specs.specs.Allocation.{Plan, allocation}
+use Rattle.bwe_specs.specs.Allocation.{allocation}
 use Rattle.limit_table.specs.Tables.{total_of}
 use Rattle.document_run.specs.Runs.{items_of, scripts_of}
 use Rattle.plan_doc.specs.declared.document.Document.{Document}
 use Rattle.plan_doc.specs.Accepted.{IsAccepted}
 use Rattle.plan_doc.specs.Conditions.{IsUsable, link_count, reporter_count, tasks_in}
 use Rattle.plan_doc.specs.Document.{document as document_of}
+use Rattle.plan_doc.specs.Plans.{plan_in}
 use Rattle.run_text.specs.RunText.{run_names_of}
 use Rattle.run_audit.specs.Verdict.{verdict_of}
 use Rattle.run_audit.specs.declared.verdict.AuditVerdict.{AuditVerdict}
 use Rattle.run_audit.specs.declared.verdict.AuditVerdict.TheVariants.{Legal}
 use Rattle.table_text.specs.TableText.{text_of, texts_of}
 use Rattle.audit_law.specs.ClosedRun.{AreAudited, IsClosedRun, line_names}
-
--- the plan of a document
-abbrev pub plan_in : Document → Plan
-plan_in document = record {
-  top = document.tree.top;
-  clusters = document.tree.clusters;
-  groups = document.plan;
-  capacities = document.topology.capacities;
-}
 
 -- the scripts are the document's script split by reporter
 abbrev pub AreScriptsOf : Document → List (Vec Report Global) → Type 0

@@ -9,3 +9,4 @@ pub mod Links
 pub mod Document
 pub mod Accepted
 pub mod Conditions
+pub mod Plans

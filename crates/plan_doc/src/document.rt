@@ -239,7 +239,7 @@ fn document_from_value(alloc: Global, value: &Value) -> Result<Document, DocErro
 
 /// The document of the bytes ("The document" and "Refusals", docs/FORMAT.md), or its refusal of the lowest number.
 ///
-/// Names are lent by the JSON value until the document is accepted. Each name is hashed once where it stands and once
+/// Names are lent by the JSON value until the document is accepted. Each name is hashed once where it stands and at most once
 /// where it is referred to; nothing else is looked up. The value of the JSON is gone when this returns.
 #[tactic(auto, unfolding(crate::specs::Document::document))]
 pub fn read_document(alloc: Global, bytes: &[u8]) -> Result<Document, DocError>

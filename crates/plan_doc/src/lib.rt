@@ -6,12 +6,12 @@
 //! Each refusal is a pass of its own, in the order of the numbers, over the raw document of `raw_document`; those before
 //! the builders' own are in `doc_passes`.
 //!
-//! What a reading costs, beside the mere reading of the JSON value: 1.43 times as many instructions for 340 kB with 2,000 tasks
-//! of long names and as many reports. In time, for 3.4 MB with 20,000 of each: 1.7 in a process that reads once (142 ms to 83 ms)
-//! and 1.4 over twenty readings in one process (102 ms to 74 ms), on a machine with five times the work that it has processors for.
-//! Much of what comes on top is the first touch of each key and each name, which the JSON value holds as texts of
-//! their own; the rest is a hash for each name that stands or refers, the copies of names and the builders. Each pass is
-//! linear, and no name is looked for in a list.
+//! What a reading costs, beside the mere reading of the JSON value, with nothing else at work: for 3.9 MB with 20,000 tasks of
+//! long names and as many reports, over ten readings in one process, 1.28 times its time (73 ms to 57 ms); for the made document
+//! of 20,000 tasks, of 1.9 MB, 1.33 times (78 ms to 58 ms). By instructions, 1.28 and 1.32 times. A process that reads once and
+//! then drops the document takes 98 ms to 61 ms, of which 12 ms is the allocator's merging of what the value had held, which
+//! falls due when the document is dropped; one that ends with the value never does it. Each name is hashed once where it stands,
+//! and once where it is referred to unless it is found where it is likely; no name is looked for in a list. Each pass is linear.
 //! Nothing is promised of time, and nothing of which growth is refused where memory is wanting.
 #![tactic(auto)]
 

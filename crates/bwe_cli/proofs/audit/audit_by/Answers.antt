@@ -3,7 +3,7 @@ use Rattle.one_run.specs.Endings.{Reply}
 use Rattle.plan_doc.specs.Links.{names_view}
 use Rattle.run_audit.specs.AuditText.{verdict_line}
 use Rattle.bwe_cli.specs.AuditReply.{audit_status, audit_verdict}
-use Rattle.bwe_cli.specs.Plans.{plan_in}
+use Rattle.plan_doc.specs.Plans.{plan_in}
 use Rattle.bwe_cli.proofs.Audits.{are-few, are-fit, verdict-is}
 use Rattle.bwe_cli.proofs.audit.audit_by.Goals as goal
 

@@ -6,7 +6,7 @@ use Rattle.table_text.specs.TableText.{texts_of}
 use Rattle.table_text.specs.CheckText.{verdict_line}
 use Rattle.allocator.specs.Allocators as allocators
 use Rattle.allocator.proofs.Fitted.{wan-after}
-use Rattle.bwe_cli.specs.Plans.{plan_in}
+use Rattle.plan_doc.specs.Plans.{plan_in}
 use Rattle.bwe_cli.specs.Replies.{verdict_status}
 use Rattle.bwe_cli.proofs.check.check.Goals as goal
 

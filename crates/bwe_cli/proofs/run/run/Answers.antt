@@ -1,6 +1,6 @@
 use Rattle.std.proofs.Common.{◌∙◌, ap, subst, sym}
 use Rattle.run_text.specs.RunText.{run_names_of, run_text_of}
-use Rattle.bwe_cli.specs.Plans.{plan_in}
+use Rattle.plan_doc.specs.Plans.{plan_in}
 use Rattle.bwe_cli.specs.RunLine.{IsRunReply}
 use Rattle.bwe_cli.proofs.RunReply.{run-reply, sent-few}
 use Rattle.bwe_cli.proofs.run.run.Goals as goal

@@ -3,7 +3,7 @@ use Rattle.bwe_specs.specs.Allocation.{allocation}
 use Rattle.plan_doc.specs.Conditions.{link_count, tasks_in}
 use Rattle.run_text.specs.RunText.{run_names_of}
 use Rattle.audit_law.proofs.AuditLaw.{run-legal}
-use Rattle.document_audit.specs.Laws.{plan_in}
+use Rattle.plan_doc.specs.Plans.{plan_in}
 use Rattle.document_audit.proofs.Audited.{audited}
 use Rattle.document_audit.proofs.Verdicts.{verdict_is}
 use Rattle.document_audit.proofs.laws.document_run_is_legal.Goals as goal
