@@ -3,8 +3,8 @@
 #
 # A case is a folder: args (a word a line), stdin, stdout (what has to be printed, exactly) and status.
 # Nothing may come on standard error. A line says how many passed; the status is 0 where all did.
-# Where no case is named, made documents are compared with a second implementation too (cases/compare.py), and a few runs on
-# threads are made and checked (cases/runs.py).
+# Where no case is named, the texts of examples/ are compared too, made documents are compared with a second implementation
+# (cases/compare.py), and a few runs on threads are made and checked (cases/runs.py).
 here=$(cd "$(dirname "${BASH_SOURCE[0]}")" && pwd)
 program=${1:-$here/../crates/bwe/out/bwe}
 shift
@@ -39,7 +39,31 @@ for name in "$@"; do
     fi
 done
 echo "cases: $passed passed, $failed failed"
+# Compares what the words write for standard input with a text of examples/.
+check_example() {
+    local text=$1
+    shift
+    if ! "$work/bwe" "$@" | cmp -s - "$text"; then
+        failed=$((failed + 1))
+        echo "examples: $(basename "$text") is not what $* writes"
+    fi
+}
+
 if [ "$is_whole" = yes ]; then
+    cd "$here/../examples" || exit 2
+    for document in *.json; do
+        check_example "${document%.json}.txt" solve <"$document"
+    done
+    check_example maintenance-levels.txt levels 200 <maintenance.json
+    for part in *.tiers *.samples *.events; do
+        name=${part%.*}
+        case $part in
+            *.tiers) words=(tiers) ;;
+            *.samples) words=(estimate 2 110) ;;
+            *.events) words=(enforce) ;;
+        esac
+        check_example "$name-${words[0]}.txt" "${words[@]}" < <(wc -c <"$name.json"; cat "$name.json" "$part")
+    done
     python3 "$here/compare.py" "$work/bwe" 200 || failed=$((failed + 1))
     python3 "$here/runs.py" "$work/bwe" 3 || failed=$((failed + 1))
 fi
