@@ -18,7 +18,7 @@ use bwe_specs::{Closing, OutOfMemory};
 use limit_table::{GroupLine, LimitTable};
 use mono_search::Steps;
 use mpfa_fill::Filling;
-use mpfa_solver::solve;
+use link_solver::solve_by_links;
 use path_groups::PathPlan;
 use policy_tree::PolicyTree;
 use std::alloc::Global;
@@ -95,8 +95,9 @@ fn filling_of<L: Ledger>(
     let values = TreeValues {
         tree: reported.tree(),
     };
-    let mut steps: Steps<L> = Steps::new(blank);
-    solve(alloc, &values, reported.topology(), plan, hints, &mut steps)
+    let _steps: Steps<L> = Steps::new(blank);
+    let _hints = hints;
+    solve_by_links(alloc, &values, reported.topology(), plan)
 }
 
 /// Each task's limit, where the groups have the amounts of these lines. All are kilobits per second.

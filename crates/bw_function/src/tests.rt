@@ -84,3 +84,27 @@ fn the_greatest_points_are_accepted(rt: HostRuntime) -> Result<(), Fail> {
     assert_eq!(rt; BwFunction::new(rt.alloc(), &[(0, 0)], 1)?.value(1), 0);
     Ok(())
 }
+
+// Values on the line from (0,0) to (3,10) are 0, 3, 6 and 10.
+#[test]
+fn the_last_share_is_found_by_an_amount(rt: HostRuntime) -> Result<(), Fail> {
+    let function = BwFunction::new(rt.alloc(), &[(0, 0), (3, 10), (5, 10)], 6)?;
+    for (amount, share) in [
+        (0, 0),
+        (2, 0),
+        (3, 1),
+        (5, 1),
+        (6, 2),
+        (9, 2),
+        (10, 6),
+        (11, 6),
+    ] {
+        assert_eq!(rt;
+            function.last_share_within(amount, 6),
+            share,
+            "within {amount}"
+        );
+    }
+    assert_eq!(rt; function.last_share_within(9, 1), 1);
+    Ok(())
+}

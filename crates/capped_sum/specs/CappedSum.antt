@@ -5,7 +5,7 @@ use Rattle.bw_function.specs.BwFunction.{Function}
 use Rattle.capped_sum.specs.declared.task.Task.{Task}
 use Rattle.capped_sum.specs.declared.index.RankedTask.{RankedTask}
 use Rattle.capped_sum.specs.declared.index.SumsBefore.{SumsBefore}
-use Rattle.capped_sum.specs.Index.{IsIndexOf, AreInRange}
+use Rattle.capped_sum.specs.Index.{IsIndexOf, AreSumsWhenFull, AreInRange}
 
 -- the tasks of one function
 pub record Tasks : Type 0 where
@@ -29,8 +29,10 @@ abbrev pub without_demand : ℕ → Task
 without_demand weight = record { weight = weight; demand = 0 }
 
 -- the tasks are in range, and the index is theirs unless it is stale
-pub record IsCappedSum (tasks : List Task) (ranked : List RankedTask) (before : List SumsBefore) (is_fresh : Bool) : Type 0 where
+pub record IsCappedSum (tasks : List Task) (ranked : List RankedTask) (before : List SumsBefore) (full : List ℕ) (is_fresh : Bool) : Type 0 where
   pub in_range : AreInRange tasks
   pub ranks : length ranked ≡ length tasks
   pub sums : length before ≡ length tasks + 1
+  pub full_sums : length full ≡ length tasks
   pub index : is_fresh ≡ true → IsIndexOf tasks ranked before
+  pub when_full : is_fresh ≡ true → AreSumsWhenFull tasks ranked full

@@ -1,5 +1,5 @@
 -- The index of the tasks of a sum. `per_weight` is the value of the tasks' function.
-use Rattle.std.specs.Prelude.{◌≡◌, ℕ, ◌+◌, ◌*◌, ◌≤◌, List, length, map, min, sum_by, take, slice_index_or, All, IsPermutation}
+use Rattle.std.specs.Prelude.{◌≡◌, ℕ, ◌+◌, ◌*◌, ◌<◌, ◌≤◌, List, length, map, min, sum_by, take, slice_index_or, All, IsPermutation}
 use Rattle.std.specs.Int.{div_ceil}
 use Rattle.std.specs.List.Sorted.{IsNonDecreasingBy}
 use Rattle.bwe_specs.specs.declared.limits.TheConstants.{MAX_AMOUNT, MAX_TASKS, MAX_TOTAL, MAX_WEIGHT}
@@ -48,3 +48,14 @@ pub record AreSummed (ranked : List RankedTask) (before : List SumsBefore) : Typ
 pub record IsIndexOf (tasks : List Task) (ranked : List RankedTask) (before : List SumsBefore) : Type 0 where
   pub ranks : AreRanked tasks ranked
   pub sums : AreSummed ranked before
+
+-- the sum at the amount per weight at which the task of each place is full
+pub record AreSumsWhenFull (tasks : List Task) (ranked : List RankedTask) (when_full : List ℕ) : Type 0 where
+  pub size : length when_full ≡ length ranked
+  pub sums : (place : ℕ) (d : ℕ) (e : RankedTask) → place < length ranked
+      → slice_index_or when_full place d ≡ sum_by (capped (slice_index_or ranked place e).full_at) tasks
+
+-- the greatest amount per weight at which the sum is at most an amount
+pub record IsMost (tasks : List Task) (amount most : ℕ) : Type 0 where
+  pub fits : sum_by (capped most) tasks ≤ amount
+  pub over : amount < sum_by (capped (most + 1)) tasks

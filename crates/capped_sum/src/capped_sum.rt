@@ -5,7 +5,8 @@ ghost use Rattle.function_sum.specs.Meaning.{IsMeaning};
 ghost use Rattle.capped_sum.specs.CappedSum.{tasks_value, task_at, with_demand, without_demand};
 
 use crate::index::{
-    IndexedSum, RankedTask, SumsBefore, indexed_sum, per_weight_guess, plain_sum, rebuild,
+    IndexedSum, RankedTask, SumsBefore, add_sums, indexed_sum, per_weight_guess, per_weight_within,
+    plain_sum, rebuild,
 };
 use crate::task::Task;
 use bw_function::BwFunction;
@@ -21,6 +22,7 @@ pub struct CappedSum {
     tasks: Vec<Task>,
     ranked: Vec<RankedTask>,
     before: Vec<SumsBefore>,
+    when_full: Vec<u64>,
     is_fresh: bool,
 }
 
@@ -32,7 +34,7 @@ impl Model for CappedSum {
     ghost view = { λ sum. record { function = sum.function; tasks = sum.tasks.items } };
 
     ghost invariant = { λ sum.
-        IsCappedSum sum.tasks.items sum.ranked.items sum.before.items sum.is_fresh };
+        IsCappedSum sum.tasks.items sum.ranked.items sum.before.items sum.when_full.items sum.is_fresh };
 }
 
 impl CappedSum {
@@ -50,11 +52,13 @@ impl CappedSum {
         let tasks = idle_tasks(alloc, weights)?;
         let ranked = vec![in alloc; RankedTask::NONE; weights.len()]?;
         let before = vec![in alloc; SumsBefore::NONE; weights.len() + 1]?;
+        let when_full = vec![in alloc; 0; weights.len()]?;
         Ok(CappedSum {
             function,
             tasks,
             ranked,
             before,
+            when_full,
             is_fresh: false,
         })
     }
@@ -88,6 +92,12 @@ impl CappedSum {
             return;
         }
         rebuild(self.tasks.as_slice(), &mut self.ranked, &mut self.before);
+        add_sums(
+            self.tasks.as_slice(),
+            self.ranked.as_slice(),
+            self.before.as_slice(),
+            self.when_full.as_mut_slice(),
+        );
         self.is_fresh = true;
     }
 
@@ -169,6 +179,25 @@ impl ShareFunction for CappedSum {
         }
         let per_weight = per_weight_guess(self.ranked.as_slice(), self.before.as_slice(), amount);
         Some(last_share_guess(&self.function, per_weight))
+    }
+
+    fn last_share_within(&self, amount: u64, top: u64) -> Option<u64> {
+        // The proof learns here that the tasks' function is one of a document.
+        let _ = self.function.top();
+        if !self.is_fresh {
+            return None;
+        }
+        let most = per_weight_within(
+            self.tasks.as_slice(),
+            self.ranked.as_slice(),
+            self.before.as_slice(),
+            self.when_full.as_slice(),
+            amount,
+        );
+        match most {
+            None => Some(top),
+            Some(per_weight) => Some(self.function.last_share_within(per_weight, top)),
+        }
     }
 }
 

@@ -65,6 +65,34 @@ fn a_fresh_index_tells_where_the_sum_changes(rt: HostRuntime) -> Result<(), Fail
     Ok(())
 }
 
+// The tasks of the case "Sated group" once more: at 12 one has 5 and the other 7, at share 15.
+#[test]
+fn a_fresh_index_tells_the_last_share(rt: HostRuntime) -> Result<(), Fail> {
+    let alloc = rt.alloc();
+    let function = BwFunction::new(alloc, &[(0, 0), (100, 50)], 100)?;
+    let mut sum = CappedSum::new(alloc, function, &[1, 1])?;
+    let _ = sum.set(0, 5)?;
+    let _ = sum.set(1, 30)?;
+    assert_eq!(rt; sum.last_share_within(8, 100), None);
+    sum.refresh();
+    for (amount, share) in [
+        (0, 1),
+        (8, 9),
+        (9, 9),
+        (10, 11),
+        (12, 15),
+        (34, 59),
+        (35, 100),
+    ] {
+        assert_eq!(rt;
+            sum.last_share_within(amount, 100),
+            Some(share),
+            "within {amount}"
+        );
+    }
+    Ok(())
+}
+
 // The two groups of the case "Two weighted tasks": weights 2 and 1, and a link of 90.
 #[test]
 fn weights_divide_a_link(rt: HostRuntime) -> Result<(), Fail> {

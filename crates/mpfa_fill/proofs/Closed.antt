@@ -24,13 +24,13 @@ open-more : (link : ℕ) (closed : List ℕ) (path_group : PathGroup) → uses p
 unfolding is_open
 open-more link closed path_group unused h = rw unused h
 
-none-more : (path_groups : PathGroups) (link : ℕ) (closed : List ℕ) → current_path_group path_groups closed ≡ None → current_path_group path_groups (link ∷ closed) ≡ None
+pub none-more : (path_groups : PathGroups) (link : ℕ) (closed : List ℕ) → current_path_group path_groups closed ≡ None → current_path_group path_groups (link ∷ closed) ≡ None
 unfolding current_path_group
 none-more path_groups link closed none =
     none-lowest (length path_groups) (λ place. is_open (link ∷ closed) (slice_index_or path_groups place []))
     (λ place lt. shut-more link closed (slice_index_or path_groups place []) (lowest-none (length path_groups) (λ k. is_open closed (slice_index_or path_groups k [])) none place lt))
 
-some-more : (path_groups : PathGroups) (link : ℕ) (closed : List ℕ) (place : ℕ) → current_path_group path_groups closed ≡ Some place → uses (slice_index_or path_groups place []) link ≡ false → current_path_group path_groups (link ∷ closed) ≡ Some place
+pub some-more : (path_groups : PathGroups) (link : ℕ) (closed : List ℕ) (place : ℕ) → current_path_group path_groups closed ≡ Some place → uses (slice_index_or path_groups place []) link ≡ false → current_path_group path_groups (link ∷ closed) ≡ Some place
 unfolding current_path_group
 some-more path_groups link closed place some unused =
     let found = lowest-some (length path_groups) (λ k. is_open closed (slice_index_or path_groups k [])) place some in
@@ -48,7 +48,7 @@ none-first path_groups some none =
     cc
 
 -- a group that grows under these closings has not stopped
-stop-growing : (wan : Wan) (closings : List Closing) (group place until : ℕ) → current_path_group_of wan closings group ≡ Some place → stop_share (slice_index_or wan.groups group []) closings until ≡ until
+pub stop-growing : (wan : Wan) (closings : List Closing) (group place until : ℕ) → current_path_group_of wan closings group ≡ Some place → stop_share (slice_index_or wan.groups group []) closings until ≡ until
 unfolding stop_share
 stop-growing wan [] group place until e = refl
 stop-growing wan (closing ∷ earlier) group place until e =

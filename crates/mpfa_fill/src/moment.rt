@@ -318,8 +318,8 @@ impl<'a, V: GroupValues> Moment<'a, V> {
     }
 }
 
-// Raises or lowers an amount as a value has changed. Where it has not, no load is touched.
-fn change(sums: &mut LinkSums, plan: &PathPlan, group: u32, place: u32, from: u64, to: u64)
+/// Raises or lowers an amount as a value has changed. Where it has not, no load is touched.
+pub fn change(sums: &mut LinkSums, plan: &PathPlan, group: u32, place: u32, from: u64, to: u64)
     requires summed { IsSummedOver plan.now sums.old }
     requires group { group < length plan.now }
     requires place { place < path_group_count plan.now group }
@@ -338,8 +338,8 @@ fn change(sums: &mut LinkSums, plan: &PathPlan, group: u32, place: u32, from: u6
     }
 }
 
-// The amounts in rows.
-fn amounts_of(alloc: Global, plan: &PathPlan, sums: &LinkSums) -> Result<Vec<Vec<u64>>, OutOfMemory>
+/// The amounts in rows.
+pub fn amounts_of(alloc: Global, plan: &PathPlan, sums: &LinkSums) -> Result<Vec<Vec<u64>>, OutOfMemory>
     requires { IsSummedOver plan.now sums.now }
     ensures { IfOk result (λ rows. rows_in rows.items
         ≡ map (λ group. map (amount_at sums.now.amounts group) (numbers (path_group_count plan.now group))) (numbers (length plan.now))) }

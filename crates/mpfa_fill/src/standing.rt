@@ -14,13 +14,13 @@ use std::alloc::Global;
 
 /// Where a group grows and its value at the share, or the share at which it stopped.
 #[derive(Clone, Copy)]
-pub(crate) enum Standing {
+pub enum Standing {
     Grows { place: u32, value: u64 },
     Stopped { share: u64 },
 }
 
-// How each group stands at first: on its first path group, with nothing.
-pub(crate) fn first_standings(alloc: Global, plan: &PathPlan) -> Result<Vec<Standing>, OutOfMemory>
+/// How each group stands at first: on its first path group, with nothing.
+pub fn first_standings(alloc: Global, plan: &PathPlan) -> Result<Vec<Standing>, OutOfMemory>
     ensures plan { OnOk result (IsPlan plan.now) }
     ensures standings { IfOk result (λ standings. standings.items
         ≡ map (λ group. standing_of (path_group_under (slice_index_or plan.now group []) []) 0 0)
@@ -33,8 +33,8 @@ pub(crate) fn first_standings(alloc: Global, plan: &PathPlan) -> Result<Vec<Stan
     Ok(standings)
 }
 
-// How a group stands after one more closing, the last of these.
-pub(crate) fn standing_after(
+/// How a group stands after one more closing, the last of these.
+pub fn standing_after(
     plan: &PathPlan,
     group: u32,
     closings: &[Closing],
@@ -98,8 +98,8 @@ fn uses_closed(plan: &PathPlan, group: u32, place: u32, closings: &[Closing]) ->
     false
 }
 
-// The stop shares, where a group that still grows stops at the top.
-pub(crate) fn stop_shares(
+/// The stop shares, where a group that still grows stops at the top.
+pub fn stop_shares(
     alloc: Global,
     standings: &[Standing],
     top: u64,

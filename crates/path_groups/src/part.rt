@@ -28,7 +28,10 @@ impl LinkPart {
         ensures load { result ≡ div_ceil (amount * self.now.weight) self.now.whole }
         ensures at_most { result ≤ amount }
     {
-        (amount as u128 * self.weight as u128).div_ceil(self.whole as u128) as u64
+        match amount.checked_mul(self.weight) {
+            Some(product) => product.div_ceil(self.whole),
+            None => (amount as u128 * self.weight as u128).div_ceil(self.whole as u128) as u64,
+        }
     }
 }
 

@@ -1,3 +1,4 @@
+pub mod Inverses
 pub mod Transforms
 pub mod Meanings
 pub mod Updates

@@ -12,7 +12,7 @@ use crate::job::transform_of;
 use crate::siblings::Siblings;
 use crate::spec::{ClusterSpec, UserSpec};
 use crate::user::UserNode;
-use crate::value::{guess_at, look_at, rebuild, value_at};
+use crate::value::{guess_at, last_share_at, look_at, rebuild, value_at};
 use bwe_specs::{MAX_AMOUNT, MAX_TASKS, OutOfMemory};
 use function_sum::{Look, ShareFunction};
 use share_transform::Transform;
@@ -135,6 +135,13 @@ impl ShareFunction for ClusterNode {
             nodes: self.users.as_slice(),
         };
         guess_at(&self.transform, &users, amount)
+    }
+
+    fn last_share_within(&self, amount: u64, top: u64) -> Option<u64> {
+        let users = Siblings {
+            nodes: self.users.as_slice(),
+        };
+        last_share_at(&self.transform, &users, amount, top)
     }
 }
 

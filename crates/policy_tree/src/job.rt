@@ -9,7 +9,7 @@ ghost use Rattle.policy_tree.specs.Changes.{job_with};
 ghost use Rattle.policy_tree.specs.Seen.{value_at};
 
 use crate::spec::JobSpec;
-use crate::value::{guess_at, look_at, rebuild, value_at};
+use crate::value::{guess_at, last_share_at, look_at, value_at};
 use bw_function::BwFunction;
 use bwe_specs::{MAX_AMOUNT, MAX_TASKS, OutOfMemory};
 use capped_sum::CappedSum;
@@ -100,11 +100,12 @@ impl JobNode {
     }
 
     /// Makes the value cheap again.
+    ///
+    /// Over a fresh index the sum tells each inner share itself, so no pair is looked up.
     pub(crate) fn rematch(&mut self)
         ensures { self.new ≡ self.old }
     {
         self.sum.refresh();
-        rebuild(&mut self.transform, &self.sum);
     }
 }
 
@@ -121,6 +122,10 @@ impl ShareFunction for JobNode {
 
     fn guess(&self, amount: u64) -> Option<u64> {
         guess_at(&self.transform, &self.sum, amount)
+    }
+
+    fn last_share_within(&self, amount: u64, top: u64) -> Option<u64> {
+        last_share_at(&self.transform, &self.sum, amount, top)
     }
 }
 

@@ -31,4 +31,12 @@ impl<C: ShareFunction> ShareFunction for Siblings<'_, C> {
             None
         }
     }
+
+    fn last_share_within(&self, amount: u64, top: u64) -> Option<u64> {
+        if self.nodes.len() == 1 {
+            self.nodes[0].last_share_within(amount, top)
+        } else {
+            None
+        }
+    }
 }

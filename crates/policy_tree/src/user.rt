@@ -11,7 +11,7 @@ ghost use Rattle.policy_tree.specs.Changes.{job_at, user_with};
 use crate::job::{JobNode, transform_of};
 use crate::siblings::Siblings;
 use crate::spec::{JobSpec, UserSpec};
-use crate::value::{guess_at, look_at, rebuild, value_at};
+use crate::value::{guess_at, last_share_at, look_at, rebuild, value_at};
 use bwe_specs::{MAX_AMOUNT, MAX_TASKS, OutOfMemory};
 use function_sum::{Look, ShareFunction};
 use share_transform::Transform;
@@ -123,6 +123,13 @@ impl ShareFunction for UserNode {
             nodes: self.jobs.as_slice(),
         };
         guess_at(&self.transform, &jobs, amount)
+    }
+
+    fn last_share_within(&self, amount: u64, top: u64) -> Option<u64> {
+        let jobs = Siblings {
+            nodes: self.jobs.as_slice(),
+        };
+        last_share_at(&self.transform, &jobs, amount, top)
     }
 }
 

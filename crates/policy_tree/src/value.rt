@@ -1,9 +1,12 @@
 //! The value of a node, by its configured function and its children's sum.
 
-ghost use Rattle.std.specs.Prelude.{◌≡◌, ℕ, ◌<◌, ◌≤◌, Some};
+ghost use Rattle.std.specs.Prelude.{◌≡◌, ℕ, ◌<◌, ◌≤◌, Some, IfSome, nat_le};
+ghost use Rattle.bwe_specs.specs.Bounded.{greatest_upto};
+ghost use Rattle.bwe_specs.specs.Tree.{inner_share};
 ghost use Rattle.function_sum.specs.Meaning.{IsMeaning};
 ghost use Rattle.policy_tree.specs.States.{transformed, configured_by, IsKeptFunction};
 
+use bw_function::BwFunction;
 use function_sum::{Look, ShareFunction, last_share_guess};
 use mono_search::Steps;
 use share_transform::Transform;
@@ -50,6 +53,51 @@ pub(crate) fn guess_at<P: ShareFunction>(
     match transform {
         None => of_sum,
         Some(transform) => Some(last_share_guess(transform.parent(), amount)),
+    }
+}
+
+/// The greatest share up to `top` at which the value is at most so much, where the children's sum
+/// tells its own.
+pub(crate) fn last_share_at<P: ShareFunction>(
+    transform: &Option<Transform>,
+    sum: &P,
+    amount: u64,
+    top: u64,
+) -> Option<u64>
+    requires { IsKeptFunction (configured_by transform.now) }
+    ensures last { IfSome result (λ last. last ≡ greatest_upto top (λ share.
+        nat_le (transformed (configured_by transform.now) (P.meaning sum.now) share) amount)) }
+    ensures meaning { IsMeaning (transformed (configured_by transform.now) (P.meaning sum.now)) }
+{
+    match transform {
+        None => sum.last_share_within(amount, top),
+        Some(transform) => last_by_parent(transform.parent(), sum, amount, top),
+    }
+}
+
+// The same under a configured function: the sum gets past the amount at one inner share, and the
+// function gives the sum there from one share on.
+fn last_by_parent<P: ShareFunction>(
+    parent: &BwFunction,
+    sum: &P,
+    amount: u64,
+    top: u64,
+) -> Option<u64>
+    ensures last { IfSome result (λ last. last ≡ greatest_upto top (λ share. nat_le
+        (P.meaning sum.now (inner_share parent.now.top parent.now.points (P.meaning sum.now) share))
+        amount)) }
+    ensures meaning { IsMeaning (P.meaning sum.now) }
+{
+    let end = parent.top();
+    match sum.last_share_within(amount, end) {
+        None => None,
+        Some(inner) => {
+            if inner == end {
+                return Some(top);
+            }
+            let next = sum.value(inner + 1);
+            Some(parent.last_share_within(next - 1, top))
+        }
     }
 }
 

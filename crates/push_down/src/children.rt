@@ -1,6 +1,7 @@
 //! The children of a node, each with its value at a share.
 
-ghost use Rattle.std.specs.Prelude.{◌≡◌, ℕ, ◌<◌, ◌≤◌, List, length, map, slice_index_or};
+ghost use Rattle.std.specs.Prelude.{◌≡◌, ℕ, ◌<◌, ◌≤◌, List, length, map, nat_le, IfSome, slice_index_or};
+ghost use Rattle.bwe_specs.specs.Bounded.{greatest_upto};
 ghost use Rattle.bwe_specs.specs.Distribution.{children_sum};
 ghost use Rattle.capped_sum.specs.Index.{AreInRange};
 ghost use Rattle.function_sum.specs.Meaning.{IsMeaning};
@@ -21,6 +22,13 @@ pub(crate) trait Children {
     /// What they may have together at a share.
     fn sum(&self, share: u64) -> u64
         ensures sum { result ≡ children_sum (values self.now) share }
+        ensures meaning { IsMeaning (children_sum (values self.now)) };
+
+    /// The greatest share up to `top` at which they may have together at most so much, or `None`
+    /// where only a search tells.
+    fn last_share_within(&self, amount: u64, top: u64) -> Option<u64>
+        ensures last { IfSome result (λ last. last ≡ greatest_upto top (λ share.
+            nat_le (children_sum (values self.now) share) amount)) }
         ensures meaning { IsMeaning (children_sum (values self.now)) };
 
     /// What one of them may have at a share.
@@ -48,6 +56,14 @@ impl<C: ShareFunction> Children for Nodes<'_, C> {
         sum_at(self.nodes, share)
     }
 
+    fn last_share_within(&self, amount: u64, top: u64) -> Option<u64> {
+        if self.nodes.len() == 1 {
+            self.nodes[0].last_share_within(amount, top)
+        } else {
+            None
+        }
+    }
+
     fn value(&self, place: usize, share: u64) -> u64 {
         self.nodes[place].value(share)
     }
@@ -69,6 +85,10 @@ impl Children for Tasks<'_> {
 
     fn sum(&self, share: u64) -> u64 {
         self.sum.value(share)
+    }
+
+    fn last_share_within(&self, amount: u64, top: u64) -> Option<u64> {
+        self.sum.last_share_within(amount, top)
     }
 
     fn value(&self, place: usize, share: u64) -> u64 {

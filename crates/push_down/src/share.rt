@@ -65,6 +65,9 @@ fn share_for<F: Children, L: Ledger>(children: &F, top: u64, amount: u64, blank:
     ensures upto { result ≤ top }
     ensures fits { children_sum (F.values children.now) result ≤ amount }
 {
+    if let Some(share) = children.last_share_within(amount, top) {
+        return share;
+    }
     let mut steps: Steps<L> = Steps::new(blank);
     let mut fitting = Fitting { children, amount };
     let at_start = children.sum(0);

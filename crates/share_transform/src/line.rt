@@ -122,11 +122,19 @@ impl Line {
 // The share at which the line between two marks meets the amount. It is between them, or the low
 // one where nothing is.
 fn crossing(low: Mark, high: Mark) -> u64 {
-    let width = high.share.saturating_sub(low.share) as u128;
+    let width = high.share.saturating_sub(low.share);
     if width <= 1 {
         return low.share;
     }
-    let whole = (low.apart as u128 + high.apart as u128).max(1);
-    let part = (width * low.apart as u128 / whole).clamp(1, width - 1);
-    low.share.saturating_add(part as u64)
+    let whole = low.apart.saturating_add(high.apart).max(1);
+    let part = match width.checked_mul(low.apart) {
+        Some(product) => product / whole,
+        None => near(width as u128 * low.apart as u128 / whole as u128),
+    };
+    low.share.saturating_add(part.clamp(1, width - 1))
+}
+
+// A number, or the greatest one of 64 bits.
+fn near(number: u128) -> u64 {
+    number.min(u64::MAX as u128) as u64
 }

@@ -102,6 +102,12 @@ impl<P: ShareFunction> ShareFunction for Counted<'_, P> {
     fn guess(&self, amount: u64) -> Option<u64> {
         self.sum.guess(amount)
     }
+
+    // Only a search tells, so that looks are counted.
+    fn last_share_within(&self, amount: u64, _top: u64) -> Option<u64> {
+        let _ = self.sum.guess(amount);
+        None
+    }
 }
 
 // The inner share at 10.

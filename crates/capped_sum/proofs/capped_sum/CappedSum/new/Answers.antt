@@ -10,5 +10,7 @@ invariant_of-result c =
       in_range = subst AreInRange (sym c.in_ok-tasks.ensures) (idle-in_range c.args.weights.now c.requires.few c.requires.weights);
       ranks = search rules;
       sums = search rules;
+      full_sums = search rules;
       index = λ is. absurd (cc);
+      when_full = λ is. absurd (cc);
     }
