@@ -1,0 +1,4 @@
+pub mod Asked
+pub mod Closings
+pub mod Shared
+pub mod Wasted

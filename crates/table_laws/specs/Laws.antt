@@ -1,0 +1,30 @@
+-- The laws that an operator asks for first, of every plan under any demands and capacities.
+use Rattle.std.specs.Prelude.{◌≡◌, ℕ, List, length, map}
+use Rattle.bwe_specs.specs.Paths.{link_load}
+use Rattle.bwe_specs.specs.Filling.{Wan, filling}
+use Rattle.bwe_specs.specs.Reports.{numbers}
+use Rattle.bwe_specs.specs.Values.{NeverFalls}
+use Rattle.bwe_specs.specs.TreeFunctions.{AreClusters}
+use Rattle.bwe_specs.specs.Allocation.{Plan, group_line, table_under}
+use Rattle.table_laws.specs.Tasks.{AreNumbered, AreAskedFor}
+use Rattle.table_laws.specs.Tables.{IsSharedAlike, IsWithoutWaste}
+
+-- No more than asked: in the table of a plan each task's limit is at most its demand, and at most its weight times what
+-- its job's task function gives at the top share
+abbrev pub NoMoreThanAsked : Type 0
+NoMoreThanAsked = (plan : Plan) (prefix : ℕ) (demand : ℕ → ℕ) (capacities : List ℕ) → AreClusters plan.top plan.clusters → AreNumbered plan.clusters
+    → AreAskedFor plan.top demand plan.clusters (table_under plan prefix demand capacities).limits
+
+-- The same share: a group's amount, over all its path groups, is exactly what its function gives at its stop share; at each
+-- closing every group that then grew over the link stood at the closing's share, and stops there if no path group is left to it
+abbrev pub TheSameShare : Type 0
+TheSameShare = (wan : Wan) → NeverFalls wan → ((group : ℕ) → wan.value group 0 ≡ 0)
+    → IsSharedAlike wan (map (group_line wan (filling wan)) (numbers (length wan.groups))) (filling wan).closings
+
+-- No waste: where a group has less than it may have at the top, each of its path groups uses a closed link; on each closed
+-- link what is left free is less than what the groups that then grew over it would have put there with the next whole share,
+-- and it stays so
+abbrev pub NoWaste : Type 0
+NoWaste = (wan : Wan) → NeverFalls wan → ((group : ℕ) → wan.value group 0 ≡ 0)
+    → IsWithoutWaste wan (map (group_line wan (filling wan)) (numbers (length wan.groups)))
+    (map (link_load wan.groups (filling wan).amounts) (numbers (length wan.capacities))) (filling wan).closings

@@ -1,0 +1,4 @@
+pub mod Tasks
+pub mod Growing
+pub mod Tables
+pub mod Laws
