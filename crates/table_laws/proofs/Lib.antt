@@ -2,3 +2,4 @@ pub mod Asked
 pub mod Closings
 pub mod Shared
 pub mod Wasted
+pub mod Followed

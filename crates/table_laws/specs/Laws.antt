@@ -5,9 +5,11 @@ use Rattle.bwe_specs.specs.Filling.{Wan, filling}
 use Rattle.bwe_specs.specs.Reports.{numbers}
 use Rattle.bwe_specs.specs.Values.{NeverFalls}
 use Rattle.bwe_specs.specs.TreeFunctions.{AreClusters}
-use Rattle.bwe_specs.specs.Allocation.{Plan, group_line, table_under}
+use Rattle.bwe_specs.specs.Allocation.{Plan, Table, group_line, table_under}
+use Rattle.limit_table.specs.Tables.{Change}
 use Rattle.table_laws.specs.Tasks.{AreNumbered, AreAskedFor}
 use Rattle.table_laws.specs.Tables.{IsSharedAlike, IsWithoutWaste}
+use Rattle.table_laws.specs.Following.{LeadAlong, last_of, with_changes}
 
 -- No more than asked: in the table of a plan each task's limit is at most its demand, and at most its weight times what
 -- its job's task function gives at the top share
@@ -28,3 +30,7 @@ abbrev pub NoWaste : Type 0
 NoWaste = (wan : Wan) → NeverFalls wan → ((group : ℕ) → wan.value group 0 ≡ 0)
     → IsWithoutWaste wan (map (group_line wan (filling wan)) (numbers (length wan.groups)))
     (map (link_load wan.groups (filling wan).amounts) (numbers (length wan.capacities))) (filling wan).closings
+
+-- Kept by changes: a table with the changes along any list of later tables, applied in their order, is the last of them
+abbrev pub KeptByChanges : Type 0
+KeptByChanges = (table : Table) (changes : List Change) (tables : List Table) → LeadAlong table changes tables → with_changes table changes ≡ last_of table tables

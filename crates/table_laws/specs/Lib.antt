@@ -1,4 +1,5 @@
 pub mod Tasks
 pub mod Growing
 pub mod Tables
+pub mod Following
 pub mod Laws

@@ -1,6 +1,6 @@
 //! The laws, each the contract of a function that does nothing.
 
-ghost use Rattle.table_laws.specs.Laws.{NoMoreThanAsked, NoWaste, TheSameShare};
+ghost use Rattle.table_laws.specs.Laws.{KeptByChanges, NoMoreThanAsked, NoWaste, TheSameShare};
 
 /// No more than asked: each task's limit is at most its demand, and at most its weight times what its job's task function
 /// gives at the top share.
@@ -18,4 +18,9 @@ pub fn the_same_share()
 /// free than the groups that then grew over it would have put there with the next whole share.
 pub fn no_waste()
     ensures { NoWaste }
+{}
+
+/// Kept by changes: a table with the changes along any list of later tables, applied in their order, is the last of them.
+pub fn kept_by_changes()
+    ensures { KeptByChanges }
 {}
