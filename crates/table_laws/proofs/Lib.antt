@@ -3,3 +3,8 @@ pub mod Closings
 pub mod Shared
 pub mod Wasted
 pub mod Followed
+pub mod Sums
+pub mod Numbers
+pub mod Pieces
+pub mod Reordered
+pub mod Alike

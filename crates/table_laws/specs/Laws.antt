@@ -9,6 +9,7 @@ use Rattle.bwe_specs.specs.Allocation.{Plan, Table, group_line, table_under}
 use Rattle.limit_table.specs.Tables.{Change}
 use Rattle.table_laws.specs.Tasks.{AreNumbered, AreAskedFor}
 use Rattle.table_laws.specs.Tables.{IsSharedAlike, IsWithoutWaste}
+use Rattle.table_laws.specs.Order.{IsOrder, AreAlike, reordered}
 use Rattle.table_laws.specs.Following.{LeadAlong, last_of, with_changes}
 
 -- No more than asked: in the table of a plan each task's limit is at most its demand, and at most its weight times what
@@ -34,3 +35,14 @@ NoWaste = (wan : Wan) → NeverFalls wan → ((group : ℕ) → wan.value group 
 -- Kept by changes: a table with the changes along any list of later tables, applied in their order, is the last of them
 abbrev pub KeptByChanges : Type 0
 KeptByChanges = (table : Table) (changes : List Change) (tables : List Table) → LeadAlong table changes tables → with_changes table changes ≡ last_of table tables
+
+-- Nobody's place matters: where the groups are given in another order, with their tasks, which then have other numbers and
+-- ask for the same, each group gets the same line, each task the same limit, and links carry and close the same; only the
+-- numbers of links break ties. Names stand nowhere in the definitions
+abbrev pub NoPlaceMatters : Type 0
+NoPlaceMatters = (plan : Plan) (group_at place_of renumber : ℕ → ℕ) (prefix : ℕ) (demand other : ℕ → ℕ) (capacities : List ℕ)
+    → length plan.clusters ≡ length plan.groups → IsOrder (length plan.groups) group_at place_of
+    → AreNumbered plan.clusters → AreNumbered (reordered group_at renumber plan).clusters
+    → ((task : ℕ) → other (renumber task) ≡ demand task)
+    → AreAlike plan (reordered group_at renumber plan) group_at (table_under plan prefix demand capacities)
+    (table_under (reordered group_at renumber plan) prefix other capacities)

@@ -2,4 +2,5 @@ pub mod Tasks
 pub mod Growing
 pub mod Tables
 pub mod Following
+pub mod Order
 pub mod Laws

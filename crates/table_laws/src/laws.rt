@@ -1,6 +1,6 @@
 //! The laws, each the contract of a function that does nothing.
 
-ghost use Rattle.table_laws.specs.Laws.{KeptByChanges, NoMoreThanAsked, NoWaste, TheSameShare};
+ghost use Rattle.table_laws.specs.Laws.{KeptByChanges, NoMoreThanAsked, NoPlaceMatters, NoWaste, TheSameShare};
 
 /// No more than asked: each task's limit is at most its demand, and at most its weight times what its job's task function
 /// gives at the top share.
@@ -23,4 +23,10 @@ pub fn no_waste()
 /// Kept by changes: a table with the changes along any list of later tables, applied in their order, is the last of them.
 pub fn kept_by_changes()
     ensures { KeptByChanges }
+{}
+
+/// Nobody's place matters: the groups in another order, with their tasks, get the same; only the numbers of links break
+/// ties.
+pub fn no_place_matters()
+    ensures { NoPlaceMatters }
 {}
