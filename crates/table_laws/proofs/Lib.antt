@@ -8,3 +8,4 @@ pub mod Numbers
 pub mod Pieces
 pub mod Reordered
 pub mod Alike
+pub mod Walks
