@@ -7,6 +7,7 @@ run a few times, by `hyperfine` where that is installed. A row: the workload, by
 
 import json
 import random
+import shlex
 import shutil
 import statistics
 import subprocess
@@ -111,8 +112,8 @@ def workloads(program):
 
 def seconds_by_hyperfine(program, words, given, room):
     told = f"{room}/times.json"
-    command = ["hyperfine", "--runs", str(RUNS), "--input", given, "--ignore-failure", "--shell=none", "--style=none",
-               "--export-json", told, " ".join([program, *words])]
+    command = ["hyperfine", "--runs", str(RUNS), "--ignore-failure", "--style=basic", "--export-json", told,
+               f"{shlex.join([program, *words])} <{given}"]
     subprocess.run(command, check=True, stdout=subprocess.DEVNULL, stderr=subprocess.DEVNULL)
     return json.loads(Path(told).read_text())["results"][0]["times"]
 
