@@ -34,7 +34,7 @@ $(call built,$1): crates.txt $(call sources,$1) $(foreach it,$(call below,$1),$(
 	@tools/prove $1
 endef
 $(foreach it,$(crates),$(eval $(call target,$(it))))
-# Where a program is newer than all sources, no library is built for its sake; an interrupt leaves all.
+# A program that is newer than all sources needs no library; an interrupt leaves what is built.
 .SECONDARY:
 .PRECIOUS: $(foreach it,$(crates),$(call built,$(it)))
 

@@ -1,8 +1,10 @@
 #!/usr/bin/python3
-"""tools/bench.py [PROGRAM [WORD]]: times a built program on made workloads, those whose names have WORD.
+"""tools/bench.py [PROGRAM [WORD]]: times a built program on made workloads, those whose names
+have WORD.
 
-PROGRAM is crates/bwe/out/bwe where it is left out. A workload is a line and its input, made anew from a fixed seed. Each is
-run a few times, by `hyperfine` where that is installed. A row: the workload, bytes of input, least and median seconds.
+PROGRAM is crates/bwe/out/bwe where it is left out. A workload is a line and its input, made anew
+from a fixed seed. Each is run a few times, by `hyperfine` where that is installed. A row: the
+workload, bytes of input, least and median seconds.
 """
 
 import json
@@ -33,32 +35,70 @@ def function(dice, points, share, amount):
 
 def job(dice, name, tasks, points):
     """A job of the tasks, named by their numbers, of four reporters in turn."""
-    own = [{"name": f"t{task}", "reporter": f"r{task % 4}", "weight": 1 + task % 3} for task in tasks]
+    own = [
+        {"name": f"t{task}", "reporter": f"r{task % 4}", "weight": 1 + task % 3} for task in tasks
+    ]
     return {"name": name, "task": function(dice, points, MOST, 100_000), "tasks": own}
 
 
 def reports(dice, tasks, count):
     """The first demand of each task, and then as many further reports as there are to be in all."""
     order = [*range(tasks), *(dice.randrange(tasks) for _ in range(count - tasks))]
-    return [{"reporter": f"r{task % 4}", "task": f"t{task}", "demand": dice.randint(0, 120_000)} for task in order]
+    return [
+        {"reporter": f"r{task % 4}", "task": f"t{task}", "demand": dice.randint(0, 120_000)}
+        for task in order
+    ]
 
 
-def document(seed, groups, tasks, links=64, path_groups=2, hops=2, points=4, count=None, capacity=5_000_000):
-    """Groups on chains of links along a line of sites, and back over the same sites by other links."""
+def document(
+    seed, groups, tasks, links=64, path_groups=2, hops=2, points=4, count=None, capacity=5_000_000
+):
+    """Groups whose paths are chains of links along a line of sites, several links a hop."""
     dice = random.Random(seed)
     sites = hops + 1
-    wan = [{"name": f"l{number}", "from": f"s{number % hops}", "to": f"s{number % hops + 1}", "capacity": dice.randint(1, capacity)}
-           for number in range(links)]
+    wan = [
+        {
+            "name": f"l{number}",
+            "from": f"s{number % hops}",
+            "to": f"s{number % hops + 1}",
+            "capacity": dice.randint(1, capacity),
+        }
+        for number in range(links)
+    ]
     by_hop = [[link["name"] for link in wan if link["from"] == f"s{hop}"] for hop in range(hops)]
     made = []
     for number in range(groups):
-        paths = [[{"weight": dice.randint(1, 4), "links": [dice.choice(names) for names in by_hop]} for _ in range(2)]
-                 for _ in range(path_groups)]
-        users = [{"name": "u0", "function": function(dice, points, MOST, 1_000_000_000),
-                  "jobs": [job(dice, "j0", range(number, tasks, groups), points)]}]
-        made.append({"name": f"g{number}", "from": "s0", "to": f"s{sites - 1}", "paths": paths, "users": users})
-    return {"version": 3, "top": MOST, "links": wan, "groups": made, "reporters": [f"r{number}" for number in range(4)],
-            "script": reports(dice, tasks, count or tasks)}
+        paths = [
+            [
+                {"weight": dice.randint(1, 4), "links": [dice.choice(names) for names in by_hop]}
+                for _ in range(2)
+            ]
+            for _ in range(path_groups)
+        ]
+        users = [
+            {
+                "name": "u0",
+                "function": function(dice, points, MOST, 1_000_000_000),
+                "jobs": [job(dice, "j0", range(number, tasks, groups), points)],
+            }
+        ]
+        made.append(
+            {
+                "name": f"g{number}",
+                "from": "s0",
+                "to": f"s{sites - 1}",
+                "paths": paths,
+                "users": users,
+            }
+        )
+    return {
+        "version": 3,
+        "top": MOST,
+        "links": wan,
+        "groups": made,
+        "reporters": [f"r{number}" for number in range(4)],
+        "script": reports(dice, tasks, count or tasks),
+    }
 
 
 def text(given):
@@ -89,16 +129,29 @@ def workloads(program):
     small = text(document(3, groups=8, tasks=64, links=16))
     yield "solve: 20,000 tasks in 8 groups", ["solve"], crowd
     yield "solve: 1,024 groups, 4,096 links, 8 hops", ["solve"], text(wide)
-    yield "solve: functions of 256 points", ["solve"], text(document(4, groups=64, tasks=512, points=255))
-    yield "solve: 200,000 reports", ["solve"], text(document(5, groups=64, tasks=4_096, count=200_000))
-    yield "solve: 16 path groups", ["solve"], text(document(6, groups=256, tasks=1_024, path_groups=16, capacity=400_000))
+    yield "solve: functions of 256 points", ["solve"], text(
+        document(4, groups=64, tasks=512, points=255)
+    )
+    yield "solve: 200,000 reports", ["solve"], text(
+        document(5, groups=64, tasks=4_096, count=200_000)
+    )
+    yield "solve: 16 path groups", ["solve"], text(
+        document(6, groups=256, tasks=1_024, path_groups=16, capacity=400_000)
+    )
     closings = closings_of(written(program, ["solve"], text(wide)))
     yield "check: the closings of 1,024 groups", ["check"], text({**wide, "closings": closings})
     yield "levels: 20,000 tasks", ["levels", "500000000"], crowd
     yield "tiers: 1,024 groups in 8 tiers", ["tiers"], parts(text(wide), b"01234567" * 128 + b"\n")
-    samples = b"".join(b"r%d t%d %d\n" % (number % 4, number % 64, number % 9_973) for number in range(100_000))
-    yield "estimate: 100,000 samples, a window of 100", ["estimate", "100", "150"], parts(small, samples)
-    events = b"".join(b"post %d\nsend %d\ndeliver %d\nreply %d\n" % (number, number % 4, number, number) for number in range(500))
+    samples = b"".join(
+        b"r%d t%d %d\n" % (number % 4, number % 64, number % 9_973) for number in range(100_000)
+    )
+    yield "estimate: 100,000 samples, a window of 100", ["estimate", "100", "150"], parts(
+        small, samples
+    )
+    events = b"".join(
+        b"post %d\nsend %d\ndeliver %d\nreply %d\n" % (number, number % 4, number, number)
+        for number in range(500)
+    )
     yield "enforce: 2,000 events", ["enforce"], parts(small, events)
     busy = ["run", "--readers", "64", "--reads", "1000"]
     yield "run: 64 readers, 1,000 reads", busy, small
@@ -112,8 +165,16 @@ def workloads(program):
 
 def seconds_by_hyperfine(program, words, given, room):
     told = f"{room}/times.json"
-    command = ["hyperfine", "--runs", str(RUNS), "--ignore-failure", "--style=basic", "--export-json", told,
-               f"{shlex.join([program, *words])} <{given}"]
+    command = [
+        "hyperfine",
+        "--runs",
+        str(RUNS),
+        "--ignore-failure",
+        "--style=basic",
+        "--export-json",
+        told,
+        f"{shlex.join([program, *words])} <{given}",
+    ]
     subprocess.run(command, check=True, stdout=subprocess.DEVNULL, stderr=subprocess.DEVNULL)
     return json.loads(Path(told).read_text())["results"][0]["times"]
 
@@ -141,7 +202,10 @@ def main(words):
             file = Path(room, "input")
             file.write_bytes(given)
             times = seconds(program, line, file, room)
-            print(f"| {name} | {len(given):,} | {min(times):.3f} | {statistics.median(times):.3f} |", flush=True)
+            print(
+                f"| {name} | {len(given):,} | {min(times):.3f} | {statistics.median(times):.3f} |",
+                flush=True,
+            )
     return 0
 
 

@@ -1,13 +1,15 @@
 #!/usr/bin/python3
-"""tools/minutes.py COMMAND..: runs a command, as `rt ci --anew`, and prints what it took by crate, in processor minutes.
+"""tools/minutes.py COMMAND..: runs a command, as `rt ci --anew`, and prints what it took by
+crate, in processor minutes.
 
-The gate's log names no times. So each half second this looks at the prover's processes below the command: which crate each
-works on, whether on the crate itself, on its tests or on an edit, and its processor time so far. What a process did in its
-last half second is lost, so the table has a little less than the truth. The command's own output goes to standard error,
-the table, as Markdown, to standard output. The status is the command's.
+The gate's log names no times. So each half second this looks at the prover's processes below the
+command: which crate each works on, whether on the crate itself, on its tests or on an edit, and
+its processor time so far. What a process did in its last half second is lost, so the table has a
+little less than the truth. The command's own output goes to standard error, the table, as
+Markdown, to standard output. The status is the command's.
 
     tools/minutes.py rt ci --anew      all, from nothing
-    tools/minutes.py rt ci board       a crate and those below it, of which what passed before is kept
+    tools/minutes.py rt ci board       a crate and those below it, without what is kept of them
 """
 
 import datetime
@@ -24,17 +26,23 @@ TICKS = os.sysconf("SC_CLK_TCK")
 
 
 def process(folder):
-    """A process as /proc has it: its number, its parent's, its start, its ticks so far and its work; None where it ended."""
+    """A process of /proc: number, parent, start, ticks so far and work; None where it ended."""
     try:
         fields = (folder / "stat").read_text().rpartition(")")[2].split()
         words = (folder / "cmdline").read_bytes().decode(errors="replace").split("\0")
-        return int(folder.name), int(fields[1]), fields[19], int(fields[11]) + int(fields[12]), work_of(folder, words)
+        return (
+            int(folder.name),
+            int(fields[1]),
+            fields[19],
+            int(fields[11]) + int(fields[12]),
+            work_of(folder, words),
+        )
     except (OSError, ValueError):
         return None
 
 
 def work_of(folder, words):
-    """The crate and the part that a process of the prover works on, or None for any other process."""
+    """The crate and the part that a process of the prover works on; None for other processes."""
     if not words[0].endswith("/rattle") or "--crate-name" not in words:
         return None
     name = words[words.index("--crate-name") + 1]
@@ -44,7 +52,7 @@ def work_of(folder, words):
 
 
 def look(top, ticks):
-    """Notes the ticks so far of each process below the top, and the work of the nearest prover above it."""
+    """Notes the ticks so far of each process below the top, by the nearest prover above it."""
     found = [process(it) for it in Path("/proc").iterdir() if it.name.isdigit()]
     living = {number: (parent, work) for number, parent, _, _, work in filter(None, found)}
     for number, _, start, spent, _ in filter(None, found):
@@ -57,20 +65,29 @@ def look(top, ticks):
 
 def table(minutes):
     """A row for each crate, the dearest first, and one for all."""
-    crates = sorted({name for name, _ in minutes}, key=lambda name: -sum(minutes[name, part] for part in PARTS))
-    lines = ["| crate | " + " | ".join(PARTS) + " | together |", "|---|" + "---:|" * (len(PARTS) + 1)]
+    crates = sorted(
+        {name for name, _ in minutes}, key=lambda name: -sum(minutes[name, part] for part in PARTS)
+    )
+    lines = [
+        "| crate | " + " | ".join(PARTS) + " | together |",
+        "|---|" + "---:|" * (len(PARTS) + 1),
+    ]
     for name in crates:
         lines.append(row(f"`{name}`", [minutes[name, part] for part in PARTS]))
     return lines + [row("all", [sum(minutes[name, part] for name in crates) for part in PARTS])]
 
 
 def row(name, numbers):
-    return f"| {name} | " + " | ".join(f"{number:.1f}" for number in [*numbers, sum(numbers)]) + " |"
+    return (
+        f"| {name} | " + " | ".join(f"{number:.1f}" for number in [*numbers, sum(numbers)]) + " |"
+    )
 
 
 def processor():
     lines = Path("/proc/cpuinfo").read_text().splitlines()
-    return next((line.partition(": ")[2] for line in lines if line.startswith("model name")), "unknown")
+    return next(
+        (line.partition(": ")[2] for line in lines if line.startswith("model name")), "unknown"
+    )
 
 
 def main(words):
@@ -85,8 +102,11 @@ def main(words):
     minutes = Counter()
     for (_, _, work), spent in ticks.items():
         minutes[work] += spent / TICKS / 60
-    print(f"{datetime.date.today()}, {os.cpu_count()} processors ({processor()}), `{' '.join(words)}`: "
-          f"{(time.monotonic() - began) / 60:.0f} minutes.\n")
+    print(
+        f"{datetime.date.today()}, {os.cpu_count()} processors ({processor()}), "
+        f"`{' '.join(words)}`: "
+        f"{(time.monotonic() - began) / 60:.0f} minutes.\n"
+    )
     print("\n".join(table(minutes)))
     return command.returncode
 

@@ -11,9 +11,15 @@ from pathlib import Path
 import pytest
 
 TOP = Path(__file__).resolve().parent.parent.parent
-CRATES = {"words": [], "numbers": ["words"], "tables": ["words", "numbers"], "aside": ["words"], "bwe": ["tables"]}
+CRATES = {
+    "words": [],
+    "numbers": ["words"],
+    "tables": ["words", "numbers"],
+    "aside": ["words"],
+    "bwe": ["tables"],
+}
 
-# Proves a library where those below it are built, refuses a crate whose source says `wrong`, and takes one from a room.
+# Builds a library where those below are built, and refuses a crate whose source says `wrong`.
 RT = r"""#!/bin/bash
 echo "$1 ${PWD##*/}" >>"$CALLS"
 name=${PWD##*/}
@@ -21,11 +27,16 @@ case $1 in
 version) echo "a kit of tests"; exit ;;
 esac
 for below in $(sed -n "s/^$name://p" ../../crates.txt); do
-    [ ! -d "../$below" ] || [ -f "../$below/out/rlib/stamp" ] || { echo "$below is not built"; exit 1; }
+    [ -d "../$below" ] || continue
+    [ -f "../$below/out/rlib/stamp" ] || { echo "$below is not built"; exit 1; }
 done
 mkdir -p out
 sleep "${PROVING:-0}"
-if grep -q wrong src/*; then echo "fn $name::good: proved"; echo "fn $name::bad: a goal is open"; exit 1; fi
+if grep -q wrong src/*; then
+    echo "fn $name::good: proved"
+    echo "fn $name::bad: a goal is open"
+    exit 1
+fi
 case $1 in
 lib) mkdir -p out/rlib && cat src/* >out/rlib/stamp ;;
 run) printf '#!/bin/bash\necho "words: $*"\n[ "$1" = make ] || cat\nexit 3\n' >out/bwe
@@ -68,7 +79,9 @@ def old_files(top):
 
 
 def run(top, *words, given=""):
-    return subprocess.run(words, cwd=top, input=given, capture_output=True, text=True, timeout=60, check=False)
+    return subprocess.run(
+        words, cwd=top, input=given, capture_output=True, text=True, timeout=60, check=False
+    )
 
 
 def proved(top):
@@ -76,7 +89,9 @@ def proved(top):
     calls = top.parent / "calls"
     lines = calls.read_text().splitlines() if calls.exists() else []
     calls.write_text("")
-    return list(dict.fromkeys(line.split()[1] for line in lines if line.split()[0] in ("lib", "run")))
+    return list(
+        dict.fromkeys(line.split()[1] for line in lines if line.split()[0] in ("lib", "run"))
+    )
 
 
 def test_make_builds_what_the_program_stands_on_in_order(project):
@@ -117,7 +132,7 @@ def test_a_failed_crate_is_named_last_with_its_log(project):
     (project / "crates/numbers/src/lib.rt").write_text("wrong\n")
     made = run(project, "make")
     assert made.returncode != 0
-    told = made.stderr[made.stderr.index("bwe: numbers is not proved"):]
+    told = made.stderr[made.stderr.index("bwe: numbers is not proved") :]
     assert "fn numbers::bad: a goal is open\n" in told
     assert "good" not in told
     assert proved(project) == ["words", "numbers"]
@@ -125,8 +140,13 @@ def test_a_failed_crate_is_named_last_with_its_log(project):
 
 def test_an_interrupted_build_goes_on_where_it_stopped(project, monkeypatch):
     monkeypatch.setenv("PROVING", "1")
-    making = subprocess.Popen(["make"], cwd=project, start_new_session=True, stderr=subprocess.DEVNULL,
-                              preexec_fn=lambda: signal.signal(signal.SIGINT, signal.SIG_DFL))
+    making = subprocess.Popen(
+        ["make"],
+        cwd=project,
+        start_new_session=True,
+        stderr=subprocess.DEVNULL,
+        preexec_fn=lambda: signal.signal(signal.SIGINT, signal.SIG_DFL),
+    )
     stamp = project / "crates/words/out/rlib/stamp"
     until(lambda: stamp.exists() and (project / "crates/numbers/out/room").exists())
     os.killpg(making.pid, signal.SIGINT)
@@ -149,7 +169,18 @@ def until(holds):
 def test_help_and_version_need_no_build(project):
     told = run(project, "./bwe", "--help")
     assert told.returncode == 0
-    for line in ("solve", "check", "levels", "run", "audit", "tiers", "estimate", "enforce", "make", "bulk"):
+    for line in (
+        "solve",
+        "check",
+        "levels",
+        "run",
+        "audit",
+        "tiers",
+        "estimate",
+        "enforce",
+        "make",
+        "bulk",
+    ):
         assert f"\n  {line} " in told.stdout
     version = run(project, "./bwe", "--version")
     assert version.returncode == 0
@@ -183,10 +214,21 @@ def test_the_first_call_builds_and_a_newer_source_builds_again(project):
     assert proved(project) == ["tables", "bwe"]
 
 
-@pytest.mark.parametrize("words", [
-    ["solve"], ["check"], ["audit"], ["tiers"], ["enforce"], ["levels", "90"], ["estimate", "2", "110"], ["run"],
-    ["run", "--readers", "3"], ["run", "--reads=2", "--readers=3"],
-])
+@pytest.mark.parametrize(
+    "words",
+    [
+        ["solve"],
+        ["check"],
+        ["audit"],
+        ["tiers"],
+        ["enforce"],
+        ["levels", "90"],
+        ["estimate", "2", "110"],
+        ["run"],
+        ["run", "--readers", "3"],
+        ["run", "--reads=2", "--readers=3"],
+    ],
+)
 def test_one_more_word_is_the_file_to_read(project, tmp_path, words):
     run(project, "make")
     (tmp_path / "a document").write_text("from a file")
@@ -194,7 +236,10 @@ def test_one_more_word_is_the_file_to_read(project, tmp_path, words):
     assert (told.stdout, told.stderr) == (f"words: {' '.join(words)}\nfrom a file", "")
 
 
-@pytest.mark.parametrize("words", [["solve", "absent"], ["levels", "crates.txt"], ["solve", "crates.txt", "x"], ["help"], []])
+@pytest.mark.parametrize(
+    "words",
+    [["solve", "absent"], ["levels", "crates.txt"], ["solve", "crates.txt", "x"], ["help"], []],
+)
 def test_words_without_a_file_reach_the_program(project, words):
     run(project, "make")
     told = run(project, "./bwe", *words)
@@ -220,14 +265,26 @@ def test_a_failed_build_ends_with_status_70(project):
     (project / "crates/words/src/lib.rt").write_text("wrong\n")
     told = run(project, "./bwe", "solve")
     assert (told.returncode, told.stdout) == (70, "")
-    assert told.stderr.endswith("bwe: words is not proved\nbwe: the build failed\n") or "words is not proved" in told.stderr
+    assert (
+        told.stderr.endswith("bwe: words is not proved\nbwe: the build failed\n")
+        or "words is not proved" in told.stderr
+    )
 
 
 def test_a_terminal_is_told_that_a_document_is_awaited(project):
     run(project, "make")
     ours, theirs = pty.openpty()
-    with subprocess.Popen(["./bwe", "solve"], cwd=project, stdin=theirs, stdout=subprocess.PIPE,
-                          stderr=subprocess.PIPE, text=True) as waiting:
+    with subprocess.Popen(
+        ["./bwe", "solve"],
+        cwd=project,
+        stdin=theirs,
+        stdout=subprocess.PIPE,
+        stderr=subprocess.PIPE,
+        text=True,
+    ) as waiting:
         os.write(ours, b"\x04")
         told = waiting.communicate(timeout=20)
-    assert told == ("words: solve\n", "bwe: waiting for a document on standard input, which Ctrl-D ends\n")
+    assert told == (
+        "words: solve\n",
+        "bwe: waiting for a document on standard input, which Ctrl-D ends\n",
+    )
