@@ -24,3 +24,16 @@ def kilobits(text: str, plain: str = "k") -> int | None:
         return None
     prefix = found[2].lower() if found[2] or found[3] else plain
     return whole(Decimal(found[1]) * SIZES[prefix])
+
+
+CARRIERS = {"oc": Decimal(51_840), "stm": Decimal(155_520)}
+CARRIER = re.compile(r"\b(oc|stm)[- ]?(\d{1,4})\b", re.IGNORECASE)
+IN_WORDS = re.compile(r"(\d+(?:\.\d+)?)\s*([kmgt])(?:b|bps|bit|bits|bit/s|b/s|bits/s)?\b", re.IGNORECASE)
+
+
+def in_words(text: str) -> int | None:
+    """The kb/s of the first carrier or rate in a label, as `OC-192`, `STM-64` or `10 Gbps`. None where there is none."""
+    if carrier := CARRIER.search(text):
+        return whole(CARRIERS[carrier[1].lower()] * int(carrier[2]))
+    found = IN_WORDS.search(text)
+    return found and whole(Decimal(found[1]) * SIZES[found[2].lower()])
