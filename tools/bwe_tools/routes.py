@@ -25,26 +25,33 @@ class Routes:
     def between(self, source, target, most: int) -> list:
         """At most `most` paths, the shortest first, each a list of link names of at most 32.
 
-        Where one link is on all of them and there is a way without it, the last one is the shortest such way.
+        Where one link is on all of them, the last one is the shortest of those that meet the fewest such links.
         """
+        ends = ("site", source), ("site", target)
         try:
-            ways = networkx.shortest_simple_paths(self.graph, ("site", source), ("site", target), self.length)
+            ways = networkx.shortest_simple_paths(self.graph, *ends, self.length)
             found = [way for way in islice(map(link_names, ways), MOST_LOOKS) if len(way) <= MOST_LINKS][:most]
         except (networkx.NetworkXNoPath, networkx.NodeNotFound):
             return []
-        return self.without_common_links(found, source, target, most)
+        if most == 1 or not common_links(found):
+            return found
+        first = found[: most - 1]
+        another = self.around(common_links(first), *ends)
+        has_gained = len(common_links([*first, another])) < len(common_links(found))
+        return [*first, another] if has_gained and len(another) <= MOST_LINKS else found
 
-    def without_common_links(self, found, source, target, most):
-        common = set.intersection(*map(set, found)) if found else set()
-        if not common or most == 1:
-            return found
-        others = self.graph.subgraph(set(self.graph) - {("link", name) for name in common})
-        try:
-            way = networkx.shortest_path(others, ("site", source), ("site", target), self.length)
-        except (networkx.NetworkXNoPath, networkx.NodeNotFound):
-            return found
-        names = link_names(way)
-        return [*found[: most - 1], names] if len(names) <= MOST_LINKS else found
+    def around(self, links, source, target) -> list:
+        """The path that meets the fewest of these links, and of those the shortest."""
+        detour = 1 + sum(length for _, _, length in self.graph.edges(data="length"))
+
+        def length_of(_, node, edge):
+            return edge["length"] + (detour if node[0] == "link" and node[1] in links else 0)
+
+        return link_names(networkx.shortest_path(self.graph, source, target, length_of))
+
+
+def common_links(paths) -> set:
+    return set.intersection(*map(set, paths)) if paths else set()
 
 
 def link_names(way) -> list:
