@@ -47,10 +47,11 @@ def path_groups(document: Document):
             sentence = f"all path groups of group \"{group.name}\" fall together where {named(common)} closes"
             yield Warning(place, sentence)
         for number, paths in enumerate(group.paths):
-            if len(paths) > 1 and not any(other < links[number] for other in links):
+            alone = [any(other <= set(path.links) for other in links) for path in paths]
+            if len(paths) > 1 and not all(alone):
                 sentence = (
                     f"path group {number} of group \"{group.name}\" falls whole with any of its links, "
-                    "and no path of it is a path group by itself"
+                    f"and its path {alone.index(False)} is no path group by itself"
                 )
                 yield Warning((*place, number), sentence)
 
