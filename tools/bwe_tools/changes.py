@@ -111,8 +111,7 @@ def changes_between(old: Things, new: Things) -> list[Change]:
             changes.append(Change("+", _name(key), [f"+ {what}: {_text(value)}" for what, value in said.items()]))
         elif old[key] != said:
             changes.append(Change("~", _name(key), _lines(old[key], said)))
-    for key in old.keys() - new.keys():
-        changes.append(Change("-", _name(key), []))
+    changes += [Change("-", _name(key), []) for key in old if key not in new]
     return changes + _orders(old, new)
 
 
