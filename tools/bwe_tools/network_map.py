@@ -7,6 +7,7 @@ from dataclasses import dataclass
 from html import escape
 from pathlib import Path
 
+from bwe_tools.document import ToolError
 from bwe_tools.layout import Spots, positions
 from bwe_tools.rate import percent, rate, tenths_of_percent
 from bwe_tools.view import LinkView, View
@@ -43,6 +44,7 @@ class Strand:
     there: LinkView
     back: LinkView | None
     bend: float
+    number: int
 
 
 def strands_of(links: list[LinkView]) -> list[Strand]:
@@ -57,7 +59,7 @@ def strands_of(links: list[LinkView]) -> list[Strand]:
         lines = [*zip(there, back), *((link, None) for link in there[both:] + back[both:])]
         for number, (link, opposite) in enumerate(lines):
             bend = number - (len(lines) - 1) / 2
-            strands.append(Strand(link, opposite, bend if link.source == one else -bend))
+            strands.append(Strand(link, opposite, bend if link.source == one else -bend, number))
     return strands
 
 
@@ -89,7 +91,7 @@ class Detail:
 
 
 ALL = frozenset(WORDS)
-FULL_DETAIL = Detail(thin=2.4, thick=8.0, head=4.6, bend=26, labels=ALL, dots=False)
+FULL_DETAIL = Detail(thin=2.4, thick=8.0, head=4.6, bend=36, labels=ALL, dots=False)
 SOME_DETAIL = Detail(
     thin=1.8, thick=5.6, head=3.2, bend=18, labels=ALL - {"idle", "light", "half"}, dots=False
 )
@@ -168,18 +170,20 @@ class _Drawing:
     def _draw_strand(self, strand: Strand) -> None:
         start, end = self.spots[strand.there.source], self.spots[strand.there.target]
         bend = strand.bend * self.detail.bend
+        # The numbers of parallel lines stand beside each other.
+        label = 0.27 + 0.11 * (strand.number % 2)
         whole = strand.back is None
-        self._draw_link(strand.there, _Curve(start, end, bend), whole)
+        self._draw_link(strand.there, _Curve(start, end, bend), whole, label)
         if strand.back is not None:
-            self._draw_link(strand.back, _Curve(end, start, -bend), whole)
+            self._draw_link(strand.back, _Curve(end, start, -bend), whole, label)
 
-    def _draw_link(self, link: LinkView, curve: _Curve, whole: bool) -> None:
+    def _draw_link(self, link: LinkView, curve: _Curve, whole: bool, label: float) -> None:
         """A link with its arrow in the middle of the line; with a link back it ends there."""
         state = state_of(link)
         part = min(link.load / link.capacity, 1.0) if link.capacity else 0.0
         width = self.detail.thin + (self.detail.thick - self.detail.thin) * part
         tip, (dx, dy) = curve.at(0.495), curve.direction(0.5)
-        size = width / 2 + self.detail.head
+        size = (width / 2 + self.detail.head) * (1.3 if whole else 1.0)
         back = (tip[0] - 1.7 * size * dx, tip[1] - 1.7 * size * dy)
         corners = [tip, *((back[0] - way * size * dy, back[1] + way * size * dx) for way in (1, -1))]
         points = " ".join(f"{x:.1f},{y:.1f}" for x, y in corners)
@@ -191,7 +195,7 @@ class _Drawing:
             f'<polygon class="head" points="{points}"/>{_bar(state, tip, (dx, dy), size)}</g>'
         )
         if state in self.detail.labels:
-            self._label(link, state, curve.at(0.3 if whole else 0.28))
+            self._label(link, state, curve.at(label))
 
     def _label(self, link: LinkView, state: str, spot: tuple[float, float]) -> None:
         text = "drained" if state == "drained" else percent(link.load, link.capacity)
@@ -289,6 +293,8 @@ def svg(view: View, frame: Frame, kind: str) -> str:
 
 def picture(view: View) -> str:
     """The map as an SVG file that stands alone, light or dark as its reader prefers."""
+    if not view.links:
+        raise ToolError("the document has no link to draw")
     drawing = _Drawing(view, WIDE)
     style = (ASSETS / "map.css").read_text(encoding="utf-8")
     return (

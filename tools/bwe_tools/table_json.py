@@ -8,7 +8,15 @@ import jsonschema
 
 from bwe_tools.document import ToolError
 from bwe_tools.program import ROOT
-from bwe_tools.table import Closing, GroupAmount, LinkLoad, PathGroupAmount, Table, TaskLimit
+from bwe_tools.table import (
+    Closing,
+    GroupAmount,
+    LinkLoad,
+    PathGroupAmount,
+    Table,
+    TaskLimit,
+    parse_table,
+)
 
 SCHEMA = ROOT / "docs" / "table.schema.json"
 
@@ -51,7 +59,7 @@ def table_from_json(text: bytes, source: str = "the input") -> Table:
         )
         for group in whole["groups"]
     ]
-    return Table(
+    table = Table(
         whole["reports"],
         whole["total"],
         [Closing(closing["link"], closing["share"]) for closing in whole["closings"]],
@@ -59,6 +67,9 @@ def table_from_json(text: bytes, source: str = "the input") -> Table:
         groups,
         [TaskLimit(task["name"], task["limit"]) for task in whole["tasks"]],
     )
+    # The pattern of a name lets a line feed at its end pass, which the text does not.
+    parse_table(table.text(), source)
+    return table
 
 
 def _validate(whole: object, source: str) -> None:
