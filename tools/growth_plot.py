@@ -180,7 +180,7 @@ def draw(points: list[Point], path: str) -> None:
 @click.option("--program", "chosen", multiple=True, metavar="NAME=PATH", help="A program to measure.")
 @click.option("-o", "--output", required=True, help="The SVG to write.")
 @click.option("--data", help="A file for the measured times, as JSON.")
-@click.option("--runs", type=click.IntRange(1), default=3, help="Runs of which the least counts.")
+@click.option("--runs", type=click.IntRange(1), default=5, help="Runs of which the least counts.")
 @click.option("--patience", default=6.0, help="Seconds after which a curve ends.")
 def main(chosen: tuple[str, ...], output: str, data: str | None, runs: int, patience: float) -> None:
     programs = dict(word.split("=", 1) if "=" in word else (Path(word).name, word) for word in chosen)
