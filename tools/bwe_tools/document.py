@@ -11,6 +11,8 @@ from typing import Optional
 
 import click
 
+from bwe_tools import json_text, rules
+
 MOST_BYTES = 67_108_864
 
 
@@ -134,24 +136,29 @@ def read_bytes(path):
         with open(path, "rb") as file:
             return file.read(MOST_BYTES + 1)
     except OSError as fault:
-        raise ToolError(f"{path}: {fault.strerror}.") from None
+        raise ToolError(f"{path} cannot be read: {fault.strerror}") from None
 
 
-def parse(text, path="-"):
-    """The document of a text; `path` is how a fault names where it comes from."""
+def parse(data, path="-"):
+    """The document of some bytes; `path` is how a fault names where they come from."""
     try:
-        return of_raw(json.loads(text))
-    except (ValueError, RecursionError) as fault:
-        raise ToolError(f"{path} is not JSON: {fault}.") from None
-    except (KeyError, TypeError, AttributeError):
-        raise ToolError(f"{path} is no document; `bwe-tools lint {path}` says where.") from None
+        _, raw = json_text.parse(data)
+        document = of_raw(raw)
+        fault = rules.first_fault(raw)
+    except json_text.NotJson as fault:
+        raise ToolError(f"{path} is not JSON: {fault}") from None
+    except (KeyError, TypeError, AttributeError, ValueError):
+        raise ToolError(f"{path} is no document; `bwe-tools lint {path}` says where") from None
+    if fault is not None:
+        raise ToolError(f"{path} is no document: {fault.sentence}; `bwe-tools lint {path}` says where")
+    return document
 
 
 def load(path):
     """The document of a file, or of standard input for `-`."""
     data = read_bytes(path)
     if len(data) > MOST_BYTES:
-        raise ToolError(f"{path} is longer than {MOST_BYTES:,} bytes, which is the most that bwe reads.")
+        raise ToolError(f"{path} is longer than {MOST_BYTES:,} bytes, which is the most that bwe reads")
     return parse(data, path)
 
 
@@ -159,14 +166,33 @@ def of_raw(raw):
     """The document of JSON that is shaped as one."""
     return Document(
         version=raw["version"],
-        top=raw["top"],
-        links=tuple(Link(link["name"], link["from"], link["to"], link["capacity"], link.get("owner")) for link in raw["links"]),
+        top=whole(raw["top"]),
+        links=tuple(link_of(link) for link in raw["links"]),
         groups=tuple(group_of(group) for group in raw["groups"]),
         reporters=tuple(raw["reporters"]),
         script=tuple(report_of(report) for report in raw["script"]),
-        closings=tuple(Closing(closing["link"], closing["share"]) for closing in raw.get("closings", [])),
+        closings=tuple(Closing(closing["link"], whole(closing["share"])) for closing in raw.get("closings", [])),
         raw=raw,
     )
+
+
+def whole(value):
+    """A whole number of the format, which neither true nor 1.0 is."""
+    if type(value) is not int:
+        raise TypeError
+    return value
+
+
+def link_of(raw):
+    return Link(raw["name"], raw["from"], raw["to"], whole(raw["capacity"]), raw.get("owner"))
+
+
+def path_of(raw):
+    return Path(whole(raw["weight"]), tuple(raw["links"]))
+
+
+def user_of(raw):
+    return User(raw["name"], raw.get("function"), tuple(job_of(job) for job in raw["jobs"]))
 
 
 def group_of(raw):
@@ -175,22 +201,22 @@ def group_of(raw):
         source=raw["from"],
         target=raw["to"],
         function=raw.get("function"),
-        paths=tuple(tuple(Path(path["weight"], tuple(path["links"])) for path in paths) for paths in raw["paths"]),
-        users=tuple(
-            User(user["name"], user.get("function"), tuple(job_of(job) for job in user["jobs"])) for user in raw["users"]
-        ),
+        paths=tuple(tuple(path_of(path) for path in paths) for paths in raw["paths"]),
+        users=tuple(user_of(user) for user in raw["users"]),
     )
 
 
 def job_of(raw):
-    tasks = tuple(Task(task["name"], task["reporter"], task.get("weight", 1)) for task in raw["tasks"])
+    tasks = tuple(
+        Task(task["name"], task["reporter"], whole(task.get("weight", 1))) for task in raw["tasks"]
+    )
     return Job(raw["name"], raw.get("function"), raw["task"], tasks)
 
 
 def report_of(raw):
     if "link" in raw or "capacity" in raw:
-        return Report(raw["reporter"], None, raw["link"], raw["capacity"])
-    return Report(raw["reporter"], raw["task"], None, raw["demand"])
+        return Report(raw["reporter"], None, raw["link"], whole(raw["capacity"]))
+    return Report(raw["reporter"], raw["task"], None, whole(raw["demand"]))
 
 
 def dump(raw):
