@@ -309,10 +309,14 @@ def test_a_page_that_cannot_be_written_gets_a_sentence(tmp_path):
 
 @pytest.mark.parametrize("command", ["explain", "whatif", "page"])
 def test_a_document_that_is_refused_gets_the_line_of_bwe(command, tmp_path):
-    copy = changed(MAINTENANCE, tmp_path, lambda whole: whole.update(top=0))
-    assert "refused 4 range at /top" in fails(command, copy)
-    copy = changed(MAINTENANCE, tmp_path, lambda whole: whole["links"][0].update(capacity="10G"))
-    assert "refused 2 shape at /links/0/capacity" in fails(command, copy)
+    copy = changed(MAINTENANCE, tmp_path, lambda whole: whole["script"][0].update(reporter="batch"))
+    assert "refused 11 not owner at entry 0" in fails(command, copy)
+
+
+@pytest.mark.parametrize("command", ["explain", "whatif", "page"])
+@pytest.mark.parametrize("change", [{"top": 0}, {"links": 7}, {"version": 9}])
+def test_a_document_of_another_shape_gets_a_sentence(command, change, tmp_path):
+    assert "lint" in fails(command, changed(MAINTENANCE, tmp_path, lambda whole: whole.update(change)))
 
 
 @pytest.mark.parametrize("command", ["explain", "whatif", "page"])
