@@ -308,11 +308,9 @@ def test_a_page_that_cannot_be_written_gets_a_sentence(tmp_path):
 # ---- bad documents and programs
 
 @pytest.mark.parametrize("command", ["explain", "whatif", "page"])
-def test_a_document_that_is_refused_gets_the_line_of_bwe(command, tmp_path):
-    copy = changed(MAINTENANCE, tmp_path, lambda whole: whole.update(top=0))
-    assert "refused 4 range at /top" in fails(command, copy)
-    copy = changed(MAINTENANCE, tmp_path, lambda whole: whole["links"][0].update(capacity="10G"))
-    assert "refused 2 shape at /links/0/capacity" in fails(command, copy)
+@pytest.mark.parametrize("change", [{"top": 0}, {"links": 7}, {"version": 9}])
+def test_a_document_of_another_shape_gets_a_sentence(command, change, tmp_path):
+    assert "lint" in fails(command, changed(MAINTENANCE, tmp_path, lambda whole: whole.update(change)))
 
 
 @pytest.mark.parametrize("command", ["explain", "whatif", "page"])
@@ -326,6 +324,7 @@ def test_no_document_gets_a_sentence(command, tmp_path):
 @pytest.mark.parametrize(
     "script, sentence",
     [
+        ("cat > /dev/null; echo refused 4 range at /top; exit 3", "refuses {}: refused 4 range at /top ("),
         ("cat > /dev/null; exit 6", "too little memory"),
         ("cat > /dev/null; exit 2", "does not know the line `bwe levels 1000000000`"),
         ("cat > /dev/null; exit 99", "status 99"),
@@ -334,7 +333,7 @@ def test_no_document_gets_a_sentence(command, tmp_path):
 )
 def test_each_status_of_the_program_has_a_sentence(script, sentence, tmp_path, monkeypatch):
     monkeypatch.setenv("BWE", str(stand_in(tmp_path, script)))
-    assert sentence in fails("explain", SHARED_LINK)
+    assert sentence.format(SHARED_LINK) in fails("explain", SHARED_LINK)
 
 
 def test_a_program_that_is_not_there_gets_a_sentence(tmp_path, monkeypatch):
