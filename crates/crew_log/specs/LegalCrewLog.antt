@@ -6,10 +6,10 @@ use Rattle.bwe_specs.specs.declared.report.Report.{Report}
 use Rattle.bwe_specs.specs.Reports.{reports_of}
 use Rattle.board_core.specs.Core.{IsAllowed}
 use Rattle.demand_book.specs.Fit.{IsFit}
-use Rattle.crew_actors.specs.declared.log.ReadLine.{ReadLine}
-use Rattle.crew_actors.specs.declared.log.ReaderLog.{ReaderLog}
-use Rattle.crew_actors.specs.declared.log.CrewLog.{CrewLog}
-use Rattle.crew_actors.specs.Lines.{IsLineOf, NeverGoBack}
+use Rattle.crew_log.specs.declared.log.ReadLine.{ReadLine}
+use Rattle.crew_log.specs.declared.log.ReaderLog.{ReaderLog}
+use Rattle.crew_log.specs.declared.log.CrewLog.{CrewLog}
+use Rattle.crew_log.specs.Lines.{IsLineOf, NeverGoBack}
 
 -- a reader's lines, and the last one behind them
 abbrev pub lines_of : ReaderLog → List ReadLine
