@@ -93,13 +93,19 @@ def fault_of_example(program, example):
 
 def fault_of_summary(program, size):
     """What is wrong with the last line of a made document's summary, or None."""
-    made, summary, again = (written(program, [word, *size], b"") for word in ("make", "bulk", "bulk"))
+    made, summary, again = (
+        written(program, [word, *size], b"") for word in ("make", "bulk", "bulk")
+    )
     table = written(program, ["solve"], made)
-    return first_difference(summary, again) or first_difference(summary.splitlines()[-1], table.splitlines()[-1])
+    return first_difference(summary, again) or first_difference(
+        summary.splitlines()[-1], table.splitlines()[-1]
+    )
 
 
 def written(program, words, given):
-    return subprocess.run([program, *words], input=given, stdout=subprocess.PIPE, check=True, timeout=SECONDS).stdout
+    return subprocess.run(
+        [program, *words], input=given, stdout=subprocess.PIPE, check=True, timeout=SECONDS
+    ).stdout
 
 
 def told(kind, results):
@@ -145,7 +151,9 @@ def main(words):
             )
             counts.append(told("documents", compare.results(program, DOCUMENTS)))
             counts.append(told("runs", runs.results(program, RUNS)))
-            counts.append(told("summaries", [(" ".join(SUMMED), fault_of_summary(program, SUMMED))]))
+            counts.append(
+                told("summaries", [(" ".join(SUMMED), fault_of_summary(program, SUMMED))])
+            )
     passed, failed = map(sum, zip(*counts))
     print(f"{passed} passed, {failed} failed")
     return 1 if failed else 0
