@@ -57,9 +57,10 @@ def look(top, ticks):
     living = {number: (parent, work) for number, parent, _, _, work in filter(None, found)}
     for number, _, start, spent, _ in filter(None, found):
         work, above = None, number
-        while above in living and above != top and work is None:
-            above, work = living[above]
-        if work:
+        while above in living and above != top:
+            above, own = living[above]
+            work = work or own
+        if above == top and work:
             ticks[number, start, work] = spent
 
 
