@@ -9,6 +9,7 @@ little less than the truth. The command's own output goes to standard error, the
 Markdown, to standard output. The status is the command's.
 
     tools/minutes.py rt ci --anew      all, from nothing
+    tools/minutes.py --process 4711    a command that runs already, by its number, till it ends
     tools/minutes.py rt ci board       a crate and those below it, without what is kept of them
 """
 
@@ -91,25 +92,36 @@ def processor():
     )
 
 
-def main(words):
-    if not words or words[0].startswith("-"):
-        print(__doc__)
-        return 0 if words == ["--help"] else 2
-    began, ticks = time.monotonic(), {}
-    command = subprocess.Popen(words, stdout=sys.stderr)
-    while command.poll() is None:
-        look(command.pid, ticks)
+def watched(number, ends):
+    """The minutes of each work below a process, looked at until `ends` says that it ended."""
+    ticks = {}
+    while not ends():
+        look(number, ticks)
         time.sleep(SECONDS)
     minutes = Counter()
     for (_, _, work), spent in ticks.items():
         minutes[work] += spent / TICKS / 60
+    return minutes
+
+
+def main(words):
+    if not words or words[0].startswith("-") and words[0] != "--process":
+        print(__doc__)
+        return 0 if words == ["--help"] else 2
+    began = time.monotonic()
+    if words[0] == "--process":
+        status, number = 0, int(words[1])
+        minutes = watched(number, lambda: not Path(f"/proc/{number}").exists())
+    else:
+        command = subprocess.Popen(words, stdout=sys.stderr)
+        minutes = watched(command.pid, lambda: command.poll() is not None)
+        status = command.returncode
     print(
         f"{datetime.date.today()}, {os.cpu_count()} processors ({processor()}), "
-        f"`{' '.join(words)}`: "
-        f"{(time.monotonic() - began) / 60:.0f} minutes.\n"
+        f"`{' '.join(words)}`: {(time.monotonic() - began) / 60:.0f} minutes.\n"
     )
     print("\n".join(table(minutes)))
-    return command.returncode
+    return status
 
 
 if __name__ == "__main__":
