@@ -192,6 +192,9 @@ def seconds(program, words, given, room):
 
 
 def main(words):
+    if words[:1] == ["--help"]:
+        print(__doc__)
+        return 0
     program = str(Path(words[0] if words else TOP / "crates/bwe/out/bwe").resolve())
     wanted = words[1] if len(words) > 1 else ""
     print("| workload | bytes | least s | median s |\n|---|---:|---:|---:|")

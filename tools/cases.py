@@ -124,6 +124,9 @@ def side_by_side(fault_of, program, items, name_of):
 
 
 def main(words):
+    if words[:1] == ["--help"]:
+        print(__doc__)
+        return 0
     built = Path(words[0]) if words else TOP / "crates/bwe/out/bwe"
     if not built.is_file():
         sys.exit(f"cases: no program at {built}")

@@ -482,6 +482,9 @@ def results(program, count, seed=1):
 
 
 def main(words):
+    if words[:1] == ["--help"]:
+        print(__doc__)
+        return 0
     program = words[0] if words else os.path.join(HERE, "..", "crates", "bwe", "out", "bwe")
     count = int(words[1]) if len(words) > 1 else 200
     faults = [

@@ -102,6 +102,9 @@ def lines_on(document):
 
 
 def main(words):
+    if words[:1] == ["--help"]:
+        print(__doc__)
+        return 0
     program = words[0] if words else os.path.join(HERE, "..", "crates", "bwe", "out", "bwe")
     with open(os.path.join(HERE, "..", "examples", "shared-link.json"), "rb") as file:
         document = file.read()

@@ -337,6 +337,9 @@ def results(program, count, first=1):
 
 
 def main(words):
+    if words[:1] == ["--help"]:
+        print(__doc__)
+        return 0
     here = Path(__file__).resolve().parent
     program = str(Path(words[0] if words else here / "../crates/bwe/out/bwe").resolve())
     count = int(words[1]) if len(words) > 1 else 3
