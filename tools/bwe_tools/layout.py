@@ -37,14 +37,45 @@ def positions(sites: list[str], ends: Iterable[tuple[str, str]]) -> Spots:
 def _lay_out(graph: networkx.Graph) -> Spots:
     if len(graph) == 1:
         return {site: (0.0, 0.0) for site in graph}
-    spots = networkx.kamada_kawai_layout(graph, pos=networkx.circular_layout(graph))
     sites = list(graph)
     number = {site: at for at, site in enumerate(sites)}
     edges = [(number[one], number[other]) for one, other in graph.edges if one != other]
-    points = _turned(numpy.array([spots[site] for site in sites]))
-    points = _spread(points / _link_length(points, edges))
-    points /= _link_length(points, edges)
+    drawings = [_drawn(graph, start, edges) for start in _starts(graph)]
+    points = min(drawings, key=lambda points: _crossings(points, edges))
     return {site: (float(x), float(y)) for site, (x, y) in zip(sites, points)}
+
+
+def _starts(graph: networkx.Graph) -> list[dict]:
+    """Where the sites stand before the layout moves them; it ends otherwise from each."""
+    starts = [networkx.circular_layout(graph), networkx.spectral_layout(graph)]
+    is_planar, embedding = networkx.check_planarity(graph)
+    if is_planar and len(graph) > 3:
+        starts.append(networkx.combinatorial_embedding_to_pos(embedding))
+    return starts
+
+
+def _drawn(graph: networkx.Graph, start: dict, edges: list[tuple[int, int]]) -> numpy.ndarray:
+    spots = networkx.kamada_kawai_layout(graph, pos=start)
+    points = _turned(numpy.array([spots[site] for site in graph]))
+    points = _spread(points / _link_length(points, edges))
+    return points / _link_length(points, edges)
+
+
+def _crossings(points: numpy.ndarray, edges: list[tuple[int, int]]) -> int:
+    """How many pairs of links cross, those that meet at a site left out."""
+    ends = numpy.array(edges)
+    a, b = points[ends[:, 0]], points[ends[:, 1]]
+
+    def side(p, q, r):
+        return numpy.sign(
+            (q[..., 0] - p[..., 0]) * (r[..., 1] - p[..., 1])
+            - (q[..., 1] - p[..., 1]) * (r[..., 0] - p[..., 0])
+        )
+
+    p, q, r, s = a[:, None], b[:, None], a[None, :], b[None, :]
+    crosses = (side(p, q, r) * side(p, q, s) < 0) & (side(r, s, p) * side(r, s, q) < 0)
+    apart = (ends[:, None, :, None] != ends[None, :, None, :]).all(axis=(2, 3))
+    return int((crosses & apart).sum()) // 2
 
 
 def _link_length(points: numpy.ndarray, edges: list[tuple[int, int]]) -> float:

@@ -91,7 +91,7 @@ class Detail:
 
 
 ALL = frozenset(WORDS)
-FULL_DETAIL = Detail(thin=2.4, thick=8.0, head=4.6, bend=36, labels=ALL, dots=False)
+FULL_DETAIL = Detail(thin=2.4, thick=8.0, head=4.6, bend=36, labels=ALL - {"idle"}, dots=False)
 SOME_DETAIL = Detail(
     thin=1.8, thick=5.6, head=3.2, bend=18, labels=ALL - {"idle", "light", "half"}, dots=False
 )
@@ -170,14 +170,12 @@ class _Drawing:
     def _draw_strand(self, strand: Strand) -> None:
         start, end = self.spots[strand.there.source], self.spots[strand.there.target]
         bend = strand.bend * self.detail.bend
-        # The numbers of parallel lines stand beside each other.
-        label = 0.27 + 0.11 * (strand.number % 2)
         whole = strand.back is None
-        self._draw_link(strand.there, _Curve(start, end, bend), whole, label)
+        self._draw_link(strand.there, _Curve(start, end, bend), whole, strand.number)
         if strand.back is not None:
-            self._draw_link(strand.back, _Curve(end, start, -bend), whole, label)
+            self._draw_link(strand.back, _Curve(end, start, -bend), whole, strand.number)
 
-    def _draw_link(self, link: LinkView, curve: _Curve, whole: bool, label: float) -> None:
+    def _draw_link(self, link: LinkView, curve: _Curve, whole: bool, number: int) -> None:
         """A link with its arrow in the middle of the line; with a link back it ends there."""
         state = state_of(link)
         part = min(link.load / link.capacity, 1.0) if link.capacity else 0.0
@@ -195,7 +193,24 @@ class _Drawing:
             f'<polygon class="head" points="{points}"/>{_bar(state, tip, (dx, dy), size)}</g>'
         )
         if state in self.detail.labels:
-            self._label(link, state, curve.at(label))
+            # The numbers of parallel lines stand beside each other.
+            seen = self._leaves(link.source, curve)
+            self._label(link, state, curve.at(seen + (0.45 - seen) * (0.65 if number % 2 else 0.42)))
+
+    def _leaves(self, site: str, curve: _Curve) -> float:
+        """The part of a curve at which it leaves the box of the site where it begins."""
+        half = self._half_width(site)
+        parts = (step / 50 for step in range(25))
+        x, y = curve.start
+
+        def is_outside(part: float) -> bool:
+            there = curve.at(part)
+            return abs(there[0] - x) > half or abs(there[1] - y) > 12
+
+        return next(filter(is_outside, parts), 0.25)
+
+    def _half_width(self, site: str) -> float:
+        return 5.0 if self.detail.dots else 3.9 * len(_short(site)[0]) + 8
 
     def _label(self, link: LinkView, state: str, spot: tuple[float, float]) -> None:
         text = "drained" if state == "drained" else percent(link.load, link.capacity)
@@ -207,7 +222,7 @@ class _Drawing:
     def _box(self, site: str) -> str:
         x, y = self.spots[site]
         name, title = _short(site)
-        wide = 7.8 * len(name) + 16
+        wide = 2 * self._half_width(site)
         x = min(max(x, wide / 2 + 2), self.width - wide / 2 - 2)
         return (
             f'<g class="site">{title}<rect x="{x - wide / 2:.1f}" y="{y - 12:.1f}"'
