@@ -148,9 +148,9 @@ def parse(data, path="-"):
     except json_text.NotJson as fault:
         raise ToolError(f"{path} is not JSON: {fault}") from None
     except (KeyError, TypeError, AttributeError, ValueError):
-        raise ToolError(f"{path} is no document; `bwe-tools lint {path}` says where") from None
+        raise ToolError(f"{path} is no document; `bwe-tools lint` says where") from None
     if fault is not None:
-        raise ToolError(f"{path} is no document: {fault.sentence}; `bwe-tools lint {path}` says where")
+        raise ToolError(f"{path}: {fault.sentence} (bwe: {fault.refusal}); `bwe-tools lint` says where")
     return document
 
 

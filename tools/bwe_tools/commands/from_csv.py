@@ -17,7 +17,7 @@ from bwe_tools.rows import cell, read_demands, rows
               help="What a number without a unit counts: kbit/s, Mbit/s, Gbit/s or Tbit/s.")
 @convert.options
 def command(links, demands, unit, choices, map_file):
-    """Makes a document of two spreadsheets, saved as CSV, and writes it to standard output.
+    """Make a document of two spreadsheets, saved as CSV, and write it to standard output.
 
     LINKS has the columns from, to and capacity, and may have name and length. DEMANDS has from, to
     and demand, and may have user, job, task and weight. Separators are commas, semicolons or tabs.

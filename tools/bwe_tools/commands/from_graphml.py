@@ -23,7 +23,7 @@ PLAIN_KEYS = ("capacity", "bandwidth", "speed")
               help="What a number without a unit counts, in CSV and in edges that are not the Zoo's: bit/s to Tbit/s.")
 @convert.options
 def command(file, demands, unit, choices, map_file):
-    """Makes a document of a GraphML file and writes it to standard output.
+    """Make a document of a GraphML file and write it to standard output.
 
     Sites are named by their labels. A link's capacity is the first of LinkSpeedRaw (bit/s),
     LinkSpeed with LinkSpeedUnits, a capacity, bandwidth or speed, and a rate in LinkLabel, as the

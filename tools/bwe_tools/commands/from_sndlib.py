@@ -22,7 +22,7 @@ SECTION = re.compile(r"^([A-Z_]+)\s*\(\s*$(.*?)^\)\s*$", re.MULTILINE | re.DOTAL
               help="What its numbers count: kbit/s to Tbit/s.  [default: what the file says, else M]")
 @convert.options
 def command(file, unit, choices, map_file):
-    """Makes a document of a network of SNDlib and writes it to standard output.
+    """Make a document of a network of SNDlib and write it to standard output.
 
     The file is SNDlib's XML or its native text. A link's capacity is the pre-installed one; where
     that is 0, its first module's; where there is none, that of --capacity. A demand is its value

@@ -16,8 +16,8 @@ MOST_OF_A_KIND = 5
 @click.argument("file", default="-")
 @click.option("--all", "is_all", is_flag=True, help=f"Print all warnings of a kind, and not the first {MOST_OF_A_KIND}.")
 def command(file, is_all):
-    """Says why bwe refuses a document: the first fault with its line and column, what was likely
-    meant, and the line that bwe itself prints. Of a document that bwe accepts it warns: tasks that
+    """Say why bwe refuses a document: the first fault with its line and column, what was likely
+    meant, and the line that bwe itself prints. Of a document that bwe accepts, warn: tasks that
     are never reported, links in no path, groups with one path group, path groups that fall
     together, sites that look misspelt.
 
