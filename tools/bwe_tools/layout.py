@@ -8,6 +8,8 @@ from collections.abc import Iterable
 import networkx
 import numpy
 
+from bwe_tools.document import ToolError
+
 Spots = dict[str, tuple[float, float]]
 
 
@@ -47,15 +49,20 @@ def _lay_out(graph: networkx.Graph) -> Spots:
 
 def _starts(graph: networkx.Graph) -> list[dict]:
     """Where the sites stand before the layout moves them; it ends otherwise from each."""
-    starts = [networkx.circular_layout(graph), networkx.spectral_layout(graph)]
-    is_planar, embedding = networkx.check_planarity(graph)
-    if is_planar and len(graph) > 3:
-        starts.append(networkx.combinatorial_embedding_to_pos(embedding))
+    starts = [networkx.circular_layout(graph)]
+    if len(graph) > 3:
+        starts.append(networkx.spectral_layout(graph))
+        is_planar, embedding = networkx.check_planarity(graph)
+        if is_planar:
+            starts.append(networkx.combinatorial_embedding_to_pos(embedding))
     return starts
 
 
 def _drawn(graph: networkx.Graph, start: dict, edges: list[tuple[int, int]]) -> numpy.ndarray:
-    spots = networkx.kamada_kawai_layout(graph, pos=start)
+    try:
+        spots = networkx.kamada_kawai_layout(graph, pos=start)
+    except ImportError:
+        raise ToolError("a map needs SciPy: apt-get install python3-scipy") from None
     points = _turned(numpy.array([spots[site] for site in graph]))
     points = _spread(points / _link_length(points, edges))
     return points / _link_length(points, edges)
