@@ -183,8 +183,9 @@ class _Holders:
 
     @staticmethod
     def _links(given: GroupAmount, links: dict[str, LinkView]) -> str:
-        names = list(dict.fromkeys(part.closed_by for part in given.path_groups if part.closed_by))
-        return " and ".join(f"{name} ({links[name].state})" for name in names)
+        names = dict.fromkeys(part.closed_by for part in given.path_groups if part.closed_by)
+        phrases = [f"{name} ({links[name].state})" for name in names]
+        return " and ".join([", ".join(phrases[:-1]), phrases[-1]] if len(phrases) > 1 else phrases)
 
     def of_task(self, user: User, job: Job, task: Task) -> str:
         """A phrase, empty where the task has its demand."""
