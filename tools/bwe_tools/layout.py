@@ -3,7 +3,6 @@
 from __future__ import annotations
 
 import math
-from collections.abc import Iterable
 
 import networkx
 import numpy
@@ -13,11 +12,12 @@ from bwe_tools.document import ToolError
 Spots = dict[str, tuple[float, float]]
 
 
-def positions(sites: list[str], ends: Iterable[tuple[str, str]]) -> Spots:
+def positions(sites: list[str], ends: list[tuple[str, str]]) -> Spots:
     """A spot for each site, a link being about one unit long.
 
-    Parts of the network that no link joins stand side by side, the largest first. The answer
-    depends on nothing but the sites and links, so a network looks the same each time.
+    Parts of the network that no link joins stand side by side, the largest first. Links without
+    a way back go to the right rather than to the left. The answer depends on nothing but the sites
+    and links, so a network looks the same each time.
     """
     graph = networkx.Graph()
     graph.add_nodes_from(sites)
@@ -29,7 +29,7 @@ def positions(sites: list[str], ends: Iterable[tuple[str, str]]) -> Spots:
         inside = networkx.Graph()
         inside.add_nodes_from(site for site in sites if site in part)
         inside.add_edges_from(graph.subgraph(part).edges)
-        spots = _lay_out(inside)
+        spots = _mirrored(_lay_out(inside), [pair for pair in ends if pair[0] in part])
         least = min(x for x, _ in spots.values())
         placed |= {site: (x - least + left, y) for site, (x, y) in spots.items()}
         left = max(x for x, _ in placed.values()) + 1.2
@@ -83,6 +83,15 @@ def _crossings(points: numpy.ndarray, edges: list[tuple[int, int]]) -> int:
     crosses = (side(p, q, r) * side(p, q, s) < 0) & (side(r, s, p) * side(r, s, q) < 0)
     apart = (ends[:, None, :, None] != ends[None, :, None, :]).all(axis=(2, 3))
     return int((crosses & apart).sum()) // 2
+
+
+def _mirrored(spots: Spots, ends: list[tuple[str, str]]) -> Spots:
+    """The spots, turned over where more of the links would go to the left, or upwards."""
+    ways = [
+        sum(spots[target][axis] - spots[source][axis] for source, target in ends) for axis in (0, 1)
+    ]
+    sign_x, sign_y = (-1.0 if way < -1e-6 else 1.0 for way in ways)
+    return {site: (sign_x * x, sign_y * y) for site, (x, y) in spots.items()}
 
 
 def _link_length(points: numpy.ndarray, edges: list[tuple[int, int]]) -> float:

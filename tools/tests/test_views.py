@@ -1,6 +1,7 @@
 """What a document is given: explain, whatif, diff and page."""
 
 import json
+import math
 import re
 from html.parser import HTMLParser
 from xml.etree import ElementTree
@@ -9,6 +10,7 @@ import pytest
 
 from bwe_tools.drains import drained, two_ways
 from bwe_tools.files import read_document
+from bwe_tools.layout import positions
 from bwe_tools.network_map import strands_of
 from bwe_tools.program import solve, values_at_top
 from bwe_tools.rate import percent, rate
@@ -317,7 +319,7 @@ def test_a_document_of_another_shape_gets_a_sentence(command, change, tmp_path):
 def test_no_document_gets_a_sentence(command, tmp_path):
     (tmp_path / "words").write_text("hello\n")
     assert "is not JSON" in fails(command, tmp_path / "words")
-    assert "is no document" in fails(command, "-", given=b"{}")
+    assert "refused 2 shape at /" in fails(command, "-", given=b"{}")
     assert "No such file" in fails(command, tmp_path / "absent.json")
 
 
@@ -339,3 +341,12 @@ def test_each_status_of_the_program_has_a_sentence(script, sentence, tmp_path, m
 def test_a_program_that_is_not_there_gets_a_sentence(tmp_path, monkeypatch):
     monkeypatch.setenv("BWE", str(tmp_path / "absent"))
     assert "no program that can be run" in fails("explain", SHARED_LINK)
+
+
+def test_a_map_keeps_its_sites_apart_and_goes_to_the_right():
+    ends = [("a", "b"), ("b", "c"), ("c", "d"), ("d", "a"), ("a", "c"), ("e", "f")]
+    spots = positions(list("abcdefg"), ends)
+    assert sorted(spots) == list("abcdefg")
+    places = list(spots.values())
+    assert min(math.dist(p, q) for at, p in enumerate(places) for q in places[:at]) > 0.4
+    assert spots["e"][0] < spots["f"][0]
