@@ -152,7 +152,7 @@ def parse(data, path="-"):
         is_sound = False
     if not is_sound:
         fault = first_fault(raw)
-        raise ToolError(f"{path}: {fault.sentence} (bwe: {fault.refusal}); `bwe-tools lint` says where")
+        raise ToolError(f"{path} is no document: {fault.sentence} (bwe: {fault.refusal}); `bwe-tools lint` says where")
     return document
 
 
