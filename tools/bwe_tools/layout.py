@@ -96,7 +96,9 @@ def _mirrored(spots: Spots, ends: list[tuple[str, str]]) -> Spots:
 
 def _link_length(points: numpy.ndarray, edges: list[tuple[int, int]]) -> float:
     """The length of a link in the middle of all."""
-    return float(numpy.median([math.dist(points[one], points[other]) for one, other in edges])) or 1.0
+    return (
+        float(numpy.median([math.dist(points[one], points[other]) for one, other in edges])) or 1.0
+    )
 
 
 def _turned(points: numpy.ndarray) -> numpy.ndarray:
@@ -109,7 +111,7 @@ def _turned(points: numpy.ndarray) -> numpy.ndarray:
 
 
 def _spread(points: numpy.ndarray, rounds: int = 60, apart: float = 0.62) -> numpy.ndarray:
-    """Crowded points get room, by their rank along each axis, and none stays too close to another."""
+    """Crowded points get room, by their rank along each axis, and none stays close to another."""
     count = len(points)
     if count > 8:
         ranks = points.argsort(axis=0, kind="stable").argsort(axis=0, kind="stable") / (count - 1)
@@ -120,5 +122,9 @@ def _spread(points: numpy.ndarray, rounds: int = 60, apart: float = 0.62) -> num
         distances = numpy.sqrt((steps**2).sum(axis=2))
         numpy.fill_diagonal(distances, apart)
         push = numpy.clip(apart - distances, 0, None) / 2
-        points = points + (steps / numpy.maximum(distances, 1e-6)[:, :, None] * push[:, :, None]).sum(axis=1) / 2
+        points = (
+            points
+            + (steps / numpy.maximum(distances, 1e-6)[:, :, None] * push[:, :, None]).sum(axis=1)
+            / 2
+        )
     return points
