@@ -307,6 +307,15 @@ def test_a_picture_is_svg_with_all_links(path):
     assert sorted(filter(None, names)) == sorted(link.name for link in view(path).links)
 
 
+@pytest.mark.parametrize("path", DOCUMENTS, ids=lambda path: path.stem)
+def test_the_picture_of_an_example_is_of_its_table(path):
+    kept = path.with_suffix(".svg").read_text()
+    drawn = run("page", path, "--picture").out
+    titles, labels = r"<title>(.*?)</title>", r'<text class="load [^>]*>(.*?)<'
+    for part in (titles, labels):
+        assert sorted(re.findall(part, kept)) == sorted(re.findall(part, drawn))
+
+
 def test_a_picture_is_the_same_each_time():
     assert run("page", MAINTENANCE, "--picture").out == run("page", MAINTENANCE, "--picture").out
 
