@@ -20,7 +20,7 @@ ghost use Rattle.link_solver.specs.Front.{IsFront, wan_in, closings_in};
 
 use bwe_specs::OutOfMemory;
 pub use bwe_specs::{Cause, Closing, Verdict};
-use link_solver::{Due, Front, first_dues, next_closing};
+use link_solver::{Due, Front, GroupsByLink, first_dues, next_closing};
 use mpfa_fill::GroupValues;
 use path_groups::PathPlan;
 use std::alloc::Global;
@@ -47,7 +47,8 @@ pub fn check<V: GroupValues>(
         ≡ reverse (filling (wan_of (V.meaning values.now) plan.now topology.now.capacities)).closings)) }
 {
     let top = values.top();
-    let mut front = Front::open(alloc, values, topology, plan)?;
+    let by_link = GroupsByLink::of(alloc, topology, plan)?;
+    let mut front = Front::open(alloc, values, topology, plan, &by_link)?;
     let mut dues = first_dues(alloc, &front, top)?;
     Ok(verdict_on(alloc, &mut front, &mut dues, top, closings)?)
 }
