@@ -81,15 +81,16 @@ class Namer:
     """Gives texts names of the format, one to one, and keeps the map of names to texts."""
 
     def __init__(self):
-        self.texts = {}
+        self.texts, self.numbers = {}, {}
 
     def name(self, text: str, original: str | None = None) -> str:
         """A name that no other text has: the text itself where it is free and a name."""
         plain = text if hints.NAME.match(text) else hints.plain_name(text)
-        name, number = plain, 1
+        name, number = plain, self.numbers.get(plain, 1)
         while name in self.texts:
             number += 1
             name = plain[: MOST_NAME - 1 - len(str(number))] + f"-{number}"
+        self.numbers[plain] = number
         self.texts[name] = original if original is not None else text
         return name
 

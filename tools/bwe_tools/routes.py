@@ -29,8 +29,8 @@ class Routes:
         """
         ends = ("site", source), ("site", target)
         try:
-            ways = networkx.shortest_simple_paths(self.graph, *ends, self.length)
-            found = [way for way in islice(map(link_names, ways), MOST_LOOKS) if len(way) <= MOST_LINKS][:most]
+            ways = map(link_names, networkx.shortest_simple_paths(self.graph, *ends, self.length))
+            found = list(islice((way for way in islice(ways, MOST_LOOKS) if len(way) <= MOST_LINKS), most))
         except (networkx.NetworkXNoPath, networkx.NodeNotFound):
             return []
         if most == 1 or not common_links(found):

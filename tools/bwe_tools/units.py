@@ -7,8 +7,7 @@ from decimal import Decimal, ROUND_HALF_UP
 
 MOST = 1_000_000_000_000
 RATE = re.compile(
-    r"\s*(\d{1,20}(?:\.\d{1,9})?(?:[eE]\+?\d{1,2})?)\s*([kKmMgGtT]?)\s*(b|bps|b/s|bit|bits|bit/s|bits/s)?\s*\Z",
-    re.IGNORECASE,
+    r"\s*(\d{1,20}(?:\.\d{1,9})?(?:[eE]\+?\d{1,2})?)\s*([kKmMgGtT]?)\s*(b|[bB]ps|b/s|[bB]its?(?:/s)?)?\s*\Z", re.ASCII
 )
 SIZES = {"": Decimal("0.001"), "k": Decimal(1), "m": Decimal(1000), "g": Decimal(10**6), "t": Decimal(10**9)}
 

@@ -52,7 +52,7 @@ class Reader:
             found = Decimal(text)
         except InvalidOperation:
             found = Decimal(-1)
-        if not 0 <= found < Decimal(10) ** 18:
+        if not (found.is_finite() and 0 <= found < Decimal(10) ** 18):
             raise ToolError(f"{self.path}: {where}: \"{text}\" is no number from 0 on")
         return found
 
