@@ -7,7 +7,7 @@ ghost use Rattle.bwe_specs.specs.Values.{AreValues};
 ghost use Rattle.policy_tree.specs.Trees.{demand_in, value_in, IsTree};
 ghost use Rattle.mpfa_fill.specs.Filling.{IsFilling};
 ghost use Rattle.allocator.specs.Allocators.{IsFitted, table_by};
-ghost use Rattle.allocator.specs.Laws.{IsConserved, IsFeasible, IsHeldBack};
+ghost use Rattle.allocator.specs.Laws.{IsNoMoreThanAsked, IsConserved, IsShared, IsFeasible, IsHeldBack, IsUnwasted};
 ghost use Rattle.allocator.specs.Tables.{wan_by};
 
 use crate::line::group_lines;
@@ -24,7 +24,7 @@ use std::alloc::Global;
 use task_limits::all_limits;
 
 /// The table under the demands and capacities that now stand: the allocation ("Allocation", docs/DEFINITIONS.md), for
-/// which three laws hold.
+/// which six laws hold ("Laws" and "Laws of a table" there).
 pub fn make_table(
     alloc: Global,
     reported: &Reported,
@@ -41,6 +41,16 @@ pub fn make_table(
 
     // Conservation law: the limits of a group's tasks add up to its amount
     ensures conserved { IfOk result (IsConserved reported.now.tree) }
+
+    // No more than asked: no limit is above its task's demand, nor above its weight times its function at the top
+    ensures asked { IfOk result (IsNoMoreThanAsked reported.now.tree) }
+
+    // The same share: a group has what its function gives at its stop share, and groups that grow over a link
+    // when it closes stand at one share
+    ensures shared { IfOk result (IsShared (wan_by reported.now plan.now)) }
+
+    // No waste: a closed link has less free than those who grew over it would have put there with one share more
+    ensures unwasted { IfOk result (IsUnwasted (wan_by reported.now plan.now)) }
 {
     let filling = filling_of(alloc, reported, plan)?;
     table_of_filling(alloc, reported, plan, filling)

@@ -73,7 +73,7 @@ none-added wan never closings share link group last below not =
 contained : (later : List Closing) (closing : Closing) (earlier : List Closing) → Contains (later ++ closing ∷ earlier) closing
 contained later closing earlier = (length later, omega (arith, length-append later (closing ∷ earlier)), get_or_at later closing earlier closing (length later) refl)
 
-right : (wan : Wan) → NeverFalls wan → (later : List Closing) (closing : Closing) (earlier : List Closing) → (filling wan).closings ≡ later ++ closing ∷ earlier → AreRight wan (closing ∷ earlier)
+pub right : (wan : Wan) → NeverFalls wan → (later : List Closing) (closing : Closing) (earlier : List Closing) → (filling wan).closings ≡ later ++ closing ∷ earlier → AreRight wan (closing ∷ earlier)
 right wan never later closing earlier stands = right-upto wan later closing earlier (subst (AreRight wan) stands (filling-right wan never).0)
 
 -- the load of a closed link is what it was at its closing
