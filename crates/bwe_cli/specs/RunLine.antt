@@ -4,7 +4,7 @@ use Rattle.bwe_specs.specs.Allocation.{Table}
 use Rattle.command_line.specs.declared.CommandLine as lines
 use Rattle.command_line.specs.declared.CommandLine.TheVariants as commands
 use Rattle.command_line.specs.Lines.{Text, command_line_of}
-use Rattle.crew_actors.specs.declared.log.CrewLog.{CrewLog}
+use Rattle.crew_log.specs.declared.log.CrewLog.{CrewLog}
 use Rattle.one_run.specs.Endings.{Reply}
 use Rattle.plan_doc.specs.Document.{Accepted, document}
 use Rattle.plan_doc.specs.Names.{NameLists}

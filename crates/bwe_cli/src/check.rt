@@ -31,7 +31,7 @@ pub(crate) fn check(alloc: Global, document: Document) -> Result<Answer, OutOfMe
         names,
         ..
     } = document;
-    let allocator = Allocator::new(alloc, tree, topology, plan);
+    let allocator = Allocator::new(tree, topology, plan);
     let allocator = after_script(alloc, allocator, &script)?;
     let (values, plan) = (allocator.values(), allocator.plan());
     let verdict = bottleneck_cert::check(alloc, &values, allocator.topology(), plan, &closings)?;
