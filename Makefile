@@ -16,11 +16,13 @@ ifeq ($(MAKELEVEL),0)
 MAKEFLAGS += --jobs=$(shell nproc) --no-print-directory --no-builtin-rules
 endif
 
-# The crates, and what each stands on: the lines of crates.txt.
-crates   := $(shell sed -nE 's/^([a-z0-9_]+)[^:]*:.*/\1/p' crates.txt)
+# The crates, and what each stands on: the lines of crates.txt, here as NAME:DEP,DEP without blanks.
+comma    := ,
+lines    := $(shell sed -nE 's/^([a-z0-9_]+)[^:]*: */\1:/p' crates.txt | tr -s ' ' ,)
+crates   := $(foreach it,$(lines),$(firstword $(subst :, ,$(it))))
 programs := $(patsubst crates/%/src/main.rt,%,$(wildcard $(crates:%=crates/%/src/main.rt)))
 files    := $(shell find $(crates:%=crates/%) -name out -prune -o -print)
-below     = $(filter $(crates),$(shell sed -nE 's/^$1( [^:]*)?://p' crates.txt))
+below     = $(filter $(crates),$(subst $(comma), ,$(patsubst $1:%,%,$(filter $1:%,$(lines)))))
 sources   = $(filter crates/$1/src% crates/$1/specs% crates/$1/proofs%,$(files))
 built     = $(if $(filter $1,$(programs)),crates/$1/out/$1,crates/$1/out/rlib/stamp)
 
@@ -34,12 +36,15 @@ $(call built,$1): crates.txt $(call sources,$1) $(foreach it,$(call below,$1),$(
 	@tools/prove $1
 endef
 $(foreach it,$(crates),$(eval $(call target,$(it))))
-# Where a program is newer than all sources, no library is built for its sake.
+# A program that is newer than all sources needs no library; an interrupt leaves what is built.
 .SECONDARY:
+.PRECIOUS: $(foreach it,$(crates),$(call built,$(it)))
 
 check:
 	rt ci
+	@# The programs are now built of these sources by the gate; libraries of older ones go.
 	@chmod +x $(foreach it,$(programs),$(call built,$(it)))
+	@$(MAKE) -n | sed -n 's|^tools/prove \(.*\)|crates/\1/out/rlib/stamp|p' | xargs rm -f
 	@tools/packages && $(MAKE) tools || [ $$? = 3 ]
 	@tools/cases.py
 

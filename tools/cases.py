@@ -1,16 +1,18 @@
 #!/usr/bin/python3
-"""tools/cases.py [PROGRAM [CASE..]]: runs whole cases on a built program, side by side on all processors.
+"""tools/cases.py [PROGRAM [CASE..]]: runs whole cases on a built program, side by side on all
+processors.
 
-PROGRAM is crates/bwe/out/bwe where it is left out. A CASE is a folder of cases/, as solve/drain (cases/README.md).
-Every byte of standard output and the status have to be those of the case, and nothing may come on standard error.
-Where no case is named, these follow:
+PROGRAM is crates/bwe/out/bwe where it is left out. A CASE is a folder of cases/, as solve/drain
+(cases/README.md). Every byte of standard output and the status have to be those of the case, and
+nothing may come on standard error. Where no case is named, these follow:
 
 - examples: each text of examples/ is what the program writes;
 - documents: made documents get the answers of a second implementation (tools/compare.py);
 - runs: made documents are run on threads, and each printed run is checked (tools/runs.py);
 - summaries: `bulk` ends with the total of the table that `solve` writes of the made document.
 
-A line for each kind says how many passed, and the last line how many in all; the status is 0 where all did.
+A line for each kind says how many passed, and the last line how many in all; the status is 0
+where all did.
 """
 
 import os
@@ -38,13 +40,17 @@ def stream(folder, name):
     """A file of the case, or what its script NAME.py writes."""
     script = folder / f"{name}.py"
     if script.exists():
-        return subprocess.run(["/usr/bin/python3", script], stdout=subprocess.PIPE, check=True).stdout
+        return subprocess.run(
+            ["/usr/bin/python3", script], stdout=subprocess.PIPE, check=True
+        ).stdout
     return (folder / name).read_bytes()
 
 
 def fault_of_case(program, folder):
     words = (folder / "args").read_text().splitlines()
-    ran = subprocess.run([program, *words], input=stream(folder, "stdin"), capture_output=True, timeout=SECONDS)
+    ran = subprocess.run(
+        [program, *words], input=stream(folder, "stdin"), capture_output=True, timeout=SECONDS
+    )
     status, wanted = int((folder / "status").read_text()), stream(folder, "stdout")
     if ran.returncode != status:
         return f"status {ran.returncode}, wanted {status}"
@@ -58,7 +64,9 @@ def first_difference(found, wanted):
     if found == wanted:
         return None
     pairs = zip([*found.split(b"\n"), None], [*wanted.split(b"\n"), None])
-    number, (one, other) = next((number, pair) for number, pair in enumerate(pairs) if pair[0] != pair[1])
+    number, (one, other) = next(
+        (number, pair) for number, pair in enumerate(pairs) if pair[0] != pair[1]
+    )
     return f"line {number} is {one and one[:200]!r}, wanted {other and other[:200]!r}"
 
 
@@ -72,7 +80,9 @@ def examples():
                 words = LINES_OF_PARTS[part.suffix]
                 both = b"%d\n%s%s" % (len(given), given, part.read_bytes())
                 yield EXAMPLES / f"{document.stem}-{words[0]}.txt", words, both
-    yield EXAMPLES / "maintenance-levels.txt", ["levels", "200"], (EXAMPLES / "maintenance.json").read_bytes()
+    yield EXAMPLES / "maintenance-levels.txt", ["levels", "200"], (
+        EXAMPLES / "maintenance.json"
+    ).read_bytes()
 
 
 def fault_of_example(program, example):
@@ -83,17 +93,23 @@ def fault_of_example(program, example):
 
 def fault_of_summary(program, size):
     """What is wrong with the last line of a made document's summary, or None."""
-    made, summary, again = (written(program, [word, *size], b"") for word in ("make", "bulk", "bulk"))
+    made, summary, again = (
+        written(program, [word, *size], b"") for word in ("make", "bulk", "bulk")
+    )
     table = written(program, ["solve"], made)
-    return first_difference(summary, again) or first_difference(summary.splitlines()[-1], table.splitlines()[-1])
+    return first_difference(summary, again) or first_difference(
+        summary.splitlines()[-1], table.splitlines()[-1]
+    )
 
 
 def written(program, words, given):
-    return subprocess.run([program, *words], input=given, stdout=subprocess.PIPE, check=True, timeout=SECONDS).stdout
+    return subprocess.run(
+        [program, *words], input=given, stdout=subprocess.PIPE, check=True, timeout=SECONDS
+    ).stdout
 
 
 def told(kind, results):
-    """Prints the faults of a kind's results, by name, and how many passed and failed; answers these two numbers."""
+    """Prints a kind's faults, and how many passed and failed; answers these numbers."""
     faults = [(name, fault) for name, fault in results if fault is not None]
     for name, fault in faults:
         print(f"{name}: {fault}")
@@ -108,22 +124,39 @@ def side_by_side(fault_of, program, items, name_of):
 
 
 def main(words):
+    if words[:1] == ["--help"]:
+        print(__doc__)
+        return 0
     built = Path(words[0]) if words else TOP / "crates/bwe/out/bwe"
     if not built.is_file():
         sys.exit(f"cases: no program at {built}")
     named = [CASES / name for name in words[1:]]
     folders = named or sorted(args.parent for args in CASES.glob("*/*/args"))
     with tempfile.TemporaryDirectory() as room:
-        # A copy, which a later build does not change, and which runs also where the program has lost its mode.
+        # A copy, which no later build changes, and which runs where the program has lost its mode.
         program = shutil.copyfile(built, f"{room}/bwe")
         os.chmod(program, 0o755)
-        counts = [told("cases", side_by_side(fault_of_case, program, folders, lambda it: str(it.relative_to(CASES))))]
+        counts = [
+            told(
+                "cases",
+                side_by_side(
+                    fault_of_case, program, folders, lambda it: str(it.relative_to(CASES))
+                ),
+            )
+        ]
         if not named:
             texts = list(examples())
-            counts.append(told("examples", side_by_side(fault_of_example, program, texts, lambda it: it[0].name)))
+            counts.append(
+                told(
+                    "examples",
+                    side_by_side(fault_of_example, program, texts, lambda it: it[0].name),
+                )
+            )
             counts.append(told("documents", compare.results(program, DOCUMENTS)))
             counts.append(told("runs", runs.results(program, RUNS)))
-            counts.append(told("summaries", [(" ".join(SUMMED), fault_of_summary(program, SUMMED))]))
+            counts.append(
+                told("summaries", [(" ".join(SUMMED), fault_of_summary(program, SUMMED))])
+            )
     passed, failed = map(sum, zip(*counts))
     print(f"{passed} passed, {failed} failed")
     return 1 if failed else 0

@@ -1,12 +1,13 @@
 #!/usr/bin/python3
 """tools/compare.py [PROGRAM [COUNT [SEED]]]: compares lines with a second, plain implementation.
 
-Makes COUNT valid documents by chance (small shares, so that raising them one by one is quick), runs the program on each, and
-compares every byte with the table that this file computes from the rules of docs/DEFINITIONS.md as they are written there: one
-share after the other, and nothing searched by halves. The closings of that table have to be right for `check`, the groups'
-values for `levels` at a share by chance, at times above the top, the table of tiers by chance for `tiers`, and the world of regions
-after events by chance for `enforce`.
-The documents are compared side by side on all processors. The last line says how many agreed; the status is 0 where all did.
+Makes COUNT valid documents by chance (small shares, so that raising them one by one is quick),
+runs the program on each, and compares every byte with the table that this file computes from the
+rules of docs/DEFINITIONS.md as they are written there: one share after the other, and nothing
+searched by halves. The closings of that table have to be right for `check`, the groups' values
+for `levels` at a share by chance, at times above the top, the table of tiers by chance for
+`tiers`, and the world of regions after events by chance for `enforce`. The documents are compared
+side by side on all processors. The last line says how many agreed; the status is 0 where all did.
 """
 
 import json
@@ -25,6 +26,7 @@ SITES = ["a", "b", "c"]
 
 # ---- the rules
 
+
 def function_value(points, share):
     for (s0, a0), (s1, a1) in zip(points, points[1:]):
         if s0 <= share <= s1:
@@ -37,15 +39,22 @@ def children(node):
 
 
 def values_of(node, top, demands, function=None):
-    """The values at each share up to the top: of a task by the Task rule, where `function` is its job's, of a node by the Node rule."""
+    """The values at each share: of a task by the Task rule, of other nodes by the Node rule."""
     if "reporter" in node:
         weight, demand = node.get("weight", 1), demands[node["name"]]
         return [min(weight * function_value(function, share), demand) for share in range(top + 1)]
-    together = [sum(at_share) for at_share in zip(*(values_of(child, top, demands, node.get("task")) for child in children(node)))]
+    together = [
+        sum(at_share)
+        for at_share in zip(
+            *(values_of(child, top, demands, node.get("task")) for child in children(node))
+        )
+    ]
     if "function" not in node:
         return together
     own = [function_value(node["function"], share) for share in range(top + 1)]
-    return [together[max(inner for inner in range(top + 1) if together[inner] <= most)] for most in own]
+    return [
+        together[max(inner for inner in range(top + 1) if together[inner] <= most)] for most in own
+    ]
 
 
 def distribute(node, amount, top, demands, limits):
@@ -55,7 +64,9 @@ def distribute(node, amount, top, demands, limits):
         return
     below = children(node)
     values = [values_of(child, top, demands, node.get("task")) for child in below]
-    common = max(share for share in range(top + 1) if sum(of_child[share] for of_child in values) <= amount)
+    common = max(
+        share for share in range(top + 1) if sum(of_child[share] for of_child in values) <= amount
+    )
     given = [of_child[common] for of_child in values]
     rest = amount - sum(given)
     if common < top:
@@ -82,7 +93,13 @@ class Filling:
     def __init__(self, document):
         self.groups = document["groups"]
         self.top = document["top"]
-        self.demands = {task["name"]: 0 for group in self.groups for user in group["users"] for job in user["jobs"] for task in job["tasks"]}
+        self.demands = {
+            task["name"]: 0
+            for group in self.groups
+            for user in group["users"]
+            for job in user["jobs"]
+            for task in job["tasks"]
+        }
         self.capacities = {link["name"]: link["capacity"] for link in document["links"]}
         for report in document["script"]:
             if "link" in report:
@@ -96,7 +113,10 @@ class Filling:
 
     def place(self, group):
         closed = [link for link, _ in self.closings]
-        return next((at for at, path_group in enumerate(group["paths"]) if not uses(path_group, closed)), None)
+        return next(
+            (at for at, path_group in enumerate(group["paths"]) if not uses(path_group, closed)),
+            None,
+        )
 
     def load(self, link, amounts):
         return sum(
@@ -112,8 +132,17 @@ class Filling:
             for number, group in enumerate(self.groups):
                 place = self.place(group)
                 if place is not None:
-                    tried[number][place] += self.values[number][share + 1] - self.values[number][share]
-            over = next((link for link, capacity in self.capacities.items() if self.load(link, tried) > capacity), None)
+                    tried[number][place] += (
+                        self.values[number][share + 1] - self.values[number][share]
+                    )
+            over = next(
+                (
+                    link
+                    for link, capacity in self.capacities.items()
+                    if self.load(link, tried) > capacity
+                ),
+                None,
+            )
             if over is None:
                 self.amounts = tried
                 share += 1
@@ -127,7 +156,9 @@ class Filling:
     def levels(self, share):
         share = min(share, self.top)
         values = [of_group[share] for of_group in self.values]
-        lines = [f"levels {share}"] + [f"level {group['name']} {value}" for group, value in zip(self.groups, values)]
+        lines = [f"levels {share}"] + [
+            f"level {group['name']} {value}" for group, value in zip(self.groups, values)
+        ]
         return "".join(line + "\n" for line in lines + [f"total {sum(values)}"])
 
     def limits(self):
@@ -140,20 +171,26 @@ class Filling:
         return [f"closing {link} at {share}" for link, share in self.closings]
 
     def lines_behind(self, closings):
-        """What a table has after its closings; `closings` has for each group those that may close its path groups."""
+        """What a table has after its closings; `closings` has by group those that may close it."""
         lines = [f"link {link} load {self.load(link, self.amounts)}" for link in self.capacities]
         limits = self.limits()
         for group, parts, stop, of_group in zip(self.groups, self.amounts, self.stops, closings):
             lines.append(f"group {group['name']} share {stop} amount {sum(parts)}")
             for at, (path_group, amount) in enumerate(zip(group["paths"], parts)):
                 by = next((link for link, _ in of_group if uses(path_group, [link])), None)
-                lines.append(f"place {at} amount {amount} " + ("open" if by is None else f"closed by {by}"))
+                lines.append(
+                    f"place {at} amount {amount} " + ("open" if by is None else f"closed by {by}")
+                )
         lines += [f"task {task} limit {limits[task]}" for task in self.demands]
         return lines + [f"total {sum(map(sum, self.amounts))}"]
 
     def table(self, reports):
         self.fill()
-        lines = [f"table {reports}"] + self.closing_lines() + self.lines_behind([self.closings] * len(self.groups))
+        lines = (
+            [f"table {reports}"]
+            + self.closing_lines()
+            + self.lines_behind([self.closings] * len(self.groups))
+        )
         return "".join(line + "\n" for line in lines)
 
 
@@ -164,23 +201,34 @@ def table_of_tiers(document, tiers):
     lines = [f"tiers {len(document['script'])}"]
     for tier in range(max(tiers, default=-1) + 1):
         filling = Filling(document)
-        filling.values = [values if own == tier else [0] * len(values) for own, values in zip(tiers, filling.values)]
-        filling.capacities = {link: capacity - whole.load(link, whole.amounts) for link, capacity in whole.capacities.items()}
+        filling.values = [
+            values if own == tier else [0] * len(values)
+            for own, values in zip(tiers, filling.values)
+        ]
+        filling.capacities = {
+            link: capacity - whole.load(link, whole.amounts)
+            for link, capacity in whole.capacities.items()
+        }
         filling.fill()
         lines += [f"tier {tier}"] + filling.closing_lines()
         for number in (number for number, own in enumerate(tiers) if own == tier):
-            whole.amounts[number], whole.stops[number] = filling.amounts[number], filling.stops[number]
+            whole.amounts[number], whole.stops[number] = (
+                filling.amounts[number],
+                filling.stops[number],
+            )
             closings[number] = filling.closings
     return "".join(line + "\n" for line in lines + whole.lines_behind(closings))
 
 
 class World:
-    """A centre that posts tables of the first reports of the script, and a region for each reporter."""
+    """A centre that posts tables of the script's first reports, and a region for each reporter."""
 
     def __init__(self, document):
         self.document = document
         self.posted = 0
-        self.floors, self.acked, self.in_force = ([start] * len(document["reporters"]) for start in (0, 0, None))
+        self.floors, self.acked, self.in_force = (
+            [start] * len(document["reporters"]) for start in (0, 0, None)
+        )
         self.to_regions, self.to_centre = [], []
 
     def step(self, word, number):
@@ -212,15 +260,29 @@ class World:
         return f"restarted floor {self.floors[region]}"
 
     def limit_lines(self, region):
-        filling = Filling(dict(self.document, script=self.document["script"][: self.in_force[region]]))
+        filling = Filling(
+            dict(self.document, script=self.document["script"][: self.in_force[region]])
+        )
         filling.fill()
         limits, reporter = filling.limits(), self.document["reporters"][region]
-        owners = {task["name"]: task["reporter"] for group in self.document["groups"] for user in group["users"] for job in user["jobs"] for task in job["tasks"]}
-        return [f"task {task} limit {limits[task]}" for task in filling.demands if owners[task] == reporter]
+        owners = {
+            task["name"]: task["reporter"]
+            for group in self.document["groups"]
+            for user in group["users"]
+            for job in user["jobs"]
+            for task in job["tasks"]
+        }
+        return [
+            f"task {task} limit {limits[task]}"
+            for task in filling.demands
+            if owners[task] == reporter
+        ]
 
     def lines(self):
         lines = []
-        for region, (floor, acked, prefix) in enumerate(zip(self.floors, self.acked, self.in_force)):
+        for region, (floor, acked, prefix) in enumerate(
+            zip(self.floors, self.acked, self.in_force)
+        ):
             shown = "none" if prefix is None else prefix
             lines.append(f"region {region} floor {floor} acked {acked} in force {shown}")
             lines += [] if prefix is None else self.limit_lines(region)
@@ -228,7 +290,7 @@ class World:
 
 
 def make_events(chance, world):
-    """Events by chance, each of a region and a message that are there, with what the world answers."""
+    """Events by chance, of regions and messages that are there, with what the world answers."""
     events, answers = [], []
     for _ in range(chance.randint(0, 40)):
         choices = {
@@ -246,6 +308,7 @@ def make_events(chance, world):
 
 
 # ---- documents by chance
+
 
 def make_function(chance, top, most):
     shares = sorted(chance.sample(range(1, top + 1), chance.randint(0, min(4, top))))
@@ -269,7 +332,10 @@ def make_path(chance, links, source, target):
 
 
 def make_path_groups(chance, links, source, target):
-    found = [[make_path(chance, links, source, target) for _ in range(chance.randint(1, 3))] for _ in range(chance.randint(1, 3))]
+    found = [
+        [make_path(chance, links, source, target) for _ in range(chance.randint(1, 3))]
+        for _ in range(chance.randint(1, 3))
+    ]
     kept = [[path for path in path_group if path] for path_group in found]
     return [path_group for path_group in kept if path_group]
 
@@ -285,37 +351,78 @@ def make_document(chance):
     top = chance.randint(1, 40)
     reporters = [f"r{number}" for number in range(chance.randint(1, 3))]
     pairs = [(source, target) for source in SITES for target in SITES if source != target]
-    links = [{"name": f"l{number}", "from": source, "to": target, "capacity": chance.randint(0, 250)} for number, (source, target) in enumerate(chance.choices(pairs, k=chance.randint(3, 8)))]
-    owned = [dict(link, owner=chance.choice(reporters)) if chance.random() < 0.5 else link for link in links]
+    links = [
+        {"name": f"l{number}", "from": source, "to": target, "capacity": chance.randint(0, 250)}
+        for number, (source, target) in enumerate(chance.choices(pairs, k=chance.randint(3, 8)))
+    ]
+    owned = [
+        dict(link, owner=chance.choice(reporters)) if chance.random() < 0.5 else link
+        for link in links
+    ]
     groups, script, task_count = [], [], 0
     for number in range(chance.randint(1, 7)):
         source, target = chance.choice(pairs)
         paths = make_path_groups(chance, links, source, target)
         if not paths:
             continue
-        group = make_node(chance, f"g{number}", top, 300, **{"from": source, "to": target, "paths": paths, "users": []})
+        group = make_node(
+            chance,
+            f"g{number}",
+            top,
+            300,
+            **{"from": source, "to": target, "paths": paths, "users": []},
+        )
         for user_number in range(chance.randint(1, 2)):
             user = make_node(chance, f"u{user_number}", top, 300, jobs=[])
             for job_number in range(chance.randint(1, 2)):
-                job = make_node(chance, f"j{job_number}", top, 200, task=make_function(chance, top, 90), tasks=[])
+                job = make_node(
+                    chance,
+                    f"j{job_number}",
+                    top,
+                    200,
+                    task=make_function(chance, top, 90),
+                    tasks=[],
+                )
                 for _ in range(chance.randint(1, 3)):
                     task = {"name": f"t{task_count}", "reporter": chance.choice(reporters)}
                     if chance.random() < 0.5:
                         task["weight"] = chance.randint(1, 4)
                     job["tasks"].append(task)
-                    script.append({"reporter": task["reporter"], "task": task["name"], "demand": chance.randint(0, 150)})
+                    script.append(
+                        {
+                            "reporter": task["reporter"],
+                            "task": task["name"],
+                            "demand": chance.randint(0, 150),
+                        }
+                    )
                     task_count += 1
                 user["jobs"].append(job)
             group["users"].append(user)
         groups.append(group)
-    script += [{"reporter": link["owner"], "link": link["name"], "capacity": chance.randint(0, 300)} for link in owned if "owner" in link and chance.random() < 0.5]
-    script += [dict(report, demand=chance.randint(0, 150)) for report in script if "task" in report and chance.random() < 0.2]
+    script += [
+        {"reporter": link["owner"], "link": link["name"], "capacity": chance.randint(0, 300)}
+        for link in owned
+        if "owner" in link and chance.random() < 0.5
+    ]
+    script += [
+        dict(report, demand=chance.randint(0, 150))
+        for report in script
+        if "task" in report and chance.random() < 0.2
+    ]
     chance.shuffle(script)
     kept = script[: chance.randint(0, len(script))] if chance.random() < 0.2 else script
-    return {"version": 3, "top": top, "links": owned, "groups": groups, "reporters": reporters, "script": kept}
+    return {
+        "version": 3,
+        "top": top,
+        "links": owned,
+        "groups": groups,
+        "reporters": reporters,
+        "script": kept,
+    }
 
 
 # ---- the comparison
+
 
 def answer_to(program, words, given):
     ran = subprocess.run([program, *words], input=given.encode(), capture_output=True, timeout=60)
@@ -347,7 +454,9 @@ def fault_of(program, document, chance):
     if found != (0, filling.levels(share), ""):
         return f"levels {share}: {found}\nwanted:\n{filling.levels(share)}"
     tiers = [chance.randint(0, 2) for _ in document["groups"]]
-    found, table = answer_to_parts(program, "tiers", document, "".join(map(str, tiers)) + "\n"), table_of_tiers(document, tiers)
+    found, table = answer_to_parts(
+        program, "tiers", document, "".join(map(str, tiers)) + "\n"
+    ), table_of_tiers(document, tiers)
     if found != (0, table, ""):
         return f"tiers {tiers}: {found}\nwanted:\n{table}"
     world = World(document)
@@ -373,9 +482,16 @@ def results(program, count, seed=1):
 
 
 def main(words):
+    if words[:1] == ["--help"]:
+        print(__doc__)
+        return 0
     program = words[0] if words else os.path.join(HERE, "..", "crates", "bwe", "out", "bwe")
     count = int(words[1]) if len(words) > 1 else 200
-    faults = [(name, fault) for name, fault in results(program, count, int(words[2]) if len(words) > 2 else 1) if fault]
+    faults = [
+        (name, fault)
+        for name, fault in results(program, count, int(words[2]) if len(words) > 2 else 1)
+        if fault
+    ]
     for name, fault in faults:
         print(f"{name}: {fault}")
     print(f"compared: {count - len(faults)} passed, {len(faults)} failed")

@@ -162,10 +162,17 @@ def draw(points: list[Point], path: str) -> None:
                 for point in points
                 if (point.program, point.curve) == (program, curve)
             )
-            style = {"color": COLOURS[at % 5], "marker": MARKS[at % 5], "markersize": 4, "linewidth": 1.4}
+            style = {
+                "color": COLOURS[at % 5],
+                "marker": MARKS[at % 5],
+                "markersize": 4,
+                "linewidth": 1.4,
+            }
             field.plot(*zip(*mine), label=program, **style)
         field.set_title(title, fontsize=10, loc="left")
-        field.set_xlabel("closings" if curve == "closings" else "groups" if curve == "groups" else "tasks")
+        field.set_xlabel(
+            "closings" if curve == "closings" else "groups" if curve == "groups" else "tasks"
+        )
         field.set_ylabel("seconds")
         field.set_xlim(left=0)
         field.set_ylim(bottom=0)
@@ -177,13 +184,19 @@ def draw(points: list[Point], path: str) -> None:
 
 
 @click.command(help=__doc__.replace("\n\n    tools", "\n\n\b\n    tools"))
-@click.option("--program", "chosen", multiple=True, metavar="NAME=PATH", help="A program to measure.")
+@click.option(
+    "--program", "chosen", multiple=True, metavar="NAME=PATH", help="A program to measure."
+)
 @click.option("-o", "--output", required=True, help="The SVG to write.")
 @click.option("--data", help="A file for the measured times, as JSON.")
 @click.option("--runs", type=click.IntRange(1), default=5, help="Runs of which the least counts.")
 @click.option("--patience", default=6.0, help="Seconds after which a curve ends.")
-def main(chosen: tuple[str, ...], output: str, data: str | None, runs: int, patience: float) -> None:
-    programs = dict(word.split("=", 1) if "=" in word else (Path(word).name, word) for word in chosen)
+def main(
+    chosen: tuple[str, ...], output: str, data: str | None, runs: int, patience: float
+) -> None:
+    programs = dict(
+        word.split("=", 1) if "=" in word else (Path(word).name, word) for word in chosen
+    )
     try:
         points = measure(programs or {"bwe": str(find_program())}, runs, patience)
         if data:

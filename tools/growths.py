@@ -1,10 +1,11 @@
 #!/usr/bin/python3
 """tools/growths.py [PROGRAM]: refuses each allocation in turn, and looks at how the program ends.
 
-`solve` and `run --readers 1 --reads 0` on examples/shared-link.json, and `tiers` and `enforce` with a second part behind it,
-are run once for each allocation, which alone is refused (by a small library that stands before the C library's; `cc` builds
-it), side by side on all processors. Each run has to end with status 6 and nothing written, or with status 0 and the right
-text. The last lines say how many runs ended how; the status is 0 where all were right.
+`solve` and `run --readers 1 --reads 0` on examples/shared-link.json, and `tiers` and `enforce`
+with a second part behind it, are run once for each allocation, which alone is refused (by a small
+library that stands before the C library's; `cc` builds it), side by side on all processors. Each
+run has to end with status 6 and nothing written, or with status 0 and the right text. The last
+lines say how many runs ended how; the status is 0 where all were right.
 """
 
 import collections
@@ -57,12 +58,18 @@ def build(folder):
 
 
 def run(program, words, document, **more):
-    ran = subprocess.run([program, *words], input=document, capture_output=True, timeout=60, env=dict(os.environ, **more))
+    ran = subprocess.run(
+        [program, *words],
+        input=document,
+        capture_output=True,
+        timeout=60,
+        env=dict(os.environ, **more),
+    )
     return ran.returncode, ran.stdout
 
 
 def ends(program, words, document, library):
-    """How the runs ended: those that were refused, those that were right, and the calls of the others."""
+    """How the runs ended, by kind, and the calls of those that were neither refused nor right."""
     right = run(program, words, document)
     end_of = lambda call: run(program, words, document, LD_PRELOAD=library, REFUSED_CALL=str(call))
     found, others, first, seen = collections.Counter(), [], 1, set()
@@ -85,11 +92,19 @@ def lines_on(document):
         (["solve"], document),
         (["run", "--readers", "1", "--reads", "0"], document),
         (["tiers"], with_part(b"01\n")),
-        (["enforce"], with_part(b"post 1\nsend 0\npost 2\ndeliver 0\nreply 0\nrestart 0\nsend 0\ndeliver 1\n")),
+        (
+            ["enforce"],
+            with_part(
+                b"post 1\nsend 0\npost 2\ndeliver 0\nreply 0\nrestart 0\nsend 0\ndeliver 1\n"
+            ),
+        ),
     ]
 
 
 def main(words):
+    if words[:1] == ["--help"]:
+        print(__doc__)
+        return 0
     program = words[0] if words else os.path.join(HERE, "..", "crates", "bwe", "out", "bwe")
     with open(os.path.join(HERE, "..", "examples", "shared-link.json"), "rb") as file:
         document = file.read()
@@ -99,8 +114,11 @@ def main(words):
         for line, given in lines_on(document):
             found, others = ends(program, line, given, library)
             faults += len(others)
-            print(f"growths: {' '.join(line)}: {found['refused']} ended with status 6, {found['right']} with the right "
-                  f"text, {len(others)} otherwise {others[:5] or ''}")
+            print(
+                f"growths: {' '.join(line)}: {found['refused']} ended with status 6, "
+                f"{found['right']} with the right "
+                f"text, {len(others)} otherwise {others[:5] or ''}"
+            )
     return 1 if faults else 0
 
 

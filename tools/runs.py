@@ -1,21 +1,28 @@
 #!/usr/bin/python3
-"""tools/runs.py [PROGRAM [RUNS [SEED]]]: makes documents, runs the built program's line `run` on them, and checks each text.
+"""tools/runs.py [PROGRAM [RUNS [SEED]]]: makes documents, runs the built program's line `run` on
+them, and checks each text.
 
-Each document has four reporters, which report demands of their tasks and capacities of their links. The readers are 64,
-and each makes 1,000 reads and one at the end. What is checked of a printed run:
+Each document has four reporters, which report demands of their tasks and capacities of their
+links. The readers are 64, and each makes 1,000 reads and one at the end. What is checked of a
+printed run:
 
-- the history has each reporter's reports once, in the script's order, and no other; what each reporter sent is right;
-- along each reader no prefix falls, no floor is above its prefix or below the prefix before, none is beyond the history;
+- the history has each reporter's reports once, in the script's order, and no other; what each
+  reporter sent is right;
+- along each reader no prefix falls, no floor is above its prefix or below the prefix before, none
+  is beyond the history;
 - no reader has seen a report beyond the history, and each ends with the whole of it;
-- each line's total is that of the table which `solve` writes for the first reports of the history, as many as its prefix;
-- that table's links carry what its path groups put on them, rounded up, and no more than their capacities after these
-  reports; its limits, amounts and total add up;
-- the table at the end is the one that `solve` writes for the document, and for the printed history;
-- `audit` of the document and the text says `legal`, and of the text with one digit changed it does not.
+- each line's total is that of the table which `solve` writes for the first reports of the
+  history, as many as its prefix;
+- that table's links carry what its path groups put on them, rounded up, and no more than their
+  capacities after these reports; its limits, amounts and total add up;
+- the table at the end is the one that `solve` writes for the document, and for the printed
+  history;
+- `audit` of the document and the text says `legal`, and of the text with one digit changed it
+  does not.
 
-Over all runs, some read has to lie strictly between the first and the last prefix: a reader has seen a table of a part of
-the history. The runs are made side by side on all processors. The last line says how much was seen. The status is 0 where
-all runs passed.
+Over all runs, some read has to lie strictly between the first and the last prefix: a reader has
+seen a table of a part of the history. The runs are made side by side on all processors. The last
+line says how much was seen. The status is 0 where all runs passed.
 """
 
 import json
@@ -80,7 +87,12 @@ def made_document(dice):
     for start in SITES:
         for end in SITES:
             for _ in range(dice.randint(1, 2) if start != end else 0):
-                link = {"name": f"l{len(links)}", "from": start, "to": end, "capacity": dice.randint(0, 900)}
+                link = {
+                    "name": f"l{len(links)}",
+                    "from": start,
+                    "to": end,
+                    "capacity": dice.randint(0, 900),
+                }
                 if dice.random() < 0.5:
                     link["owner"] = dice.choice(reporters)
                 links.append(link)
@@ -97,25 +109,45 @@ def made_document(dice):
             users.append({"name": f"u{user}", "jobs": jobs})
             if dice.random() < 0.3:
                 users[-1]["function"] = curve(dice, top)
-        groups.append({"name": f"g{number}", "from": start, "to": end,
-                       "paths": path_groups(dice, links, start, end), "users": users})
+        groups.append(
+            {
+                "name": f"g{number}",
+                "from": start,
+                "to": end,
+                "paths": path_groups(dice, links, start, end),
+                "users": users,
+            }
+        )
     owned = [link for link in links if "owner" in link]
     script = []
     for _ in range(dice.randint(20, 60)):
         if owned and dice.random() < 0.2:
             link = dice.choice(owned)
-            script.append({"reporter": link["owner"], "link": link["name"], "capacity": dice.randint(0, 900)})
+            script.append(
+                {"reporter": link["owner"], "link": link["name"], "capacity": dice.randint(0, 900)}
+            )
         else:
             task = dice.choice(tasks)
-            script.append({"reporter": task["reporter"], "task": task["name"], "demand": dice.randint(0, 500)})
-    return {"version": 2, "top": top, "links": links, "groups": groups, "reporters": reporters, "script": script}
+            script.append(
+                {"reporter": task["reporter"], "task": task["name"], "demand": dice.randint(0, 500)}
+            )
+    return {
+        "version": 2,
+        "top": top,
+        "links": links,
+        "groups": groups,
+        "reporters": reporters,
+        "script": script,
+    }
 
 
 # The program.
 
 
 def written(program, words, document):
-    run = subprocess.run([program, *words], input=json.dumps(document).encode(), capture_output=True, timeout=120)
+    run = subprocess.run(
+        [program, *words], input=json.dumps(document).encode(), capture_output=True, timeout=120
+    )
     need(run.returncode == 0 and not run.stderr, f"{words[0]} ends with status {run.returncode}")
     return run.stdout.decode()
 
@@ -130,7 +162,7 @@ def capacities_after(document, script):
 
 
 def loads_of(document, amounts):
-    """What the amounts by group and place put on each link. Each path group's part is rounded up by itself."""
+    """What the amounts put on each link. Each path group's part is rounded up by itself."""
     loads = Counter()
     for group in document["groups"]:
         for place, paths in enumerate(group["paths"]):
@@ -164,7 +196,11 @@ def total_of_table(document, script, text):
     need(text.startswith(f"table {len(script)}\n"), "a table of another prefix")
     groups = sum(by_group.values())
     need(limits == groups == total == sum(amounts.values()), "sums of a table")
-    need(loads == {link["name"]: loads_of(document, amounts)[link["name"]] for link in document["links"]}, "loads")
+    need(
+        loads
+        == {link["name"]: loads_of(document, amounts)[link["name"]] for link in document["links"]},
+        "loads",
+    )
     capacities = capacities_after(document, script)
     need(all(load <= capacities[link] for link, load in loads.items()), "a link is over")
     return total
@@ -203,18 +239,27 @@ def history_of(document, lines):
         history.append(report_of(words))
     for reporter in document["reporters"]:
         own = [report for report in document["script"] if report["reporter"] == reporter]
-        need([report for report in history if report["reporter"] == reporter] == own, f"script of {reporter}")
+        need(
+            [report for report in history if report["reporter"] == reporter] == own,
+            f"script of {reporter}",
+        )
         need(next(lines) == f"reporter {reporter} sent {len(own)}", f"what {reporter} sent")
     return history
 
 
 def check_reader(lines, number, length, totals, prefixes):
-    need(next(lines) == f"reader {number} length {length}", f"length of reader {number}, or a line beyond")
+    need(
+        next(lines) == f"reader {number} length {length}",
+        f"length of reader {number}, or a line beyond",
+    )
     before = 0
     for read in range(READS + 1):
         word, _, floor, _, prefix, _, total = next(lines).split()
         floor, prefix, total = int(floor), int(prefix), int(total)
-        need(word == ("final" if read == READS else "read"), f"word of read {read} of reader {number}")
+        need(
+            word == ("final" if read == READS else "read"),
+            f"word of read {read} of reader {number}",
+        )
         need(before <= floor <= prefix <= length, f"prefix of read {read} of reader {number}")
         need(total == totals.of(prefix), f"total of read {read} of reader {number}")
         prefixes[prefix] += 1
@@ -231,7 +276,10 @@ def check_run(program, document):
         check_reader(lines, number, len(history), totals, prefixes)
     table = "".join(line + "\n" for line in lines)
     need(table == written(program, ["solve"], document), "table at the end")
-    need(table == written(program, ["solve"], {**document, "script": history}), "table of the history")
+    need(
+        table == written(program, ["solve"], {**document, "script": history}),
+        "table of the history",
+    )
     check_audit(program, document, text)
     return history != document["script"], prefixes, len(history)
 
@@ -244,15 +292,21 @@ def check_audit(program, document, text):
         return subprocess.run([program, "audit"], input=whole, capture_output=True, timeout=120)
 
     sound = audited(text.encode())
-    need((sound.returncode, sound.stdout) == (0, b"legal\n"), f"audit says {sound.stdout!r} of a printed run")
+    need(
+        (sound.returncode, sound.stdout) == (0, b"legal\n"),
+        f"audit says {sound.stdout!r} of a printed run",
+    )
     place = max(place for place, letter in enumerate(text) if letter.isdigit())
-    turned = text[:place] + str((int(text[place]) + 1) % 10) + text[place + 1:]
+    turned = text[:place] + str((int(text[place]) + 1) % 10) + text[place + 1 :]
     wrong = audited(turned.encode())
-    need(wrong.returncode == 1 and wrong.stdout.endswith(b": table\n"), f"audit says {wrong.stdout!r} of another total")
+    need(
+        wrong.returncode == 1 and wrong.stdout.endswith(b": table\n"),
+        f"audit says {wrong.stdout!r} of another total",
+    )
 
 
 def seen_of(program, seed):
-    """What was seen of the run of a seed: its fault or None, whether another order, its prefixes, its history's length."""
+    """What was seen of a seed's run: fault or None, another order or not, prefixes, length."""
     document = made_document(random.Random(seed))
     try:
         return None, *check_run(program, document)
@@ -273,7 +327,9 @@ def results_of(seen, first):
     """The name and the fault of each run, and of the reads over all of them."""
     runs = [(f"run of seed {first + number}", fault) for number, (fault, *_) in enumerate(seen)]
     between = any(is_between(prefixes, length) for _, _, prefixes, length in seen)
-    return runs + [("reads between the first and the last prefix", None if between else "there are none")]
+    return runs + [
+        ("reads between the first and the last prefix", None if between else "there are none")
+    ]
 
 
 def results(program, count, first=1):
@@ -281,6 +337,9 @@ def results(program, count, first=1):
 
 
 def main(words):
+    if words[:1] == ["--help"]:
+        print(__doc__)
+        return 0
     here = Path(__file__).resolve().parent
     program = str(Path(words[0] if words else here / "../crates/bwe/out/bwe").resolve())
     count = int(words[1]) if len(words) > 1 else 3
@@ -292,8 +351,11 @@ def main(words):
     moved = sum(other_order for _, other_order, _, _ in seen)
     between = sum(is_between(prefixes, length) for _, _, prefixes, length in seen)
     shown = sum(len(prefixes) for _, _, prefixes, _ in seen)
-    print(f"runs: {sum(fault is None for fault, *_ in seen)} passed of {count}; {moved} in another order than the script, "
-          f"{between} with reads between, {shown} tables shown")
+    print(
+        f"runs: {sum(fault is None for fault, *_ in seen)} passed of {count}; "
+        f"{moved} in another order than the script, "
+        f"{between} with reads between, {shown} tables shown"
+    )
     return 1 if faults else 0
 
 

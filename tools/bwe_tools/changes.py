@@ -75,7 +75,9 @@ def _whole(document: Document) -> dict[str, Value]:
 
 def _group(group: Group) -> dict[str, Value]:
     parts = {
-        f"path group {place}": ", ".join(f"{path.weight} x {'>'.join(path.links)}" for path in paths)
+        f"path group {place}": ", ".join(
+            f"{path.weight} x {'>'.join(path.links)}" for path in paths
+        )
         for place, paths in enumerate(group.paths)
     }
     ends = {"from": group.source, "to": group.target}
@@ -108,7 +110,11 @@ def changes_between(old: Things, new: Things) -> list[Change]:
     changes = []
     for key, said in new.items():
         if key not in old:
-            changes.append(Change("+", _name(key), [f"+ {what}: {_text(value)}" for what, value in said.items()]))
+            changes.append(
+                Change(
+                    "+", _name(key), [f"+ {what}: {_text(value)}" for what, value in said.items()]
+                )
+            )
         elif old[key] != said:
             changes.append(Change("~", _name(key), _lines(old[key], said)))
     changes += [Change("-", _name(key), []) for key in old if key not in new]
@@ -135,7 +141,8 @@ def _orders(old: Things, new: Things) -> list[Change]:
     return [
         Change("~", f"order of {kind}s", [])
         for kind in kinds
-        if [key for key in common_old if key[0] == kind] != [key for key in common_new if key[0] == kind]
+        if [key for key in common_old if key[0] == kind]
+        != [key for key in common_new if key[0] == kind]
     ]
 
 

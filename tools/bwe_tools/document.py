@@ -143,15 +143,25 @@ def parse(data, path="-"):
     """The document of some bytes; `path` is how a fault names where they come from."""
     try:
         _, raw = json_text.parse(data)
-        document = of_raw(raw)
-        fault = rules.first_fault(raw)
     except json_text.NotJson as fault:
-        raise ToolError(f"{path} is not JSON: {fault}") from None
+        raise ToolError(f"{path} is not JSON: {fault} (bwe: refused 1 not json)") from None
+    try:
+        document = of_raw(raw)
+        is_sound = rules.first_fault(raw) is None
     except (KeyError, TypeError, AttributeError, ValueError):
-        raise ToolError(f"{path} is no document; `bwe-tools lint` says where") from None
-    if fault is not None:
-        raise ToolError(f"{path}: {fault.sentence} (bwe: {fault.refusal}); `bwe-tools lint` says where")
+        is_sound = False
+    if not is_sound:
+        fault = first_fault(raw)
+        raise ToolError(f"{path} is no document: {fault.sentence} (bwe: {fault.refusal}); `bwe-tools lint` says where")
     return document
+
+
+def first_fault(raw):
+    """The first fault of JSON that is no document, or None."""
+    # The schema's library is slow to load, and most documents are sound.
+    from bwe_tools import shape
+
+    return shape.first_fault(raw) or rules.first_fault(raw)
 
 
 def load(path):

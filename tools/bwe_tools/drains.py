@@ -17,7 +17,7 @@ MOST_REPORTS = 200_000
 
 @dataclass(frozen=True)
 class Loss:
-    """A task that may send less than nine tenths of what it might before. In kilobits per second."""
+    """A task that may send less than nine tenths of what it might before, in kb/s."""
 
     task: str
     before: int
@@ -60,7 +60,7 @@ def drained(document: Document, links: Iterable[str]) -> dict:
 
 
 def two_ways(document: Document) -> list[list[str]]:
-    """Each link with the one that leads back: of parallel links the first with the first, and so on."""
+    """Each link with the one that leads back: of parallel links the first with the first."""
     waiting: dict[tuple[str, str], list[list[str]]] = {}
     fibres: list[list[str]] = []
     for link in document.links:
@@ -123,7 +123,10 @@ def drains_from_json(whole: dict) -> list[Drain]:
             drain["total"],
             drain["lost"],
             drain["groups_with_nothing"],
-            [Loss(loss["task"], loss["before"], loss["after"]) for loss in drain["tasks_that_lose"]],
+            [
+                Loss(loss["task"], loss["before"], loss["after"])
+                for loss in drain["tasks_that_lose"]
+            ],
         )
         for drain in whole["drains"]
     ]

@@ -58,7 +58,8 @@ def strands_of(links: list[LinkView]) -> list[Strand]:
         both = min(len(there), len(back))
         lines = [*zip(there, back), *((link, None) for link in there[both:] + back[both:])]
         for number, (link, opposite) in enumerate(lines):
-            bend = number - (len(lines) - 1) / 2
+            # Very many parallel lines lie closer together.
+            bend = (number - (len(lines) - 1) / 2) * min(1.0, 9 / len(lines))
             strands.append(Strand(link, opposite, bend if link.source == one else -bend, number))
     return strands
 
@@ -91,7 +92,7 @@ class Detail:
 
 
 ALL = frozenset(WORDS)
-FULL_DETAIL = Detail(thin=2.4, thick=8.0, head=4.6, bend=36, labels=ALL, dots=False)
+FULL_DETAIL = Detail(thin=2.4, thick=8.0, head=4.6, bend=36, labels=ALL - {"idle"}, dots=False)
 SOME_DETAIL = Detail(
     thin=1.8, thick=5.6, head=3.2, bend=18, labels=ALL - {"idle", "light", "half"}, dots=False
 )
@@ -116,7 +117,9 @@ def _fitted(spots: Spots, frame: Frame) -> tuple[Spots, int]:
     height = max(frame.least_height, round(high * scale_y) + 2 * frame.margin)
     left = (frame.width - wide * scale_x) / 2 - min(xs) * scale_x
     upper = (height - high * scale_y) / 2 - min(ys) * scale_y
-    return {site: (x * scale_x + left, y * scale_y + upper) for site, (x, y) in spots.items()}, height
+    return {
+        site: (x * scale_x + left, y * scale_y + upper) for site, (x, y) in spots.items()
+    }, height
 
 
 class _Curve:
@@ -145,7 +148,9 @@ class _Curve:
     def until(self, part: float) -> str:
         """The curve's first part, as the data of an SVG path."""
         turn = tuple(a + part * (b - a) for a, b in zip(self.start, self.control))
-        return "M{} Q{} {}".format(*(f"{x:.1f} {y:.1f}" for x, y in (self.start, turn, self.at(part))))
+        return "M{} Q{} {}".format(
+            *(f"{x:.1f} {y:.1f}" for x, y in (self.start, turn, self.at(part)))
+        )
 
 
 class _Drawing:
@@ -170,14 +175,12 @@ class _Drawing:
     def _draw_strand(self, strand: Strand) -> None:
         start, end = self.spots[strand.there.source], self.spots[strand.there.target]
         bend = strand.bend * self.detail.bend
-        # The numbers of parallel lines stand beside each other.
-        label = 0.27 + 0.11 * (strand.number % 2)
         whole = strand.back is None
-        self._draw_link(strand.there, _Curve(start, end, bend), whole, label)
+        self._draw_link(strand.there, _Curve(start, end, bend), whole, strand.number)
         if strand.back is not None:
-            self._draw_link(strand.back, _Curve(end, start, -bend), whole, label)
+            self._draw_link(strand.back, _Curve(end, start, -bend), whole, strand.number)
 
-    def _draw_link(self, link: LinkView, curve: _Curve, whole: bool, label: float) -> None:
+    def _draw_link(self, link: LinkView, curve: _Curve, whole: bool, number: int) -> None:
         """A link with its arrow in the middle of the line; with a link back it ends there."""
         state = state_of(link)
         part = min(link.load / link.capacity, 1.0) if link.capacity else 0.0
@@ -185,7 +188,10 @@ class _Drawing:
         tip, (dx, dy) = curve.at(0.495), curve.direction(0.5)
         size = (width / 2 + self.detail.head) * (1.3 if whole else 1.0)
         back = (tip[0] - 1.7 * size * dx, tip[1] - 1.7 * size * dy)
-        corners = [tip, *((back[0] - way * size * dy, back[1] + way * size * dx) for way in (1, -1))]
+        corners = [
+            tip,
+            *((back[0] - way * size * dy, back[1] + way * size * dx) for way in (1, -1)),
+        ]
         points = " ".join(f"{x:.1f},{y:.1f}" for x, y in corners)
         self.lines.append(
             f'<g class="link {state}" data-link="{escape(link.name)}">'
@@ -195,7 +201,26 @@ class _Drawing:
             f'<polygon class="head" points="{points}"/>{_bar(state, tip, (dx, dy), size)}</g>'
         )
         if state in self.detail.labels:
-            self._label(link, state, curve.at(label))
+            # The numbers of parallel lines stand beside each other.
+            seen = self._leaves(link.source, curve)
+            self._label(
+                link, state, curve.at(seen + (0.45 - seen) * (0.65 if number % 2 else 0.42))
+            )
+
+    def _leaves(self, site: str, curve: _Curve) -> float:
+        """The part of a curve at which it leaves the box of the site where it begins."""
+        half = self._half_width(site)
+        parts = (step / 50 for step in range(25))
+        x, y = curve.start
+
+        def is_outside(part: float) -> bool:
+            there = curve.at(part)
+            return abs(there[0] - x) > half or abs(there[1] - y) > 12
+
+        return next(filter(is_outside, parts), 0.25)
+
+    def _half_width(self, site: str) -> float:
+        return 5.0 if self.detail.dots else 3.9 * len(_short(site)[0]) + 8
 
     def _label(self, link: LinkView, state: str, spot: tuple[float, float]) -> None:
         text = "drained" if state == "drained" else percent(link.load, link.capacity)
@@ -207,7 +232,7 @@ class _Drawing:
     def _box(self, site: str) -> str:
         x, y = self.spots[site]
         name, title = _short(site)
-        wide = 7.8 * len(name) + 16
+        wide = 2 * self._half_width(site)
         x = min(max(x, wide / 2 + 2), self.width - wide / 2 - 2)
         return (
             f'<g class="site">{title}<rect x="{x - wide / 2:.1f}" y="{y - 12:.1f}"'
@@ -223,13 +248,16 @@ class _Drawing:
             x, y = self.spots[site]
             name, title = _short(site)
             half = 3.3 * len(name) + 2
-            rooms = [(x + sx * (half + 6), y + sy) for sx, sy in ((0, -12), (0, 12), (1, 0), (-1, 0))]
+            rooms = [
+                (x + sx * (half + 6), y + sy) for sx, sy in ((0, -12), (0, 12), (1, 0), (-1, 0))
+            ]
             boxes = [(cx - half, cy - 7, cx + half, cy + 7) for cx, cy in rooms]
             best = min(range(4), key=lambda at: (_covered(boxes[at], taken, self.width), at))
             taken.append(boxes[best])
             dots.append(
-                f'<g class="site">{title}<circle cx="{x:.1f}" cy="{y:.1f}" r="4.5"/><text class="small"'
-                f' x="{rooms[best][0]:.1f}" y="{rooms[best][1] + 4:.1f}">{escape(name)}</text></g>'
+                f'<g class="site">{title}<circle cx="{x:.1f}" cy="{y:.1f}" r="4.5"/>'
+                f'<text class="small" x="{rooms[best][0]:.1f}" y="{rooms[best][1] + 4:.1f}">'
+                f"{escape(name)}</text></g>"
             )
         return dots
 

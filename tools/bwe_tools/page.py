@@ -3,6 +3,7 @@
 from __future__ import annotations
 
 from collections.abc import Iterable
+from dataclasses import dataclass
 from html import escape
 
 from bwe_tools.columns import few
@@ -13,9 +14,71 @@ from bwe_tools.view import GroupView, LinkView, PathGroupView, TaskView, View
 
 POLICY = "default-src 'none'; style-src 'unsafe-inline'; script-src 'unsafe-inline'; img-src data:"
 
-# A heading, and the classes of its column: `n` for numbers, `wide` for what a phone leaves out,
-# `plain` for what has no order.
-Column = tuple[str, str]
+
+@dataclass(frozen=True)
+class Listing:
+    """A table of the page: its name, what its box picks out, and its columns.
+
+    A column has a heading and classes: `n` for numbers, `wide` for what a phone leaves out, `plain`
+    for what has no order.
+    """
+
+    name: str
+    box: str
+    columns: tuple[tuple[str, str], ...]
+
+    @property
+    def anchor(self) -> str:
+        return self.name.lower()
+
+
+GROUPS = Listing(
+    "Groups",
+    "held by links only",
+    (
+        ("Group", ""),
+        ("Asks", "n"),
+        ("Gets", "n"),
+        ("Of what it asks", ""),
+        ("Share", "n wide"),
+        ("Path groups, and what closed them", "plain"),
+    ),
+)
+LINKS = Listing(
+    "Links",
+    "full or drained only",
+    (
+        ("Link", ""),
+        ("From and to", "wide"),
+        ("Capacity", "n"),
+        ("Load", "n"),
+        ("How full", ""),
+        ("State", ""),
+    ),
+)
+TASKS = Listing(
+    "Tasks",
+    "held only",
+    (
+        ("Task", ""),
+        ("Group", "wide"),
+        ("Demand", "n"),
+        ("Limit", "n"),
+        ("Of its demand", ""),
+        ("Held by", ""),
+    ),
+)
+DRAINS = Listing(
+    "Drains",
+    "with a loss only",
+    (
+        ("Drained", ""),
+        ("Total after", "n"),
+        ("Change", "n"),
+        ("Tasks that lose a tenth", "n"),
+        ("Groups with nothing", ""),
+    ),
+)
 
 
 def page(view: View, title: str, drains: list[Drain], most_tasks: int) -> str:
@@ -27,21 +90,26 @@ def page(view: View, title: str, drains: list[Drain], most_tasks: int) -> str:
         _links(view),
         _tasks(view, most_tasks),
         _drains(view, drains) if drains else "",
-        '<footer>Made by <code>bwe-tools page</code> from a document and its table. A full link is one'
-        " that closed: the next share would have put it over its capacity.</footer>",
+        "<footer>Made by <code>bwe-tools page</code> from a document and its table. A full link is"
+        " one that closed: the next share would have put it over its capacity.</footer>",
     ]
-    style = (ASSETS / "page.css").read_text(encoding="utf-8")
-    map_style = (ASSETS / "map.css").read_text(encoding="utf-8")
     script = (ASSETS / "page.js").read_text(encoding="utf-8")
     return (
         '<!DOCTYPE html>\n<html lang="en">\n<head>\n<meta charset="utf-8">\n'
         f'<meta http-equiv="Content-Security-Policy" content="{POLICY}">\n'
         '<meta name="viewport" content="width=device-width, initial-scale=1">\n'
         '<link rel="icon" href="data:,">\n'
-        f"<title>{escape(title)}</title>\n<style>\n{style}{map_style}</style>\n</head>\n<body>\n<main>\n"
+        f"<title>{escape(title)}</title>\n<style>\n{_style()}</style>\n</head>\n"
+        "<body>\n<main>\n"
         + "\n".join(part for part in parts if part)
         + f"\n</main>\n<script>\n{script}</script>\n</body>\n</html>\n"
     )
+
+
+def _style() -> str:
+    texts = [(ASSETS / name).read_text(encoding="utf-8") for name in ("page.css", "map.css")]
+    labels = "\n".join(map(_labels, (GROUPS, LINKS, TASKS, DRAINS)))
+    return "".join(texts) + f"@media (max-width: 720px) {{\n{labels}\n}}\n"
 
 
 def _head(view: View, title: str, has_drains: bool) -> str:
@@ -79,25 +147,18 @@ def _map(view: View) -> str:
         if state in states
     )
     return (
-        '<section id="network">\n<header><h2>Network</h2><p class="muted">Each half of a line is one'
-        " direction; colour and width say how full it is. A bar marks a link that takes no more.</p>"
+        '<section id="network">\n<header><h2>Network</h2><p class="muted">Each half of a line'
+        " is one direction; colour and width say how full it is. A bar marks a link that takes no"
+        " more.</p>"
         f"</header>\n{svg(view, WIDE, 'wide')}\n{svg(view, NARROW, 'narrow')}\n"
         f'<ul class="legend">{legend}</ul>\n</section>'
     )
 
 
 def _groups(view: View) -> str:
-    columns = [
-        ("Group", ""),
-        ("Asks", "n"),
-        ("Gets", "n"),
-        ("Of what it asks", ""),
-        ("Share", "n wide"),
-        ("Path groups, and what closed them", "plain"),
-    ]
     states = {link.name: link.state for link in view.links}
     rows = (_group_row(group, states) for group in view.groups)
-    return _section("Groups", columns, rows, "held by links only", _closings(view))
+    return _section(GROUPS, rows, _closings(view))
 
 
 def _group_row(group: GroupView, states: dict[str, str]) -> str:
@@ -113,7 +174,7 @@ def _group_row(group: GroupView, states: dict[str, str]) -> str:
         (group.share, f"{group.share:,}"),
         f'<ol class="places" start="0">{places}</ol>',
     ]
-    return _row(cells, ["", "n", "n", "", "n wide", ""], group.is_held, links)
+    return _row(GROUPS, cells, group.is_held, links)
 
 
 def _place(part: PathGroupView, states: dict[str, str]) -> str:
@@ -129,16 +190,8 @@ def _place(part: PathGroupView, states: dict[str, str]) -> str:
 
 
 def _links(view: View) -> str:
-    columns = [
-        ("Link", ""),
-        ("From and to", "wide"),
-        ("Capacity", "n"),
-        ("Load", "n"),
-        ("How full", ""),
-        ("State", ""),
-    ]
     rows = (_link_row(link) for link in view.links)
-    return _section("Links", columns, rows, "full or drained only")
+    return _section(LINKS, rows)
 
 
 def _link_row(link: LinkView) -> str:
@@ -152,25 +205,17 @@ def _link_row(link: LinkView) -> str:
         f'<span class="tag {state}">{link.state}</span>',
     ]
     closed = state in ("full", "drained")
-    return _row(cells, ["", "wide", "n", "n", "", ""], closed, [link.name], f"link-{link.name}")
+    return _row(LINKS, cells, closed, [link.name], f"link-{link.name}")
 
 
 def _tasks(view: View, most: int) -> str:
-    columns = [
-        ("Task", ""),
-        ("Group", "wide"),
-        ("Demand", "n"),
-        ("Limit", "n"),
-        ("Of its demand", ""),
-        ("Held by", ""),
-    ]
     tasks = list(view.tasks())
     shown = tasks
     note = ""
     if len(tasks) > most:
         shown = sorted(tasks, key=lambda task: not task.is_held)[:most]
         note = f'<p class="muted">{most:,} of {len(tasks):,} tasks, held ones first.</p>'
-    return _section("Tasks", columns, map(_task_row, shown), "held only", note)
+    return _section(TASKS, map(_task_row, shown), note)
 
 
 def _task_row(task: TaskView) -> str:
@@ -182,20 +227,13 @@ def _task_row(task: TaskView) -> str:
         _part(task.limit, task.demand, "busy" if task.is_held else "good"),
         escape(task.held_by) or '<span class="muted">nobody</span>',
     ]
-    return _row(cells, ["", "wide", "n", "n", "", ""], task.is_held, [])
+    return _row(TASKS, cells, task.is_held, [])
 
 
 def _drains(view: View, drains: list[Drain]) -> str:
-    columns = [
-        ("Drained", ""),
-        ("Total after", "n"),
-        ("Change", "n"),
-        ("Tasks that lose a tenth", "n"),
-        ("Groups with nothing", ""),
-    ]
     rows = map(_drain_row, sorted(drains, key=lambda drain: -drain.lost))
     note = f'<p class="muted">Each drain by itself; {rate(view.total)} without one.</p>'
-    return _section("Drains", columns, rows, "with a loss only", note)
+    return _section(DRAINS, rows, note)
 
 
 def _drain_row(drain: Drain) -> str:
@@ -208,7 +246,7 @@ def _drain_row(drain: Drain) -> str:
         (len(drain.losses), f"{len(drain.losses):,}"),
         escape(nothing) if nothing else '<span class="muted">none</span>',
     ]
-    return _row(cells, ["", "n", "n", "n", ""], drain.lost > 0, drain.links)
+    return _row(DRAINS, cells, drain.lost > 0, drain.links)
 
 
 def _closings(view: View) -> str:
@@ -216,7 +254,7 @@ def _closings(view: View) -> str:
         return '<p class="muted">No link closed: every group gets all that it asks for.</p>'
     items = "".join(f"<li>{escape(link)} at {share:,}</li>" for link, share in view.closings)
     return (
-        f'<details><summary>The order in which links closed, and at which share</summary>'
+        f"<details><summary>The order in which links closed, and at which share</summary>"
         f'<ol class="closings">{items}</ol></details>'
     )
 
@@ -231,43 +269,52 @@ def _part(part: int, whole: int, state: str) -> tuple[int, str]:
     tenths = min(tenths_of_percent(part, whole), 1000)
     return (
         tenths,
-        f'<span class="share {state}"><span class="track"><span style="width:{tenths / 10}%"></span>'
-        f'</span><span class="text">{percent(part, whole)}</span></span>',
+        f'<span class="share {state}"><span class="track"><span style="width:{tenths / 10}%">'
+        f'</span></span><span class="text">{percent(part, whole)}</span></span>',
     )
 
 
-def _row(cells: list, classes: list[str], held: bool, links: Iterable[str], ident: str = "") -> str:
+def _row(
+    listing: Listing, cells: list, picked: bool, links: Iterable[str], anchor: str = ""
+) -> str:
     """A row; a cell with a number in front of its text is sorted by that number."""
     texts = []
-    for cell, kind in zip(cells, classes):
+    for cell, (_, kind) in zip(cells, listing.columns):
         value, text = cell if isinstance(cell, tuple) else (None, cell)
-        kind = f' class="{kind}"' if kind else ""
         value = "" if value is None else f' data-v="{value}"'
-        texts.append(f"<td{kind}{value}>{text}</td>")
-    marks = (f' id="{escape(ident)}"' if ident else "") + (" data-held" if held else "")
+        texts.append(f"<td{_class(kind)}{value}>{text}</td>")
+    marks = (f' id="{escape(anchor)}"' if anchor else "") + (" data-held" if picked else "")
     names = " ".join(links)
     marks += f' data-links="{escape(names)}"' if names else ""
     return f"<tr{marks}>{''.join(texts)}</tr>"
 
 
+def _class(kind: str) -> str:
+    return f' class="{kind}"' if kind else ""
+
+
 def _heading(head: str, kind: str) -> str:
-    text = head if "plain" in kind else f'<button type="button">{head}</button>'
-    return f'<th scope="col" class="{kind}">{text}</th>' if kind else f'<th scope="col">{text}</th>'
+    text = head if kind == "plain" else f'<button type="button">{head}</button>'
+    return f'<th scope="col"{_class(kind)}>{text}</th>'
 
 
-def _section(name: str, columns: list[Column], rows: Iterable[str], box: str, note: str = "") -> str:
-    heads = "".join(_heading(head, kind) for head, kind in columns)
-    body = "\n".join(rows)
-    # On a phone a row is a block, and each cell says what it is.
-    labels = "".join(
-        f'#{name.lower()} td:nth-child({at})::before{{content:"{head}"}}'
-        for at, (head, _) in enumerate(columns[1:], 2)
+def _labels(listing: Listing) -> str:
+    """On a phone a row is a block: the style by which each of its cells says what it is."""
+    return "\n".join(
+        f'  #{listing.anchor} td:nth-child({at})::before {{ content: "{head}"; }}'
+        for at, (head, _) in enumerate(listing.columns[1:], 2)
     )
+
+
+def _section(listing: Listing, rows: Iterable[str], note: str = "") -> str:
+    heads = "".join(_heading(head, kind) for head, kind in listing.columns)
+    body = "\n".join(rows)
     return (
-        f'<section id="{name.lower()}">\n<header><h2>{name}</h2><div class="tools">'
-        f'<label><input type="checkbox"> {box}</label>'
-        f'<label>Find <input type="search" aria-label="Find in {name.lower()}"></label></div></header>\n'
-        f"<style>@media (max-width: 720px) {{ {labels} }}</style>\n"
-        f'{note}\n<div class="scroll" tabindex="0" role="region" aria-label="{name}, a table">\n'
-        f"<table>\n<thead><tr>{heads}</tr></thead>\n<tbody>\n{body}\n</tbody>\n</table>\n</div>\n</section>"
+        f'<section id="{listing.anchor}">\n<header><h2>{listing.name}</h2><div class="tools">'
+        f'<label><input type="checkbox"> {listing.box}</label>'
+        f'<label>Find <input type="search" aria-label="Find in {listing.anchor}"></label>'
+        f"</div></header>\n{note}\n"
+        f'<div class="scroll" tabindex="0" role="region" aria-label="{listing.name}, a table">\n'
+        f"<table>\n<thead><tr>{heads}</tr></thead>\n<tbody>\n{body}\n</tbody>\n</table>\n"
+        "</div>\n</section>"
     )

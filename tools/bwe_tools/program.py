@@ -40,7 +40,9 @@ def run_program(words: list[str], document: bytes, what: str = "the document") -
     """What the program writes for a line and a document; `what` names the document in sentences."""
     program = find_program()
     try:
-        child = subprocess.run([program, *words], input=document, stdout=subprocess.PIPE, check=False)
+        child = subprocess.run(
+            [program, *words], input=document, stdout=subprocess.PIPE, check=False
+        )
     except OSError as fault:
         raise ToolError(f"{program} could not be run: {fault.strerror}") from None
     answer = child.stdout.decode("utf-8", "replace")
@@ -64,7 +66,7 @@ def solve(document: bytes, what: str = "the document") -> Table:
 
 
 def values_at_top(document: bytes, what: str = "the document") -> dict[str, int]:
-    """What each group may have at most, as `bwe levels` computes it: its demands under its functions."""
+    """What each group may have at most: its demands under its functions, by `bwe levels`."""
     lines = run_program(["levels", "1000000000"], document, what).splitlines()
     return {words[1]: int(words[2]) for words in map(str.split, lines) if words[0] == "level"}
 

@@ -1,4 +1,4 @@
-"""A document beside its table: what each link carries, what each group and task got, and who holds it."""
+"""A document beside its table: what links carry, what groups and tasks got, and who holds them."""
 
 from __future__ import annotations
 
@@ -12,7 +12,7 @@ from bwe_tools.table import GroupAmount, Table
 
 @dataclass(frozen=True)
 class LinkView:
-    """A link after the script. `closed_at` is the share at which it filled, None where it is open."""
+    """A link after the script. `closed_at` is the share at which it filled, None if it did not."""
 
     name: str
     source: str
@@ -36,7 +36,7 @@ class LinkView:
 
 @dataclass(frozen=True)
 class PathGroupView:
-    """A path group: its paths as weights and links, what its group has on it, and what closed it."""
+    """A path group: paths as weights and links, what its group has on it, and what closed it."""
 
     paths: list[tuple[int, tuple[str, ...]]]
     amount: int
@@ -61,7 +61,7 @@ class TaskView:
 
 @dataclass(frozen=True)
 class GroupView:
-    """A group: its tasks' demands, what it may have of them under its functions, and what it got."""
+    """A group: its tasks' demands, what its functions allow of them, and what it got."""
 
     name: str
     source: str
@@ -92,7 +92,7 @@ class View:
 
 
 def view_of(document: Document, table: Table, values_at_top: dict[str, int]) -> View:
-    """The view of a document and its table; `values_at_top` has what each group may have at most."""
+    """The view of a document and its table; `values_at_top` has what groups may have at most."""
     _check_that_they_fit(document, table)
     capacities, demands = document.capacities(), document.demands()
     loads, closed_at, limits = table.load_of(), table.share_of_closing(), table.limit_of()
@@ -169,7 +169,15 @@ def _group_view(
     ]
     demand = sum(task.demand for task in tasks)
     return GroupView(
-        group.name, group.source, group.target, demand, asks, given.amount, given.share, parts, tasks
+        group.name,
+        group.source,
+        group.target,
+        demand,
+        asks,
+        given.amount,
+        given.share,
+        parts,
+        tasks,
     )
 
 
@@ -183,8 +191,9 @@ class _Holders:
 
     @staticmethod
     def _links(given: GroupAmount, links: dict[str, LinkView]) -> str:
-        names = list(dict.fromkeys(part.closed_by for part in given.path_groups if part.closed_by))
-        return " and ".join(f"{name} ({links[name].state})" for name in names)
+        names = dict.fromkeys(part.closed_by for part in given.path_groups if part.closed_by)
+        phrases = [f"{name} ({links[name].state})" for name in names]
+        return " and ".join([", ".join(phrases[:-1]), phrases[-1]] if len(phrases) > 1 else phrases)
 
     def of_task(self, user: User, job: Job, task: Task) -> str:
         """A phrase, empty where the task has its demand."""
@@ -205,7 +214,7 @@ class _Holders:
         return self.by_node[id(node)]
 
     def _judge(self, kind: str, node: Job | User | Group) -> str | None:
-        """Whether a node's own function holds what is below it: it is all but used up, or no link holds."""
+        """Whether a node's own function holds what is below it: it is used up, or no link holds."""
         if node.function is None:
             return None
         most = node.function[-1][1]

@@ -14,7 +14,10 @@ TABLES = sorted(
     for path in [*EXAMPLES.glob("*.txt"), *CASES.rglob("stdout")]
     if path.read_bytes().startswith(b"table ")
 )
-SMALL = "table 1\nlink l0 load 5\ngroup g share 9 amount 5\nplace 0 amount 5 open\ntask t limit 5\ntotal 5\n"
+SMALL = (
+    "table 1\nlink l0 load 5\n"
+    "group g share 9 amount 5\nplace 0 amount 5 open\ntask t limit 5\ntotal 5\n"
+)
 
 
 def test_there_are_tables_to_read():
@@ -95,7 +98,9 @@ METRIC = re.compile(r'[a-z_]+(\{[a-z_]+="[A-Za-z0-9._-]+"(,[a-z_]+="[A-Za-z0-9._
 
 @needs_program
 def test_metrics_are_prometheus_text():
-    answer = run("metrics", EXAMPLES / "maintenance.txt", "--document", EXAMPLES / "maintenance.json")
+    answer = run(
+        "metrics", EXAMPLES / "maintenance.txt", "--document", EXAMPLES / "maintenance.json"
+    )
     assert answer.status == 0
     named = set()
     for line in answer.out.splitlines():
@@ -117,5 +122,7 @@ def test_metrics_need_no_document():
 
 @needs_program
 def test_metrics_of_another_document_are_refused():
-    text = fails("metrics", EXAMPLES / "shared-link.txt", "--document", EXAMPLES / "maintenance.json")
+    text = fails(
+        "metrics", EXAMPLES / "shared-link.txt", "--document", EXAMPLES / "maintenance.json"
+    )
     assert "of another document" in text

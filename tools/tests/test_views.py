@@ -1,6 +1,7 @@
 """What a document is given: explain, whatif, diff and page."""
 
 import json
+import math
 import re
 from html.parser import HTMLParser
 from xml.etree import ElementTree
@@ -9,6 +10,7 @@ import pytest
 
 from bwe_tools.drains import drained, two_ways
 from bwe_tools.files import read_document
+from bwe_tools.layout import positions
 from bwe_tools.network_map import strands_of
 from bwe_tools.program import solve, values_at_top
 from bwe_tools.rate import percent, rate
@@ -63,13 +65,16 @@ def test_a_percent_is_a_hundred_only_where_all_is_used():
 
 # ---- explain
 
+
 @pytest.mark.parametrize("path", DOCUMENTS, ids=lambda path: path.stem)
 def test_explain_names_every_link_group_and_held_task(path):
     answer = run("explain", path)
     assert answer.status == 0
     seen = view(path)
     for link in seen.links:
-        assert re.search(rf"^{re.escape(link.name)} .*{re.escape(link.state)}$", answer.out, re.MULTILINE)
+        assert re.search(
+            rf"^{re.escape(link.name)} .*{re.escape(link.state)}$", answer.out, re.MULTILINE
+        )
     for group in seen.groups:
         assert f"group {group.name}, {group.source} -> {group.target}\n" in answer.out
     for task in seen.tasks():
@@ -95,7 +100,9 @@ def test_a_task_is_held_by_the_functions_above_it(tmp_path):
         first["jobs"][0]["task"] = [[0, 0], [100, 60]]
         second["function"] = [[0, 0], [100, 70]]
 
-    held = {task.name: task.held_by for task in view(changed(SHARED_LINK, tmp_path, change)).tasks()}
+    held = {
+        task.name: task.held_by for task in view(changed(SHARED_LINK, tmp_path, change)).tasks()
+    }
     assert held["t0"] == "the task function of job j0, at most 60 kbit/s"
     assert held["t1"] == "the function of user u0, at most 70 kbit/s"
 
@@ -106,6 +113,7 @@ def test_a_task_is_held_by_the_links_of_its_group():
 
 
 # ---- whatif
+
 
 def test_a_drain_is_one_more_report_of_its_owner():
     _, document = read_document(str(MAINTENANCE))
@@ -127,7 +135,9 @@ def test_a_link_without_an_owner_gets_capacity_nothing():
 def test_whatif_agrees_with_the_table_of_the_drained_document(path):
     _, document = read_document(str(path))
     answer = json.loads(run("whatif", path, "--json").out)
-    assert [drain["links"] for drain in answer["drains"]] == [[link.name] for link in document.links]
+    assert [drain["links"] for drain in answer["drains"]] == [
+        [link.name] for link in document.links
+    ]
     for drain in answer["drains"][:6]:
         table = solve(json.dumps(drained(document, drain["links"])).encode())
         assert drain["total"] == table.total == answer["total"] - drain["lost"]
@@ -139,18 +149,27 @@ def test_whatif_agrees_with_the_table_of_the_drained_document(path):
 def test_whatif_says_what_is_lost():
     answer = run("whatif", SHARED_LINK)
     assert answer.status == 0
-    assert re.search(r"^l0 +100 kbit/s +0 +-100 kbit/s +g0, g1 +2: t0, t1$", answer.out, re.MULTILINE)
+    assert re.search(
+        r"^l0 +100 kbit/s +0 +-100 kbit/s +g0, g1 +2: t0, t1$", answer.out, re.MULTILINE
+    )
 
 
 def test_whatif_drains_links_together():
-    answer = json.loads(run("whatif", MAINTENANCE, "--together", "--json", "par-ams", "fra-ams-2").out)
+    answer = json.loads(
+        run("whatif", MAINTENANCE, "--together", "--json", "par-ams", "fra-ams-2").out
+    )
     (drain,) = answer["drains"]
     assert drain["links"] == ["fra-ams-2", "par-ams"]
 
 
 def test_links_are_paired_with_those_that_lead_back(tmp_path):
     def change(whole):
-        for name, source, target in (("l1", "b", "a"), ("l2", "a", "b"), ("l3", "b", "a"), ("l4", "a", "c")):
+        for name, source, target in (
+            ("l1", "b", "a"),
+            ("l2", "a", "b"),
+            ("l3", "b", "a"),
+            ("l4", "a", "c"),
+        ):
             whole["links"].append({"name": name, "from": source, "to": target, "capacity": 5})
 
     copy = changed(SHARED_LINK, tmp_path, change)
@@ -166,6 +185,7 @@ def test_whatif_names_what_it_cannot_drain():
 
 
 # ---- diff
+
 
 @pytest.mark.parametrize("path", DOCUMENTS, ids=lambda path: path.stem)
 def test_a_document_is_as_it_is_with_other_white_space(path, tmp_path):
@@ -219,6 +239,7 @@ def test_diff_takes_two_of_a_kind(tmp_path):
 
 # ---- page
 
+
 class Reader(HTMLParser):
     """Checks that elements close in order, and keeps what a page refers to."""
 
@@ -255,7 +276,9 @@ def test_a_page_stands_alone(path, tmp_path):
     assert "http:" not in text and "https:" not in text and "url(" not in text
     seen = view(path)
     heads, drained_rows = 4, len(seen.links)
-    assert reader.rows == heads + drained_rows + len(seen.links) + len(seen.groups) + len(list(seen.tasks()))
+    assert reader.rows == heads + drained_rows + len(seen.links) + len(seen.groups) + len(
+        list(seen.tasks())
+    )
     for link in seen.links:
         assert text.count(f'data-link="{link.name}"') >= 2
 
@@ -284,6 +307,15 @@ def test_a_picture_is_svg_with_all_links(path):
     assert sorted(filter(None, names)) == sorted(link.name for link in view(path).links)
 
 
+@pytest.mark.parametrize("path", DOCUMENTS, ids=lambda path: path.stem)
+def test_the_picture_of_an_example_is_of_its_table(path):
+    kept = path.with_suffix(".svg").read_text()
+    drawn = run("page", path, "--picture").out
+    titles, labels = r"<title>(.*?)</title>", r'<text class="load [^>]*>(.*?)<'
+    for part in (titles, labels):
+        assert sorted(re.findall(part, kept)) == sorted(re.findall(part, drawn))
+
+
 def test_a_picture_is_the_same_each_time():
     assert run("page", MAINTENANCE, "--picture").out == run("page", MAINTENANCE, "--picture").out
 
@@ -302,29 +334,37 @@ def test_drains_of_another_document_are_refused(tmp_path):
 
 
 def test_a_page_that_cannot_be_written_gets_a_sentence(tmp_path):
-    assert "cannot be written" in fails("page", MAINTENANCE, "-o", tmp_path / "absent" / "page.html")
+    assert "cannot be written" in fails(
+        "page", MAINTENANCE, "-o", tmp_path / "absent" / "page.html"
+    )
 
 
 # ---- bad documents and programs
 
+
 @pytest.mark.parametrize("command", ["explain", "whatif", "page"])
 @pytest.mark.parametrize("change", [{"top": 0}, {"links": 7}, {"version": 9}])
 def test_a_document_of_another_shape_gets_a_sentence(command, change, tmp_path):
-    assert "lint" in fails(command, changed(MAINTENANCE, tmp_path, lambda whole: whole.update(change)))
+    assert "lint" in fails(
+        command, changed(MAINTENANCE, tmp_path, lambda whole: whole.update(change))
+    )
 
 
 @pytest.mark.parametrize("command", ["explain", "whatif", "page"])
 def test_no_document_gets_a_sentence(command, tmp_path):
     (tmp_path / "words").write_text("hello\n")
     assert "is not JSON" in fails(command, tmp_path / "words")
-    assert "is no document" in fails(command, "-", given=b"{}")
+    assert "refused 2 shape at /" in fails(command, "-", given=b"{}")
     assert "No such file" in fails(command, tmp_path / "absent.json")
 
 
 @pytest.mark.parametrize(
     "script, sentence",
     [
-        ("cat > /dev/null; echo refused 4 range at /top; exit 3", "refuses {}: refused 4 range at /top ("),
+        (
+            "cat > /dev/null; echo refused 4 range at /top; exit 3",
+            "refuses {}: refused 4 range at /top (",
+        ),
         ("cat > /dev/null; exit 6", "too little memory"),
         ("cat > /dev/null; exit 2", "does not know the line `bwe levels 1000000000`"),
         ("cat > /dev/null; exit 99", "status 99"),
@@ -339,3 +379,12 @@ def test_each_status_of_the_program_has_a_sentence(script, sentence, tmp_path, m
 def test_a_program_that_is_not_there_gets_a_sentence(tmp_path, monkeypatch):
     monkeypatch.setenv("BWE", str(tmp_path / "absent"))
     assert "no program that can be run" in fails("explain", SHARED_LINK)
+
+
+def test_a_map_keeps_its_sites_apart_and_goes_to_the_right():
+    ends = [("a", "b"), ("b", "c"), ("c", "d"), ("d", "a"), ("a", "c"), ("e", "f")]
+    spots = positions(list("abcdefg"), ends)
+    assert sorted(spots) == list("abcdefg")
+    places = list(spots.values())
+    assert min(math.dist(p, q) for at, p in enumerate(places) for q in places[:at]) > 0.4
+    assert spots["e"][0] < spots["f"][0]

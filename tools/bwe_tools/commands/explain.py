@@ -32,7 +32,8 @@ def command(document: str, table: str | None) -> None:
 
 def _page(view: View) -> Iterator[str]:
     asks = sum(group.asks for group in view.groups)
-    yield f"{rate(view.total)} of {rate(asks)} asked ({percent(view.total, asks)}), after {view.reports} reports"
+    part = percent(view.total, asks)
+    yield f"{rate(view.total)} of {rate(asks)} asked ({part}), after {view.reports} reports"
     yield ""
     yield from _links(view.links)
     yield ""
@@ -62,9 +63,14 @@ def _links(links: list[LinkView]) -> list[str]:
 
 def _group(group: GroupView) -> Iterator[str]:
     yield f"group {group.name}, {group.source} -> {group.target}"
-    below = "" if group.demand == group.asks else f" (its tasks want {rate(group.demand)}, its functions allow that)"
+    below = (
+        ""
+        if group.demand == group.asks
+        else f" (its tasks want {rate(group.demand)}, its functions allow that)"
+    )
     yield f"  asks  {rate(group.asks)}{below}"
-    yield f"  gets  {rate(group.amount)}, {percent(group.amount, group.asks)}, at share {group.share}"
+    part = percent(group.amount, group.asks)
+    yield f"  gets  {rate(group.amount)}, {part}, at share {group.share}"
     for place, part in enumerate(group.path_groups):
         yield f"  path group {place}: {rate(part.amount)} by {_paths(part)}, {_state(part, group)}"
 

@@ -6,8 +6,8 @@ import sys
 
 import click
 
-from bwe_tools import advice, json_text, rules, shape
-from bwe_tools.document import MOST_BYTES, of_raw, read_bytes
+from bwe_tools import advice, json_text
+from bwe_tools.document import MOST_BYTES, first_fault, of_raw, read_bytes
 
 MOST_OF_A_KIND = 5
 
@@ -35,7 +35,7 @@ def command(file, is_all):
     except json_text.NotJson as fault:
         where = json_text.position(data.decode("utf-8", "replace"), fault.offset)
         fault_line(file, where, str(fault), None, "refused 1 not json")
-    fault = shape.first_fault(raw) or rules.first_fault(raw)
+    fault = first_fault(raw)
     if fault is not None:
         place = fault.place if fault.key is None else (*fault.place, fault.key)
         where = json_text.position(text, json_text.offset_of(text, place, fault.key is not None))

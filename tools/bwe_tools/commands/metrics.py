@@ -17,7 +17,9 @@ Samples = list[tuple[dict[str, str], int]]
 
 @click.command()
 @click.argument("table", default="-")
-@click.option("--document", help="The table's document: adds capacities, demands and what groups ask.")
+@click.option(
+    "--document", help="The table's document: adds capacities, demands and what groups ask."
+)
 def command(table: str, document: str | None) -> None:
     """Write TABLE, the text that `bwe solve` writes, as metrics in the text format of Prometheus.
 
@@ -51,7 +53,9 @@ def _bits(kilobits: int) -> int:
 def _of_table(table: Table) -> Iterator[tuple[str, str, Samples]]:
     closed = table.share_of_closing()
     yield "bwe_reports", "Reports that the table covers.", [({}, table.reports)]
-    yield "bwe_total_bits_per_second", "Sum of the amounts of all groups.", [({}, _bits(table.total))]
+    yield "bwe_total_bits_per_second", "Sum of the amounts of all groups.", [
+        ({}, _bits(table.total))
+    ]
     yield (
         "bwe_link_load_bits_per_second",
         "Load that all amounts put on a link.",

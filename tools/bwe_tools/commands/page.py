@@ -64,7 +64,9 @@ def _read_drains(name: str, view: View) -> list[Drain]:
         drains = drains_from_json(whole)
         known = {link.name for link in view.links}
         if whole["total"] != view.total or not all(known.issuperset(one.links) for one in drains):
-            raise ToolError(f"{named(name)} is of another document: make it again by `whatif --json`")
+            raise ToolError(
+                f"{named(name)} is of another document: make it again by `whatif --json`"
+            )
         return drains
     except (ValueError, KeyError, TypeError, RecursionError):
         raise ToolError(f"{named(name)} is not what `bwe-tools whatif --json` writes") from None

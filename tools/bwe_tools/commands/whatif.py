@@ -21,7 +21,9 @@ from bwe_tools.table import Table
 @click.option("--two-ways", "both", is_flag=True, help="Drain a link together with its link back.")
 @click.option("--together", is_flag=True, help="Drain all LINKS at once, as one drain.")
 @click.option("--json", "as_json", is_flag=True, help="Write JSON, which `page --whatif` reads.")
-def command(document: str, links: tuple[str, ...], both: bool, together: bool, as_json: bool) -> None:
+def command(
+    document: str, links: tuple[str, ...], both: bool, together: bool, as_json: bool
+) -> None:
     """Drain every link of DOCUMENT in turn, or LINKS, and write what each drain costs.
 
     A drain is one more report of capacity 0 by the link's owner. A link that nobody can report
@@ -68,7 +70,14 @@ def _page(before: Table, drains: list[Drain]) -> list[str]:
         ]
         for drain in sorted(drains, key=lambda drain: -drain.lost)
     ]
-    heads = ["drained", "carried", "total after", "change", "groups with nothing", "tasks that lose a tenth"]
+    heads = [
+        "drained",
+        "carried",
+        "total after",
+        "change",
+        "groups with nothing",
+        "tasks that lose a tenth",
+    ]
     return [f"total without a drain: {rate(before.total)}", "", *columns(heads, rows, {1, 2, 3})]
 
 
