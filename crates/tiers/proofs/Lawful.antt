@@ -1,16 +1,16 @@
 -- The laws of a table of tiers: each tier's filling obeys them, over what the lower tiers left.
-use Rattle.std.proofs.Common.{◌≡◌, ℕ, zero, suc, ◌+◌, ◌-◌, ◌<◌, ◌≤◌, Bool, true, false, ◌&&◌, ◌==◌, nat_lt, List, [], ◌∷◌, length, map, flat_map, zip, reverse, get_or, slice_index, slice_index_or, None, if◌then◌else◌, refl, sym, ap, ap₂, ◌∙◌, subst, arith, zero-add, add-zero, le_refl, lt-ltb, eq-eqb}
+use Rattle.std.proofs.Common.{◌≡◌, ℕ, zero, suc, ◌+◌, ◌-◌, ◌<◌, ◌≤◌, Bool, true, false, ◌&&◌, List, [], ◌∷◌, length, map, flat_map, zip, reverse, slice_index, slice_index_or, None, if◌then◌else◌, refl, sym, ap, ap₂, ◌∙◌, subst, arith, zero-add, add-zero, lt-ltb, eq-eqb}
 use Rattle.std.specs.List.{Contains}
 use Rattle.std.proofs.lemmas.List.{reverse-reverse}
 use Rattle.std.proofs.lemmas.List.FromFn.{length-map-range_with_len, get_or-map-range_with_len}
 use Rattle.bwe_specs.specs.declared.network.Closing.{Closing}
 use Rattle.bwe_specs.specs.Bounded.{sum_below}
-use Rattle.bwe_specs.specs.Paths.{path_group_at, path_group_count, link_load, uses}
-use Rattle.bwe_specs.specs.Filling.{Wan, State, filling, group_amount, current_path_group_of}
+use Rattle.bwe_specs.specs.Paths.{link_load}
+use Rattle.bwe_specs.specs.Filling.{Wan, filling, group_amount, current_path_group_of}
 use Rattle.bwe_specs.specs.RightClosings.{amounts_at}
 use Rattle.bwe_specs.specs.Reports.{numbers}
 use Rattle.bwe_specs.specs.Tree.{Cluster, cluster_limits}
-use Rattle.bwe_specs.specs.Values.{AreValues, NeverFalls}
+use Rattle.bwe_specs.specs.Values.{NeverFalls}
 use Rattle.bwe_specs.specs.Allocation.{GroupLine, group_line}
 use Rattle.policy_tree.specs.Trees.{Tree, IsTree, demand_in, value_in}
 use Rattle.table_laws.specs.Tasks.{AreAskedFor}
@@ -20,9 +20,9 @@ use Rattle.table_laws.proofs.Asked.{clusters-asked}
 use Rattle.table_laws.proofs.Shared.{shared-alike, line-at, in-groups, some-path_group}
 use Rattle.table_laws.proofs.Walks.{numbered}
 use Rattle.table_laws.proofs.Wasted.{without-waste, right}
-use Rattle.tiers.specs.Tiered.{Tiered, is_in_tier, value_in_tier, free_under, amounts_below, wan_of_tier, filling_of_tier, tier_closings, tier_count, tiered_amounts, tiered_line, tiered_of}
+use Rattle.tiers.specs.Tiered.{Tiered, is_in_tier, amounts_below, wan_of_tier, filling_of_tier, tier_closings, tier_count, tiered_amounts, tiered_line, tiered_of}
 use Rattle.tiers.specs.Laws.{line_at}
-use Rattle.tiers.specs.TierLaws.{IsNoMoreThanAsked, IsShared, IsUnwasted, closings_in}
+use Rattle.tiers.specs.TierLaws.{IsShared, IsUnwasted, closings_in}
 use Rattle.tiers.proofs.Tiers.{tier-counted, free-at, length-free, tier-never, own-at_most, load-more, below-fits, own-load}
 
 module _ (wan : Wan) (tiers : List ℕ) (never : NeverFalls wan) (starts : (group : ℕ) → wan.value group 0 ≡ 0)
