@@ -18,9 +18,19 @@ PLAIN_KEYS = ("capacity", "bandwidth", "speed")
 
 @click.command()
 @click.argument("file")
-@click.option("--demands", metavar="CSV", help="A spreadsheet of demands with the columns of from-csv.")
-@click.option("--unit", type=click.Choice(["b", "k", "M", "G", "T"]), default="k", show_default=True,
-              help="What a number without a unit counts, in CSV and in edges that are not the Zoo's: bit/s to Tbit/s.")
+@click.option(
+    "--demands", metavar="CSV", help="A spreadsheet of demands with the columns of from-csv."
+)
+@click.option(
+    "--unit",
+    type=click.Choice(["b", "k", "M", "G", "T"]),
+    default="k",
+    show_default=True,
+    help=(
+        "What a number without a unit counts, in CSV and in edges that are not the Zoo's: bit/s to"
+        " Tbit/s."
+    ),
+)
 @convert.options
 def command(file, demands, unit, choices, map_file):
     """Make a document of a GraphML file and write it to standard output.
