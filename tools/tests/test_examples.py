@@ -1,6 +1,7 @@
 """The examples are what their generators and the converters write, and lint finds no fault in them.
 """
 
+import json
 import os
 import re
 import subprocess
@@ -8,8 +9,9 @@ import sys
 
 import pytest
 
+from bwe_tools import shape
 from bwe_tools.program import find_program
-from tool_runs import EXAMPLES, ROOT, needs_program, run
+from tool_runs import EXAMPLES, ROOT, has_program, needs_program, run
 
 DOCUMENTS = sorted(EXAMPLES.glob("*.json"))
 PAGES = sorted(EXAMPLES.glob("*.md"))
@@ -63,6 +65,23 @@ def test_files_that_a_page_of_examples_names_are_there(path):
         r"`([a-z0-9-]+\.(?:json|txt|csv|py|graphml|tiers|samples|events))`", path.read_text()
     ):
         assert (EXAMPLES / name).exists(), name
+
+
+# ---- the document that FORMAT explains
+
+
+def test_the_document_of_the_format_is_accepted_and_its_table_is_right():
+    section = (ROOT / "docs" / "FORMAT.md").read_text().split("### A whole document")[1]
+    document, table = section.split("```\n")[1:4:2]
+    data = re.sub(r" +# .*", "", document).encode()
+    answer = run("lint", given=data)
+    assert answer.status == 1 and " fault: " not in answer.out
+    keys = set(re.findall(r'"(\w+)":', shape.SCHEMA.read_text().split('"$defs"')[0]))
+    assert {key for key in json.loads(data)} <= keys
+    if has_program():
+        for line, wanted in (("solve", table), ("check", "right\n")):
+            told = subprocess.run([find_program(), line], input=data, capture_output=True, check=True)
+            assert told.stdout.decode() == wanted
 
 
 # ---- from a GraphML file to a page, by the launchers and a shell
