@@ -9,7 +9,7 @@ from bwe_tools.document import Document
 
 
 @dataclass(frozen=True)
-class Warning:
+class Advice:
     place: tuple
     sentence: str
 
@@ -26,7 +26,7 @@ def unreported_tasks(document: Document):
                             f"task \"{task.name}\" has no report, so its demand is 0 and it gets"
                             " nothing"
                         )
-                        yield Warning((*place, at), sentence)
+                        yield Advice((*place, at), sentence)
 
 
 def unused_links(document: Document):
@@ -39,7 +39,7 @@ def unused_links(document: Document):
     }
     for at, link in enumerate(document.links):
         if link.name not in used:
-            yield Warning(("links", at), f"link \"{link.name}\" is in no path")
+            yield Advice(("links", at), f"link \"{link.name}\" is in no path")
 
 
 def links_of(paths) -> set:
@@ -53,7 +53,7 @@ def path_groups(document: Document):
     for at, group in enumerate(document.groups):
         place, links = ("groups", at, "paths"), [links_of(paths) for paths in group.paths]
         if len(links) == 1:
-            yield Warning(
+            yield Advice(
                 place,
                 (
                     f"group \"{group.name}\" has one path group: where a link of it closes, it gets"
@@ -65,7 +65,7 @@ def path_groups(document: Document):
                 f"all path groups of group \"{group.name}\" fall together where"
                 f" {named(common)} closes"
             )
-            yield Warning(place, sentence)
+            yield Advice(place, sentence)
         for number, paths in enumerate(group.paths):
             alone = [any(other <= set(path.links) for other in links) for path in paths]
             if len(paths) > 1 and not all(alone):
@@ -73,7 +73,7 @@ def path_groups(document: Document):
                     f"path group {number} of group \"{group.name}\" falls whole with any of its"
                     f" links, and its path {alone.index(False)} is no path group by itself"
                 )
-                yield Warning((*place, number), sentence)
+                yield Advice((*place, number), sentence)
 
 
 def named(links) -> str:
@@ -125,7 +125,7 @@ def misspelt_sites(document: Document):
             if is_same or (is_end and is_one_slip(site.lower(), other.lower())):
                 wrong = few if is_end else site
                 right = other if wrong == site else site
-                yield Warning(
+                yield Advice(
                     first_use[wrong], f"site \"{wrong}\" looks like a misspelt \"{right}\""
                 )
 

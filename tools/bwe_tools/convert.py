@@ -7,6 +7,7 @@ from __future__ import annotations
 import json
 from collections import Counter
 from dataclasses import dataclass
+from functools import wraps
 from itertools import permutations
 from pathlib import Path
 
@@ -36,108 +37,101 @@ class Choices:
     is_one_way: bool
 
 
+def rate_option(_, option, value):
+    return rate(value, f"--{option.name}")
+
+
+OPTIONS = [
+    click.option(
+        "--capacity",
+        default="10G",
+        callback=rate_option,
+        show_default=True,
+        help="Capacity of a link for which the file has none.",
+    ),
+    click.option(
+        "--demand",
+        default="1G",
+        callback=rate_option,
+        show_default=True,
+        help="Demand of each pair of sites where no demands are given.",
+    ),
+    click.option(
+        "--busiest",
+        type=click.IntRange(2, 32),
+        metavar="N",
+        help="Where no demands are given: only pairs of the N sites with the most capacity.",
+    ),
+    click.option(
+        "--paths",
+        default=3,
+        type=click.IntRange(1, 16),
+        show_default=True,
+        help="Shortest paths of a pair, at most.",
+    ),
+    click.option(
+        "--together",
+        "is_together",
+        is_flag=True,
+        help=(
+            "One path group of all paths of a pair, weighted by their narrowest links. It"
+            " falls whole where one of its links closes; without this each path is a group"
+            " of its own."
+        ),
+    ),
+    click.option(
+        "--by",
+        type=click.Choice(["hops", "length"]),
+        default="hops",
+        show_default=True,
+        help="What makes a path short: few links, or little length.",
+    ),
+    click.option(
+        "--fairness",
+        type=click.Choice(["equal", "proportional"]),
+        default="equal",
+        show_default=True,
+        help="Tasks get the same rate at a share, or the same part of their demand.",
+    ),
+    click.option(
+        "--top",
+        default=1_000_000,
+        type=click.IntRange(1, rules.MOST_SHARE),
+        show_default=True,
+        help="The document's greatest share.",
+    ),
+    click.option(
+        "--one-way",
+        "is_one_way",
+        is_flag=True,
+        help="Links go only the way in which the file has them.",
+    ),
+    click.option(
+        "--map",
+        "map_file",
+        type=click.Path(dir_okay=False),
+        help="Write which name of the document stands for what in the file, as JSON.",
+    ),
+]
+
+
 def options(command):
     """The options that all converters have; the command gets them as its `choices`, and the name of
     the map's file.
     """
-
-    def rate_option(_, option, value):
-        return rate(value, f"--{option.name}")
-
-    for option in reversed(
-        [
-            click.option(
-                "--capacity",
-                default="10G",
-                callback=rate_option,
-                show_default=True,
-                help="Capacity of a link for which the file has none.",
-            ),
-            click.option(
-                "--demand",
-                default="1G",
-                callback=rate_option,
-                show_default=True,
-                help="Demand of each pair of sites where no demands are given.",
-            ),
-            click.option(
-                "--busiest",
-                type=click.IntRange(2, 32),
-                metavar="N",
-                help=(
-                    "Where no demands are given: only pairs of the N sites with the most capacity."
-                ),
-            ),
-            click.option(
-                "--paths",
-                default=3,
-                type=click.IntRange(1, 16),
-                show_default=True,
-                help="Shortest paths of a pair, at most.",
-            ),
-            click.option(
-                "--together",
-                "is_together",
-                is_flag=True,
-                help=(
-                    "One path group of all paths of a pair, weighted by their narrowest links. It"
-                    " falls whole where one of its links closes; without this each path is a group"
-                    " of its own."
-                ),
-            ),
-            click.option(
-                "--by",
-                type=click.Choice(["hops", "length"]),
-                default="hops",
-                show_default=True,
-                help="What makes a path short: few links, or little length.",
-            ),
-            click.option(
-                "--fairness",
-                type=click.Choice(["equal", "proportional"]),
-                default="equal",
-                show_default=True,
-                help="Tasks get the same rate at a share, or the same part of their demand.",
-            ),
-            click.option(
-                "--top",
-                default=1_000_000,
-                type=click.IntRange(1, rules.MOST_SHARE),
-                show_default=True,
-                help="The document's greatest share.",
-            ),
-            click.option(
-                "--one-way",
-                "is_one_way",
-                is_flag=True,
-                help="Links go only the way in which the file has them.",
-            ),
-            click.option(
-                "--map",
-                "map_file",
-                type=click.Path(dir_okay=False),
-                help="Write which name of the document stands for what in the file, as JSON.",
-            ),
-        ]
-    ):
+    for option in reversed(OPTIONS):
         command = option(command)
 
+    @wraps(command)
     def with_choices(map_file, **words):
-        own = {
-            name: words.pop(name)
-            for name in list(words)
-            if name not in Choices.__dataclass_fields__
-        }
-        return callback(choices=Choices(**words), map_file=map_file, **own)
+        chosen = {name: words.pop(name) for name in Choices.__dataclass_fields__}
+        return command(choices=Choices(**chosen), map_file=map_file, **words)
 
-    callback, with_choices.__doc__ = command, command.__doc__
-    with_choices.__click_params__ = command.__click_params__
     return with_choices
 
 
 def directed(network: Network, is_one_way: bool):
-    """The links of a document: each line, and its reverse where the file has no line that way back.
-    """
+    """The links of a document: each line, and its reverse where the file has no line back."""
     ends = Counter((line.source, line.target) for line in network.lines)
     for line in network.lines:
         yield line, line.source, line.target

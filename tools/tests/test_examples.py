@@ -70,17 +70,35 @@ def test_files_that_a_page_of_examples_names_are_there(path):
 # ---- the document that FORMAT explains
 
 
+def keys_of(value):
+    """All keys of the objects of a document."""
+    members = (
+        value.values() if isinstance(value, dict) else value if isinstance(value, list) else []
+    )
+    return set(value if isinstance(value, dict) else ()).union(*map(keys_of, members))
+
+
+def properties_of(schema):
+    """All keys that a schema has a rule for."""
+    members = (
+        schema.values() if isinstance(schema, dict) else schema if isinstance(schema, list) else []
+    )
+    own = schema.get("properties", {}) if isinstance(schema, dict) else {}
+    return set(own).union(*map(properties_of, members))
+
+
 def test_the_document_of_the_format_is_accepted_and_its_table_is_right():
     section = (ROOT / "docs" / "FORMAT.md").read_text().split("### A whole document")[1]
     document, table = section.split("```\n")[1:4:2]
     data = re.sub(r" +# .*", "", document).encode()
     answer = run("lint", given=data)
     assert answer.status == 1 and " fault: " not in answer.out
-    keys = set(re.findall(r'"(\w+)":', shape.SCHEMA.read_text().split('"$defs"')[0]))
-    assert {key for key in json.loads(data)} <= keys
+    assert keys_of(json.loads(data)) == properties_of(json.loads(shape.SCHEMA.read_text()))
     if has_program():
         for line, wanted in (("solve", table), ("check", "right\n")):
-            told = subprocess.run([find_program(), line], input=data, capture_output=True, check=True)
+            told = subprocess.run(
+                [find_program(), line], input=data, capture_output=True, check=True
+            )
             assert told.stdout.decode() == wanted
 
 
