@@ -307,7 +307,10 @@ class Conversion:
                 " demand"
             )
         click.echo(
-            f"bwe-tools: {len(pairs)} pairs without a path are left out, as {source} to {target}",
+            (
+                f"bwe-tools: {len(pairs)} pairs without a path of at most 32 links are left out, as"
+                f" {source} to {target}"
+            ),
             err=True,
         )
 

@@ -225,7 +225,7 @@ def test_a_directed_file_gets_the_reverse_that_it_lacks(tmp_path):
     ]
     one_way = run("from-graphml", path, "--one-way")
     assert sorted(ends(json.loads(one_way.out))) == [("a", "b"), ("b", "a"), ("b", "c")]
-    assert "2 pairs without a path are left out" in one_way.err
+    assert "2 pairs without a path of at most 32 links are left out" in one_way.err
 
 
 def test_paths_together_are_one_group_weighted_by_their_narrowest_links(tmp_path):
@@ -263,7 +263,10 @@ def test_pairs_without_a_path_are_left_out_and_told(tmp_path):
     path = graphml(networkx.Graph([("a", "b"), ("c", "d")]), tmp_path / "two")
     answer = run("from-graphml", path)
     assert answer.status == 0 and len(json.loads(answer.out)["groups"]) == 4
-    assert answer.err == "bwe-tools: 8 pairs without a path are left out, as a to c\n"
+    assert (
+        answer.err
+        == "bwe-tools: 8 pairs without a path of at most 32 links are left out, as a to c\n"
+    )
 
 
 @pytest.mark.parametrize(
@@ -272,6 +275,7 @@ def test_pairs_without_a_path_are_left_out_and_told(tmp_path):
         ("", "is not XML"),
         ("<graphml", "is not XML"),
         ("<html/>", "is no GraphML that networkx reads"),
+        ('<?xml version="1.0" encoding="none"?><graphml/>', "is no GraphML that networkx reads"),
         (
             (
                 '<graphml xmlns="http://graphml.graphdrawing.org/xmlns"><graph'

@@ -4,6 +4,7 @@ from __future__ import annotations
 
 import re
 from decimal import Decimal, InvalidOperation
+from math import isfinite
 from xml.etree import ElementTree
 
 import click
@@ -73,6 +74,8 @@ class Reader:
     def place(self, key: str, east: str, north: str):
         try:
             self.network.places[key] = float(east), float(north)
+            if not all(map(isfinite, self.network.places[key])):
+                raise ValueError
         except ValueError:
             raise ToolError(
                 f"{self.path}: node \"{key}\": its coordinates are no numbers"
