@@ -4,8 +4,8 @@ use Rattle.std.specs.Prelude.{nat_le}
 use Rattle.std.proofs.lemmas.List.Elements.{All-cons, All-head, All-nil, All-tail}
 use Rattle.std.proofs.lemmas.Bool.{and_from, and_parts, eq-eqb, eqb-true, leb-true, le-leb, lt-ltb, ltb-true}
 use Rattle.bwe_specs.specs.declared.report.Report.{Report}
-use Rattle.crew_actors.specs.declared.log.ReadLine.{ReadLine}
-use Rattle.crew_actors.specs.Lines.{NeverGoBack}
+use Rattle.crew_log.specs.declared.log.ReadLine.{ReadLine}
+use Rattle.crew_log.specs.Lines.{NeverGoBack}
 use Rattle.run_audit.specs.Words.{words_of}
 use Rattle.run_audit.specs.Forms.{LineNames, shown_of}
 use Rattle.run_audit.specs.History.{total_of}

@@ -9,11 +9,11 @@ use Rattle.bwe_specs.specs.Reports.{reports_of}
 use Rattle.board_core.specs.Core.{IsAllowed}
 use Rattle.demand_book.specs.Fit.{IsFit}
 use Rattle.limit_table.specs.Tables.{total_of as table_total}
-use Rattle.crew_actors.specs.declared.log.ReadLine.{ReadLine}
-use Rattle.crew_actors.specs.declared.log.ReaderLog.{ReaderLog}
-use Rattle.crew_actors.specs.declared.log.CrewLog.{CrewLog}
-use Rattle.crew_actors.specs.Lines.{IsLineOf, NeverGoBack}
-use Rattle.crew_actors.specs.LegalCrewLog.{IsReaderOf, lines_of as reader_lines_of}
+use Rattle.crew_log.specs.declared.log.ReadLine.{ReadLine}
+use Rattle.crew_log.specs.declared.log.ReaderLog.{ReaderLog}
+use Rattle.crew_log.specs.declared.log.CrewLog.{CrewLog}
+use Rattle.crew_log.specs.Lines.{IsLineOf, NeverGoBack}
+use Rattle.crew_log.specs.LegalCrewLog.{IsReaderOf, lines_of as reader_lines_of}
 use Rattle.table_text.specs.TableText.{text_of}
 use Rattle.run_text.specs.RunText.{RunNames}
 use Rattle.run_audit.specs.History.{scripts_of}

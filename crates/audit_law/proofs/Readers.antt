@@ -4,7 +4,7 @@ use Rattle.std.proofs.lemmas.List.Elements.{All-cons, All-head, All-nil, All-tai
 use Rattle.std.proofs.lemmas.Bool.{and_from, and_parts, eq-eqb, eqb-true, lt-ltb, ltb-true}
 use Rattle.bwe_specs.specs.declared.limits.TheConstants.{MAX_READERS}
 use Rattle.bwe_specs.specs.declared.report.Report.{Report}
-use Rattle.crew_actors.specs.declared.log.ReadLine.{ReadLine}
+use Rattle.crew_log.specs.declared.log.ReadLine.{ReadLine}
 use Rattle.run_audit.specs.Words.{words_of}
 use Rattle.run_audit.specs.Forms.{LineNames, reader_of}
 use Rattle.run_audit.specs.History.{total_of}

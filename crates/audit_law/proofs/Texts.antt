@@ -6,9 +6,9 @@ use Rattle.bwe_specs.specs.declared.report.Target.{Target}
 use Rattle.bwe_specs.specs.declared.report.Target.TheVariants.{Task, Link}
 use Rattle.bwe_specs.specs.declared.report.Report.{Report}
 use Rattle.bwe_specs.specs.Allocation.{Table}
-use Rattle.crew_actors.specs.declared.log.ReadLine.{ReadLine}
-use Rattle.crew_actors.specs.declared.log.ReaderLog.{ReaderLog}
-use Rattle.crew_actors.specs.declared.log.CrewLog.{CrewLog}
+use Rattle.crew_log.specs.declared.log.ReadLine.{ReadLine}
+use Rattle.crew_log.specs.declared.log.ReaderLog.{ReaderLog}
+use Rattle.crew_log.specs.declared.log.CrewLog.{CrewLog}
 use Rattle.table_text.specs.TableText.{text_of}
 use Rattle.run_text.specs.RunText.{RunNames, beyond_line, final_line as final_text, numbered, read_line as read_text, reader_lines as reader_text, report_line as report_text, report_word, run_text_of, sent_line as sent_text, target_name}
 use Rattle.audit_law.specs.ClosedRun.{line_names}

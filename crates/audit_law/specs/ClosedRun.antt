@@ -8,8 +8,8 @@ use Rattle.bwe_specs.specs.Allocation.{Table}
 use Rattle.bwe_specs.specs.Reports.{reports_of}
 use Rattle.demand_book.specs.Fit.{IsFit}
 use Rattle.limit_table.specs.Tables.{total_of as table_total}
-use Rattle.crew_actors.specs.declared.log.CrewLog.{CrewLog}
-use Rattle.crew_actors.specs.LegalCrewLog.{IsLegalCrewLog}
+use Rattle.crew_log.specs.declared.log.CrewLog.{CrewLog}
+use Rattle.crew_log.specs.LegalCrewLog.{IsLegalCrewLog}
 use Rattle.run_text.specs.RunText.{RunNames, run_text_of}
 use Rattle.run_audit.specs.Forms.{LineNames}
 use Rattle.run_audit.specs.History.{scripts_of, total_of}

@@ -4,7 +4,7 @@ use Rattle.std.proofs.lemmas.List.{length-map}
 use Rattle.bwe_specs.specs.Tree.{Cluster}
 use Rattle.bwe_specs.specs.Paths.{PathGroups}
 use Rattle.bwe_specs.specs.Allocation.{Plan, Table}
-use Rattle.crew_actors.specs.declared.log.CrewLog.{CrewLog}
+use Rattle.crew_log.specs.declared.log.CrewLog.{CrewLog}
 use Rattle.one_run.specs.Endings.{Reply}
 use Rattle.plan_doc.specs.declared.document.Document.{Document}
 use Rattle.plan_doc.specs.Accepted.{IsDocumentOf}

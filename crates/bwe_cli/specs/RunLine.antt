@@ -1,7 +1,7 @@
 -- The line `run`, and what its input may get.
 use Rattle.std.specs.Prelude.{◌≡◌, ℕ, List, length, Result, Ok, Err}
 use Rattle.bwe_specs.specs.Allocation.{Table}
-use Rattle.crew_actors.specs.declared.log.CrewLog.{CrewLog}
+use Rattle.crew_log.specs.declared.log.CrewLog.{CrewLog}
 use Rattle.one_run.specs.Endings.{Reply}
 use Rattle.plan_doc.specs.Document.{Accepted, document}
 use Rattle.plan_doc.specs.Names.{NameLists}

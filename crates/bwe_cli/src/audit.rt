@@ -51,14 +51,14 @@ fn audit_document(
         ≡ audit_reply (names_view document.names) (plan_in document) document.script.items text.now) }
 {
     match read_document(alloc, input) {
-        Ok(again) => audit_by(alloc, document, allocator_of(alloc, again), text),
+        Ok(again) => audit_by(alloc, document, allocator_of(again), text),
         // It was accepted, so that only memory can be wanting.
         Err(_) => Err(OutOfMemory),
     }
 }
 
 // The allocator of a document, which has taken in nothing yet.
-fn allocator_of(alloc: Global, document: Document) -> Allocator
+fn allocator_of(document: Document) -> Allocator
     requires { IsUsable document }
     ensures plan { ⟦<Allocator as Maker>⟧.plan result ≡ plan_in document }
     ensures first { ⟦<Allocator as Maker>⟧.absorbed result [] }
@@ -69,7 +69,7 @@ fn allocator_of(alloc: Global, document: Document) -> Allocator
         plan,
         ..
     } = document;
-    Allocator::new(alloc, tree, topology, plan)
+    Allocator::new(tree, topology, plan)
 }
 
 // The verdict on the text, by a new allocator of the document's plan.

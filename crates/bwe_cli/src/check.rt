@@ -42,7 +42,7 @@ fn check_document(alloc: Global, document: Document) -> Result<Answer, OutOfMemo
         names,
         ..
     } = document;
-    let allocator = Allocator::new(alloc, tree, topology, plan);
+    let allocator = Allocator::new(tree, topology, plan);
     let allocator = after_script(alloc, allocator, &script)?;
     let (values, plan) = (allocator.values(), allocator.plan());
     let verdict = bottleneck_cert::check(alloc, &values, allocator.topology(), plan, &closings)?;

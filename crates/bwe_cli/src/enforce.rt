@@ -67,7 +67,7 @@ fn play(
         task_owners,
         ..
     } = document;
-    let maker = Allocator::new(alloc, tree, topology, plan);
+    let maker = Allocator::new(tree, topology, plan);
     // Who asks a maker for its number of tasks learns that they can be numbered.
     let _tasks = maker.tasks();
     Ok(Answer {

@@ -93,7 +93,7 @@ fn allocator_after(alloc: Global, document: Document) -> Result<(Allocator, Name
         names,
         ..
     } = document;
-    let allocator = Allocator::new(alloc, tree, topology, plan);
+    let allocator = Allocator::new(tree, topology, plan);
     let allocator = after_script(alloc, allocator, &script)?;
     Ok((allocator, names))
 }

@@ -58,7 +58,7 @@ pub(crate) fn table_of(
         names,
         ..
     } = document;
-    let allocator = Allocator::new(alloc, tree, topology, plan);
+    let allocator = Allocator::new(tree, topology, plan);
     let mut allocator = after_script(alloc, allocator, &script)?;
     let table = allocator.table(alloc)?;
     Ok((table, names))

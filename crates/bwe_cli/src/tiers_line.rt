@@ -58,7 +58,7 @@ fn fill(alloc: Global, document: Document, tiers: &[u8]) -> Result<Answer, OutOf
         names,
         ..
     } = document;
-    let allocator = Allocator::new(alloc, tree, topology, plan);
+    let allocator = Allocator::new(tree, topology, plan);
     let allocator = after_script(alloc, allocator, &script)?;
     let (tree, topology, plan) = allocator.into_parts();
     let prefix = script.len() as u64;

@@ -7,7 +7,7 @@ use Rattle.bwe_specs.specs.declared.report.Report.{Report}
 use Rattle.board.specs.Reporting.{Reporting}
 use Rattle.board.specs.Reading.{Reading}
 use Rattle.board.specs.declared.refusal.ReportError.{ReportError}
-use Rattle.crew_actors.specs.declared.log.ReadLine.{ReadLine}
+use Rattle.crew_log.specs.declared.log.ReadLine.{ReadLine}
 use Rattle.crew.specs.Reporters.{HasReported}
 use Rattle.crew.specs.Readers.{HasLines}
 

@@ -17,9 +17,9 @@ use Rattle.demand_book.specs.Fit.{IsFit}
 use Rattle.board.specs.Reporting.{Reporting, AreFresh, fresh_pass}
 use Rattle.board.specs.declared.refusal.ReportError.{ReportError}
 use Rattle.board.specs.declared.refusal.ReportError.TheVariants.{Full, OutOfMemory}
-use Rattle.crew_actors.specs.declared.log.ReaderLog.{ReaderLog}
-use Rattle.crew_actors.specs.declared.log.CrewLog.{CrewLog}
-use Rattle.crew_actors.specs.LegalCrewLog.{IsReaderOf, IsLegalCrewLog}
+use Rattle.crew_log.specs.declared.log.ReaderLog.{ReaderLog}
+use Rattle.crew_log.specs.declared.log.CrewLog.{CrewLog}
+use Rattle.crew_log.specs.LegalCrewLog.{IsReaderOf, IsLegalCrewLog}
 use Rattle.crew_actors.specs.Reporters.{IsCutShort}
 use Rattle.crew.specs.Starting.{AreScripts}
 use Rattle.crew.specs.Reporters.{IsReady, AreReady, HasReported, HaveReported, scripted, sent_by}

@@ -5,9 +5,9 @@ use Rattle.std.specs.declared.alloc.Global.{Global}
 use Rattle.bwe_specs.specs.declared.OutOfMemory.{OutOfMemory}
 use Rattle.bwe_specs.specs.declared.report.Report.{Report}
 use Rattle.board.specs.Reading.{Reading}
-use Rattle.crew_actors.specs.declared.log.ReadLine.{ReadLine}
-use Rattle.crew_actors.specs.declared.log.ReaderLog.{ReaderLog}
-use Rattle.crew_actors.specs.Lines.{IsLineOf, NeverGoBack}
+use Rattle.crew_log.specs.declared.log.ReadLine.{ReadLine}
+use Rattle.crew_log.specs.declared.log.ReaderLog.{ReaderLog}
+use Rattle.crew_log.specs.Lines.{IsLineOf, NeverGoBack}
 
 -- there are so many lines, of the log that the pass has seen; none goes back; and the pass has read so often
 pub record HasLines {T : Type 0} (covers : T → ℕ) (belongs : List Report → T → Type 0) (total_of : T → ℕ) (reads : ℕ)

@@ -6,7 +6,7 @@ ghost use Rattle.bwe_specs.specs.declared.limits.TheConstants.{MAX_REPORTS};
 ghost use Rattle.board.specs.declared.refusal.ReportError.TheVariants as refusal;
 ghost use Rattle.board.specs.Reading.{IsNewReader};
 ghost use Rattle.board.specs.Reporting.{AreFresh};
-ghost use Rattle.crew_actors.specs.LegalCrewLog.{IsLegalCrewLog, IsReaderOf};
+ghost use Rattle.crew_log.specs.LegalCrewLog.{IsLegalCrewLog, IsReaderOf};
 ghost use Rattle.crew.specs.Reporters.{IsReady, AreReady, HasReported, HaveReported, scripted};
 ghost use Rattle.crew.specs.Readers.{HasLines, HaveLines, HaveEnded};
 ghost use Rattle.crew.specs.Starting.{AreScripts};
@@ -16,10 +16,8 @@ ghost use Rattle.demand_book.specs.Fit.{IsFit};
 use crate::at_once::all_at_once;
 use board::{Ack, AllocatorPass, Bases, Board, Profile, ReaderPass, ReportError, ReporterPass};
 use bwe_specs::{OutOfMemory, Report};
-use crew_actors::{
-    CrewLog, Gate, NewestAck, ReadLine, ReaderLog, make_rounds, read_lines, read_to_the_end,
-    report_and_settle,
-};
+use crew_actors::{Gate, NewestAck, make_rounds, read_lines, read_to_the_end, report_and_settle};
+use crew_log::{CrewLog, ReadLine, ReaderLog};
 use demand_book::{Maker, Posted};
 use std::alloc::Global;
 use std::mem;

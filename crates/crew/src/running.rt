@@ -2,14 +2,15 @@
 ghost use Rattle.std.specs.Prelude.{◌≡◌, ◌≤◌, [], length, IfOk};
 ghost use Rattle.bwe_specs.specs.declared.limits.TheConstants.{MAX_REPORTERS, MAX_READERS, MAX_REPORTS};
 ghost use Rattle.board.specs.Plan.{NamesTables};
-ghost use Rattle.crew_actors.specs.LegalCrewLog.{IsLegalCrewLog};
+ghost use Rattle.crew_log.specs.LegalCrewLog.{IsLegalCrewLog};
 ghost use Rattle.crew.specs.Reporters.{scripted};
 ghost use Rattle.crew.specs.Starting.{AreScripts};
 
 use crate::driving::drive;
 use board::{Bases, Opened, Profile};
 use bwe_specs::{OutOfMemory, Report};
-use crew_actors::{CrewLog, Gate};
+use crew_actors::Gate;
+use crew_log::CrewLog;
 use demand_book::{Maker, Posted};
 use std::alloc::Global;
 use std::marker::Brand;

@@ -2,7 +2,8 @@ ghost use Rattle.std.specs.Prelude.{◌≡◌, ◌≤◌};
 
 use crate::*;
 use bwe_specs::{Report, Target};
-use crew_actors::{OpenGate, ReadLine};
+use crew_actors::OpenGate;
+use crew_log::ReadLine;
 use demand_book::SmallMaker;
 use std::test::Fail;
 

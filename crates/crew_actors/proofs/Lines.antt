@@ -5,8 +5,8 @@ use Rattle.std.proofs.lemmas.List.Elements.{All-weaker}
 use Rattle.std.specs.List.{All}
 use mathlib.Core.List.{IsPrefix}
 use Rattle.bwe_specs.specs.declared.report.Report.{Report}
-use Rattle.crew_actors.specs.declared.log.ReadLine.{ReadLine}
-use Rattle.crew_actors.specs.Lines.{IsLineOf, NeverGoBack}
+use Rattle.crew_log.specs.declared.log.ReadLine.{ReadLine}
+use Rattle.crew_log.specs.Lines.{IsLineOf, NeverGoBack}
 
 pub prefix_same : {A : Type 0} (xs : List A) → IsPrefix xs xs
 prefix_same xs = ([], append-nil xs)

@@ -5,9 +5,9 @@ use Rattle.std.proofs.lemmas.List.{drop_at}
 use Rattle.std.proofs.lemmas.List.Elements.{All-push, All-drop}
 use mathlib.Core.List.{IsPrefix}
 use Rattle.bwe_specs.specs.declared.report.Report.{Report}
-use Rattle.crew_actors.specs.declared.log.ReaderLog.{ReaderLog}
-use Rattle.crew_actors.specs.Lines.{IsLineOf, NeverGoBack}
-use Rattle.crew_actors.specs.LegalCrewLog.{IsReaderOf}
+use Rattle.crew_log.specs.declared.log.ReaderLog.{ReaderLog}
+use Rattle.crew_log.specs.Lines.{IsLineOf, NeverGoBack}
+use Rattle.crew_log.specs.LegalCrewLog.{IsReaderOf}
 use Rattle.crew_actors.proofs.Lines.{all_longer, line_more}
 
 -- what a log has after its beginning

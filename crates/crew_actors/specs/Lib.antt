@@ -1,3 +1,2 @@
 pub mod Reporters
-pub mod Lines
-pub mod LegalCrewLog
+pub mod Reads

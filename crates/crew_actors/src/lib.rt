@@ -1,4 +1,4 @@
-//! What each actor of a run does: a reporter its script, a reader its reads, the allocator its rounds; and when a run's log is legal.
+//! What each actor of a run does: a reporter its script, a reader its reads, the allocator its rounds.
 //!
 //! Who runs the actors at once rests on these contracts. After `report_and_settle` a reporter's own list is its script;
 //! `read_lines` gives lines of tables of one growing log, which never go back; and `read_to_the_end` makes of them, with the
@@ -9,7 +9,6 @@
 
 mod actor;
 mod allocating;
-mod log;
 mod reading;
 mod reporting;
 #[cfg(test)]
@@ -17,6 +16,5 @@ mod tests;
 
 pub use actor::{Actor, Gate, OpenGate};
 pub use allocating::make_rounds;
-pub use log::{CrewLog, ReadLine, ReaderLog};
 pub use reading::{NewestAck, read_lines, read_to_the_end};
 pub use reporting::report_and_settle;

@@ -4,13 +4,14 @@ ghost use Rattle.std.specs.List.{All};
 ghost use mathlib.Core.List.{IsPrefix};
 ghost use Rattle.board_core.specs.Core.{IsAllowed};
 ghost use Rattle.demand_book.specs.Fit.{IsFit};
-ghost use Rattle.crew_actors.specs.Lines.{IsLineOf, NeverGoBack, HasRead};
-ghost use Rattle.crew_actors.specs.LegalCrewLog.{IsReaderOf};
+ghost use Rattle.crew_log.specs.Lines.{IsLineOf, NeverGoBack};
+ghost use Rattle.crew_actors.specs.Reads.{HasRead};
+ghost use Rattle.crew_log.specs.LegalCrewLog.{IsReaderOf};
 
 use crate::actor::{Actor, Gate};
-use crate::log::{ReadLine, ReaderLog};
 use board::{Ack, Bases, Profile, ReaderPass, View};
 use bwe_specs::{OutOfMemory, Report};
+use crew_log::{ReadLine, ReaderLog};
 use demand_book::Posted;
 use std::alloc::Global;
 use std::sync::{Mutex, Wait};

@@ -7,6 +7,7 @@ use board::{
     Ack, AllocatorPass, Bases, Board, Opened, Profile, ReaderPass, ReportError, ReporterPass,
 };
 use bwe_specs::{Report, Target};
+use crew_log::ReadLine;
 use demand_book::{Maker, SmallMaker, SmallTable};
 use std::alloc::Global;
 use std::marker::Brand;

@@ -15,8 +15,8 @@ use Rattle.allocator.specs.Frames.{task_count}
 use Rattle.demand_book.specs.Fit.{IsFit}
 use Rattle.crew.specs.Starting.{AreScripts}
 use Rattle.crew.specs.Reporters.{scripted}
-use Rattle.crew_actors.specs.declared.log.CrewLog.{CrewLog}
-use Rattle.crew_actors.specs.LegalCrewLog.{IsLegalCrewLog}
+use Rattle.crew_log.specs.declared.log.CrewLog.{CrewLog}
+use Rattle.crew_log.specs.LegalCrewLog.{IsLegalCrewLog}
 use Rattle.plan_doc.specs.declared.document.Document.{Document}
 use Rattle.plan_doc.specs.Conditions.{IsUsable, link_count, reporter_count, tasks_in}
 use Rattle.plan_doc.specs.Owners.{owner_of}

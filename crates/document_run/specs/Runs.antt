@@ -6,8 +6,8 @@ use Rattle.bwe_specs.specs.Reports.{numbers, reports_of}
 use Rattle.bwe_specs.specs.Allocation.{Plan, Table, allocation}
 use Rattle.limit_table.specs.Tables.{total_of}
 use Rattle.allocator.specs.Frames.{task_count}
-use Rattle.crew_actors.specs.declared.log.CrewLog.{CrewLog}
-use Rattle.crew_actors.specs.LegalCrewLog.{IsLegalCrewLog}
+use Rattle.crew_log.specs.declared.log.CrewLog.{CrewLog}
+use Rattle.crew_log.specs.LegalCrewLog.{IsLegalCrewLog}
 
 -- the script split by reporter: those of each number, in the script's order
 abbrev pub scripts_of : ℕ → List Report → List (List Report)

@@ -8,7 +8,8 @@ use crate::scripts::scripts_of_document;
 use allocator::Allocator;
 use bwe_specs::{MAX_READERS, OutOfMemory};
 use crew::run_crew;
-use crew_actors::{CrewLog, Gate};
+use crew_actors::Gate;
+use crew_log::CrewLog;
 use limit_table::LimitTable;
 use plan_doc::{Document, Names};
 use std::alloc::Global;
@@ -47,7 +48,7 @@ pub fn run_document<G: Gate + Sync, R: Threads + Wait + Sync>(
         names,
         ..
     } = document;
-    let allocator = Allocator::new(alloc, tree, topology, plan);
+    let allocator = Allocator::new(tree, topology, plan);
     let log = run_crew(rt, alloc, allocator, &scripts, readers, reads, gate)?;
     Ok((log, names))
 }

@@ -5,9 +5,9 @@ use Rattle.bwe_specs.specs.declared.report.Target.{Target}
 use Rattle.bwe_specs.specs.declared.report.Target.TheVariants.{Task, Link}
 use Rattle.bwe_specs.specs.declared.report.Report.{Report}
 use Rattle.doc_names.specs.declared.Names.{Names}
-use Rattle.crew_actors.specs.declared.log.ReadLine.{ReadLine}
-use Rattle.crew_actors.specs.declared.log.ReaderLog.{ReaderLog}
-use Rattle.crew_actors.specs.declared.log.CrewLog.{CrewLog}
+use Rattle.crew_log.specs.declared.log.ReadLine.{ReadLine}
+use Rattle.crew_log.specs.declared.log.ReaderLog.{ReaderLog}
+use Rattle.crew_log.specs.declared.log.CrewLog.{CrewLog}
 use Rattle.table_text.specs.TableText.{NameTexts, name_at, texts_of, text_of}
 
 -- the names that the text of a run prints: those of a table, and the reporters' in the order of their numbers

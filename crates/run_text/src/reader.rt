@@ -4,7 +4,7 @@ ghost use Rattle.std.specs.List.{All};
 ghost use Rattle.run_text.specs.RunText.{final_line, numbered, read_line, reader_lines, run_names_of, shown};
 
 use crate::report::push_beyond;
-use crew_actors::{ReadLine, ReaderLog};
+use crew_log::{ReadLine, ReaderLog};
 use doc_names::Names;
 use std::alloc::AllocError;
 

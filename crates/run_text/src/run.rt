@@ -6,7 +6,7 @@ ghost use Rattle.run_text.specs.RunText.{numbered, run_names_of, run_text_of, se
 use crate::reader::push_readers;
 use crate::report::push_history;
 use bwe_specs::OutOfMemory;
-use crew_actors::CrewLog;
+use crew_log::CrewLog;
 use doc_names::Names;
 use limit_table::LimitTable;
 use std::alloc::{AllocError, Global};

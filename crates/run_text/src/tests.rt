@@ -3,7 +3,7 @@ ghost use Rattle.std.specs.List.{All};
 
 use super::run_text;
 use bwe_specs::{Closing, OutOfMemory, Report, Target};
-use crew_actors::{CrewLog, ReadLine, ReaderLog};
+use crew_log::{CrewLog, ReadLine, ReaderLog};
 use doc_names::Names;
 use limit_table::{GroupLine, LimitTable, PlaceLine};
 use std::alloc::Global;

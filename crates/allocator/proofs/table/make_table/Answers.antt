@@ -1,12 +1,8 @@
-use Rattle.std.proofs.Common.{arith, sym, subst}
 use Rattle.allocator.specs.Allocators.{table_by}
 use Rattle.allocator.specs.Laws.{IsConserved, IsFeasible, IsHeldBack}
 use Rattle.allocator.specs.Tables.{wan_by}
 use Rattle.allocator.proofs.Lawful.{table-conserved, table-feasible, table-held_back, ok-where}
 use Rattle.allocator.proofs.table.make_table.Goals as goal
-
-pub filling_of-requires-clause-some : goal.filling_of-requires-clause-some
-filling_of-requires-clause-some c = rw (c.new.ensures) (omega arith)
 
 pub returns-clause-feasible : goal.returns-clause-feasible
 returns-clause-feasible c =

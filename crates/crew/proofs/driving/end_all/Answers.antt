@@ -8,9 +8,9 @@ use Rattle.bwe_specs.specs.declared.memory.OutOfMemory.{OutOfMemory}
 use Rattle.board.specs.Reading.{Reading}
 use Rattle.board_core.specs.Core.{IsAllowed}
 use Rattle.demand_book.specs.Fit.{IsFit}
-use Rattle.crew_actors.specs.declared.log.ReadLine.{ReadLine}
-use Rattle.crew_actors.specs.declared.log.ReaderLog.{ReaderLog}
-use Rattle.crew_actors.specs.LegalCrewLog.{IsReaderOf}
+use Rattle.crew_log.specs.declared.log.ReadLine.{ReadLine}
+use Rattle.crew_log.specs.declared.log.ReaderLog.{ReaderLog}
+use Rattle.crew_log.specs.LegalCrewLog.{IsReaderOf}
 use Rattle.crew.specs.Readers.{HasLines, HasEnded}
 use Rattle.crew.proofs.Placing.{pairs_more, left_beyond}
 use Rattle.crew.proofs.driving.end_all.Goals as goal

@@ -2,7 +2,7 @@ use Rattle.std.proofs.Common.{◌≡◌, ℕ, ◌<◌, ◌≤◌, length, get_or
 use Rattle.std.specs.List.{All}
 use Rattle.board_core.specs.Core.{IsAllowed}
 use Rattle.demand_book.specs.Fit.{IsFit}
-use Rattle.crew_actors.specs.LegalCrewLog.{IsReaderOf}
+use Rattle.crew_log.specs.LegalCrewLog.{IsReaderOf}
 use Rattle.crew.specs.Readers.{HasEnded}
 use Rattle.crew.proofs.driving.end_all.Given as goal
 

@@ -3,8 +3,8 @@ use Rattle.std.specs.List.{All}
 use Rattle.std.proofs.lemmas.List.{length_push}
 use Rattle.std.proofs.lemmas.List.Elements.{All-push}
 use mathlib.Core.List.{IsPrefix}
-use Rattle.crew_actors.specs.declared.log.ReadLine.{ReadLine}
-use Rattle.crew_actors.specs.Lines.{IsLineOf, NeverGoBack}
+use Rattle.crew_log.specs.declared.log.ReadLine.{ReadLine}
+use Rattle.crew_log.specs.Lines.{IsLineOf, NeverGoBack}
 use Rattle.crew_actors.proofs.Lines.{prefix_then, all_longer, line_more}
 use Rattle.crew_actors.proofs.reading.read_lines.Goals as goal
 

@@ -1,7 +1,7 @@
 use Rattle.std.proofs.Common.{◌≡◌, ◌≤◌, ◌+◌, length}
 use Rattle.std.specs.List.{All}
 use mathlib.Core.List.{IsPrefix}
-use Rattle.crew_actors.specs.Lines.{IsLineOf, NeverGoBack}
+use Rattle.crew_log.specs.Lines.{IsLineOf, NeverGoBack}
 use Rattle.crew_actors.proofs.reading.read_lines.Given as goal
 
 abbrev pub invariant-loop-call : goal.invariant-loop-call

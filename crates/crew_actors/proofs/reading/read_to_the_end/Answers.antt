@@ -3,7 +3,7 @@ use mathlib.Core.List.{IsPrefix}
 use Rattle.board_core.specs.Core.{IsAllowed}
 use Rattle.demand_book.specs.Fit.{IsFit}
 use Rattle.bwe_specs.specs.declared.report.Report.{Report}
-use Rattle.crew_actors.specs.declared.log.ReaderLog.{ReaderLog}
+use Rattle.crew_log.specs.declared.log.ReaderLog.{ReaderLog}
 use Rattle.crew_actors.proofs.Lines.{prefix_then}
 use Rattle.crew_actors.proofs.Readers.{is_reader, beyond_of}
 use Rattle.crew_actors.proofs.reading.read_to_the_end.Goals as goal

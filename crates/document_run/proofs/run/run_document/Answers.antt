@@ -2,7 +2,7 @@ use Rattle.std.proofs.Common.{◌≡◌, length, subst, sym}
 use Rattle.bwe_specs.specs.Allocation.{allocation}
 use Rattle.limit_table.specs.Tables.{total_of}
 use Rattle.allocator.specs.Frames.{task_count}
-use Rattle.crew_actors.specs.LegalCrewLog.{IsLegalCrewLog}
+use Rattle.crew_log.specs.LegalCrewLog.{IsLegalCrewLog}
 use Rattle.crew.specs.Starting.{AreScripts}
 use Rattle.policy_tree.specs.Trees.{task_numbers}
 use Rattle.plan_doc.specs.Conditions.{link_count}

@@ -1,5 +1,5 @@
 use Rattle.std.proofs.Common.{◌≡◌, ℕ, suc, ◌+◌, ◌<◌, ◌++◌, List, length, drop, sym, ap, ◌∙◌, arith, add-one, append_assoc, string_bytes}
-use Rattle.crew_actors.specs.declared.log.ReaderLog.{ReaderLog}
+use Rattle.crew_log.specs.declared.log.ReaderLog.{ReaderLog}
 use Rattle.run_text.specs.RunText.{numbered, reader_lines, run_names_of}
 use Rattle.run_text.proofs.Numbered.{numbered_more}
 use Rattle.run_text.proofs.reader.push_readers.Goals as goal

@@ -1,0 +1,6 @@
+pub mod Tasks
+pub mod Growing
+pub mod Tables
+pub mod Following
+pub mod Order
+pub mod Laws
