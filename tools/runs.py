@@ -1,5 +1,5 @@
-#!/usr/bin/env python3
-"""cases/runs.py [PROGRAM [RUNS [SEED]]]: makes documents, runs the built program's line `run` on them, and checks each text.
+#!/usr/bin/python3
+"""tools/runs.py [PROGRAM [RUNS [SEED]]]: makes documents, runs the built program's line `run` on them, and checks each text.
 
 Each document has four reporters, which report demands of their tasks and capacities of their links. The readers are 64,
 and each makes 1,000 reads and one at the end. What is checked of a printed run:
@@ -13,7 +13,9 @@ and each makes 1,000 reads and one at the end. What is checked of a printed run:
 - the table at the end is the one that `solve` writes for the document, and for the printed history;
 - `audit` of the document and the text says `legal`, and of the text with one digit changed it does not.
 
-The last line says how much was seen. The status is 0 where all runs passed.
+Over all runs, some read has to lie strictly between the first and the last prefix: a reader has seen a table of a part of
+the history. The runs are made side by side on all processors. The last line says how much was seen. The status is 0 where
+all runs passed.
 """
 
 import json
@@ -21,6 +23,8 @@ import random
 import subprocess
 import sys
 from collections import Counter
+from concurrent.futures import ProcessPoolExecutor
+from functools import partial
 from pathlib import Path
 
 READERS, READS = 64, 1000
@@ -247,26 +251,50 @@ def check_audit(program, document, text):
     need(wrong.returncode == 1 and wrong.stdout.endswith(b": table\n"), f"audit says {wrong.stdout!r} of another total")
 
 
+def seen_of(program, seed):
+    """What was seen of the run of a seed: its fault or None, whether another order, its prefixes, its history's length."""
+    document = made_document(random.Random(seed))
+    try:
+        return None, *check_run(program, document)
+    except (Fault, StopIteration, ValueError, subprocess.TimeoutExpired) as fault:
+        return repr(fault), False, Counter(), 0
+
+
+def seen_of_all(program, count, first):
+    with ProcessPoolExecutor() as pool:
+        return list(pool.map(partial(seen_of, program), range(first, first + count)))
+
+
+def is_between(prefixes, length):
+    return any(0 < prefix < length for prefix in prefixes)
+
+
+def results_of(seen, first):
+    """The name and the fault of each run, and of the reads over all of them."""
+    runs = [(f"run of seed {first + number}", fault) for number, (fault, *_) in enumerate(seen)]
+    between = any(is_between(prefixes, length) for _, _, prefixes, length in seen)
+    return runs + [("reads between the first and the last prefix", None if between else "there are none")]
+
+
+def results(program, count, first=1):
+    return results_of(seen_of_all(program, count, first), first)
+
+
 def main(words):
     here = Path(__file__).resolve().parent
     program = str(Path(words[0] if words else here / "../crates/bwe/out/bwe").resolve())
-    runs = int(words[1]) if len(words) > 1 else 3
+    count = int(words[1]) if len(words) > 1 else 3
     first = int(words[2]) if len(words) > 2 else 1
-    failed = moved = between = shown = 0
-    for seed in range(first, first + runs):
-        document = made_document(random.Random(seed))
-        try:
-            other_order, prefixes, length = check_run(program, document)
-        except (Fault, StopIteration, ValueError) as fault:
-            failed += 1
-            print(f"run of seed {seed}: {fault!r}")
-            continue
-        moved += other_order
-        between += any(0 < prefix < length for prefix in prefixes)
-        shown += len(prefixes)
-    print(f"runs: {runs - failed} passed, {failed} failed; {moved} in another order than the script, "
+    seen = seen_of_all(program, count, first)
+    faults = [(name, fault) for name, fault in results_of(seen, first) if fault]
+    for name, fault in faults:
+        print(f"{name}: {fault}")
+    moved = sum(other_order for _, other_order, _, _ in seen)
+    between = sum(is_between(prefixes, length) for _, _, prefixes, length in seen)
+    shown = sum(len(prefixes) for _, _, prefixes, _ in seen)
+    print(f"runs: {sum(fault is None for fault, *_ in seen)} passed of {count}; {moved} in another order than the script, "
           f"{between} with reads between, {shown} tables shown")
-    return 1 if failed else 0
+    return 1 if faults else 0
 
 
 if __name__ == "__main__":

@@ -1,12 +1,12 @@
-#!/usr/bin/env python3
-"""cases/compare.py [PROGRAM [COUNT [SEED]]]: compares lines with a second, plain implementation.
+#!/usr/bin/python3
+"""tools/compare.py [PROGRAM [COUNT [SEED]]]: compares lines with a second, plain implementation.
 
 Makes COUNT valid documents by chance (small shares, so that raising them one by one is quick), runs the program on each, and
 compares every byte with the table that this file computes from the rules of docs/DEFINITIONS.md as they are written there: one
 share after the other, and nothing searched by halves. The closings of that table have to be right for `check`, the groups'
 values for `levels` at a share by chance, at times above the top, the table of tiers by chance for `tiers`, and the world of regions
 after events by chance for `enforce`.
-The last line says how many documents agreed; the status is 0 where all did. Python's standard library is all it uses.
+The documents are compared side by side on all processors. The last line says how many agreed; the status is 0 where all did.
 """
 
 import json
@@ -14,7 +14,9 @@ import os
 import random
 import subprocess
 import sys
+from concurrent.futures import ProcessPoolExecutor
 from fractions import Fraction
+from functools import partial
 from math import floor
 
 HERE = os.path.dirname(os.path.abspath(__file__))
@@ -357,21 +359,27 @@ def fault_of(program, document, chance):
     return None
 
 
+def result(program, seed, number):
+    """The name of a made document, and what is wrong with the answers to it, or None."""
+    chance = random.Random(f"{seed} {number}")
+    document = make_document(chance)
+    fault = fault_of(program, document, chance)
+    return f"document {number}", fault and f"{fault}\n{json.dumps(document)}"
+
+
+def results(program, count, seed=1):
+    with ProcessPoolExecutor() as pool:
+        return list(pool.map(partial(result, program, seed), range(count), chunksize=4))
+
+
 def main(words):
     program = words[0] if words else os.path.join(HERE, "..", "crates", "bwe", "out", "bwe")
     count = int(words[1]) if len(words) > 1 else 200
-    seed = int(words[2]) if len(words) > 2 else 1
-    agreed = 0
-    for number in range(count):
-        chance = random.Random(f"{seed} {number}")
-        document = make_document(chance)
-        fault = fault_of(program, document, chance)
-        if fault is None:
-            agreed += 1
-        else:
-            print(f"document {number}: {fault}\n{json.dumps(document)}")
-    print(f"compared: {agreed} passed, {count - agreed} failed")
-    return 0 if agreed == count else 1
+    faults = [(name, fault) for name, fault in results(program, count, int(words[2]) if len(words) > 2 else 1) if fault]
+    for name, fault in faults:
+        print(f"{name}: {fault}")
+    print(f"compared: {count - len(faults)} passed, {len(faults)} failed")
+    return 1 if faults else 0
 
 
 if __name__ == "__main__":

@@ -1,9 +1,10 @@
-#!/usr/bin/env python3
-"""cases/growths.py [PROGRAM]: refuses each allocation in turn, and looks at how the program ends.
+#!/usr/bin/python3
+"""tools/growths.py [PROGRAM]: refuses each allocation in turn, and looks at how the program ends.
 
-`solve` and `run --readers 1 --reads 0` on examples/shared-link.json, and `tiers` and `enforce` with a second part behind it, are run
-once for each allocation, which alone is refused (by a small library that stands before the C library's; `cc` builds it). Each run has to end with status 6 and nothing written, or with
-status 0 and the right text. The last lines say how many runs ended how; the status is 0 where all were right.
+`solve` and `run --readers 1 --reads 0` on examples/shared-link.json, and `tiers` and `enforce` with a second part behind it,
+are run once for each allocation, which alone is refused (by a small library that stands before the C library's; `cc` builds
+it), side by side on all processors. Each run has to end with status 6 and nothing written, or with status 0 and the right
+text. The last lines say how many runs ended how; the status is 0 where all were right.
 """
 
 import collections
@@ -11,6 +12,7 @@ import os
 import subprocess
 import sys
 import tempfile
+from concurrent.futures import ThreadPoolExecutor
 
 HERE = os.path.dirname(os.path.abspath(__file__))
 
@@ -62,18 +64,17 @@ def run(program, words, document, **more):
 def ends(program, words, document, library):
     """How the runs ended: those that were refused, those that were right, and the calls of the others."""
     right = run(program, words, document)
-    found, others, call, last = collections.Counter(), [], 0, 0
-    while call - last <= QUIET:
-        call += 1
-        end = run(program, words, document, LD_PRELOAD=library, REFUSED_CALL=str(call))
-        if end == right:
-            found["right"] += 1
-            continue
-        last = call
-        if end == (6, b""):
-            found["refused"] += 1
-        else:
-            others.append((call, end[0]))
+    end_of = lambda call: run(program, words, document, LD_PRELOAD=library, REFUSED_CALL=str(call))
+    found, others, first, seen = collections.Counter(), [], 1, set()
+    with ThreadPoolExecutor(os.cpu_count()) as pool:
+        while seen != {right}:
+            calls = range(first, first + QUIET)
+            seen, first = set(), first + QUIET
+            for call, end in zip(calls, pool.map(end_of, calls)):
+                seen.add(end)
+                kind = "right" if end == right else "refused" if end == (6, b"") else "other"
+                found[kind] += 1
+                others += [(call, end[0])] * (kind == "other")
     return found, others
 
 
@@ -98,7 +99,8 @@ def main(words):
         for line, given in lines_on(document):
             found, others = ends(program, line, given, library)
             faults += len(others)
-            print(f"growths: {' '.join(line)}: {found['refused']} ended with status 6, {found['right']} with the right text, {len(others)} otherwise {others[:5] or ''}")
+            print(f"growths: {' '.join(line)}: {found['refused']} ended with status 6, {found['right']} with the right "
+                  f"text, {len(others)} otherwise {others[:5] or ''}")
     return 1 if faults else 0
 
 
