@@ -9,7 +9,6 @@ use bwe_specs::{Closing, Report};
 use demand_book::Maker;
 use doc_names::Names;
 use plan_doc::Document;
-use std::alloc::Global;
 
 /// An allocator of a document's plan, which has taken in nothing yet, beside the rest of the document.
 #[derive(Drop)]
@@ -22,7 +21,7 @@ pub(crate) struct Opened {
 }
 
 /// Takes an accepted document apart.
-pub(crate) fn open(alloc: Global, document: Document) -> Opened
+pub(crate) fn open(document: Document) -> Opened
     requires { IsUsable document }
     ensures plan { ⟦<Allocator as Maker>⟧.plan result.allocator ≡ plan_in document }
     ensures first { ⟦<Allocator as Maker>⟧.absorbed result.allocator [] }
@@ -42,7 +41,7 @@ pub(crate) fn open(alloc: Global, document: Document) -> Opened
         ..
     } = document;
     Opened {
-        allocator: Allocator::new(alloc, tree, topology, plan),
+        allocator: Allocator::new(tree, topology, plan),
         script,
         closings,
         names,
