@@ -7,7 +7,8 @@ Where no case is named, these follow:
 
 - examples: each text of examples/ is what the program writes;
 - documents: made documents get the answers of a second implementation (tools/compare.py);
-- runs: made documents are run on threads, and each printed run is checked (tools/runs.py).
+- runs: made documents are run on threads, and each printed run is checked (tools/runs.py);
+- summaries: `bulk` ends with the total of the table that `solve` writes of the made document.
 
 A line for each kind says how many passed, and the last line how many in all; the status is 0 where all did.
 """
@@ -26,6 +27,7 @@ import runs
 TOP = Path(__file__).resolve().parent.parent
 CASES, EXAMPLES = TOP / "cases", TOP / "examples"
 DOCUMENTS, RUNS = 200, 3
+SUMMED = ["1", "200", "4000"]
 SECONDS = 120
 
 # The words for the second parts of examples/, by the ending of their names.
@@ -79,6 +81,17 @@ def fault_of_example(program, example):
     return first_difference(ran.stdout, text.read_bytes())
 
 
+def fault_of_summary(program, size):
+    """What is wrong with the last line of a made document's summary, or None."""
+    made, summary, again = (written(program, [word, *size], b"") for word in ("make", "bulk", "bulk"))
+    table = written(program, ["solve"], made)
+    return first_difference(summary, again) or first_difference(summary.splitlines()[-1], table.splitlines()[-1])
+
+
+def written(program, words, given):
+    return subprocess.run([program, *words], input=given, stdout=subprocess.PIPE, check=True, timeout=SECONDS).stdout
+
+
 def told(kind, results):
     """Prints the faults of a kind's results, by name, and how many passed and failed; answers these two numbers."""
     faults = [(name, fault) for name, fault in results if fault is not None]
@@ -110,6 +123,7 @@ def main(words):
             counts.append(told("examples", side_by_side(fault_of_example, program, texts, lambda it: it[0].name)))
             counts.append(told("documents", compare.results(program, DOCUMENTS)))
             counts.append(told("runs", runs.results(program, RUNS)))
+            counts.append(told("summaries", [(" ".join(SUMMED), fault_of_summary(program, SUMMED))]))
     passed, failed = map(sum, zip(*counts))
     print(f"{passed} passed, {failed} failed")
     return 1 if failed else 0

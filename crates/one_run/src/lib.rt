@@ -108,6 +108,3 @@ fn write_text<K: Sink>(sink: &mut K, text: &[u8], status: u8) -> u8
         Err(_) => 5,
     }
 }
-
-#[cfg(test)]
-mod tests;

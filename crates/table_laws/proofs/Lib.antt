@@ -9,3 +9,5 @@ pub mod Pieces
 pub mod Reordered
 pub mod Alike
 pub mod Walks
+pub mod Reading
+pub mod Printed

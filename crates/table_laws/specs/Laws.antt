@@ -1,5 +1,5 @@
 -- The laws that an operator asks for first, of every plan under any demands and capacities.
-use Rattle.std.specs.Prelude.{◌≡◌, ℕ, List, length, map}
+use Rattle.std.specs.Prelude.{◌≡◌, ℕ, ◌++◌, List, [], length, map}
 use Rattle.bwe_specs.specs.Paths.{link_load}
 use Rattle.bwe_specs.specs.Filling.{Wan, filling}
 use Rattle.bwe_specs.specs.Reports.{numbers}
@@ -9,6 +9,8 @@ use Rattle.bwe_specs.specs.Allocation.{Plan, Table, group_line, table_under}
 use Rattle.limit_table.specs.Tables.{Change}
 use Rattle.table_laws.specs.Tasks.{AreNumbered, AreAskedFor}
 use Rattle.table_laws.specs.Tables.{IsSharedAlike, IsWithoutWaste}
+use Rattle.table_text.specs.TableText.{NameTexts, text_of}
+use Rattle.table_laws.specs.Printing.{AreTelling, IsNamed}
 use Rattle.table_laws.specs.Order.{IsOrder, AreAlike, reordered}
 use Rattle.table_laws.specs.Following.{LeadAlong, last_of, with_changes}
 
@@ -46,3 +48,9 @@ NoPlaceMatters = (plan : Plan) (group_at place_of renumber : ℕ → ℕ) (prefi
     → ((task : ℕ) → other (renumber task) ≡ demand task)
     → AreAlike plan (reordered group_at renumber plan) group_at (table_under plan prefix demand capacities)
     (table_under (reordered group_at renumber plan) prefix other capacities)
+
+-- One text, one table: where the text of a table is that of another one, under the same names, and more, the two tables
+-- are equal and there is no more. So no text of a table is a beginning of another's
+abbrev pub OneTextOneTable : Type 0
+OneTextOneTable = (names : NameTexts) → AreTelling names → (table other : Table) → IsNamed names table → IsNamed names other
+    → (more : List ℕ) → text_of names table ≡ text_of names other ++ more → (table ≡ other) × (more ≡ [])

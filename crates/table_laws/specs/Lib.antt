@@ -3,4 +3,5 @@ pub mod Growing
 pub mod Tables
 pub mod Following
 pub mod Order
+pub mod Printing
 pub mod Laws

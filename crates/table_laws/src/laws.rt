@@ -1,6 +1,6 @@
 //! The laws, each the contract of a function that does nothing.
 
-ghost use Rattle.table_laws.specs.Laws.{KeptByChanges, NoMoreThanAsked, NoPlaceMatters, NoWaste, TheSameShare};
+ghost use Rattle.table_laws.specs.Laws.{KeptByChanges, NoMoreThanAsked, NoPlaceMatters, NoWaste, OneTextOneTable, TheSameShare};
 
 /// No more than asked: each task's limit is at most its demand, and at most its weight times what its job's task function
 /// gives at the top share.
@@ -29,4 +29,9 @@ pub fn kept_by_changes()
 /// ties.
 pub fn no_place_matters()
     ensures { NoPlaceMatters }
+{}
+
+/// One text, one table: two tables with one text are equal, and no text of a table is a beginning of another's.
+pub fn one_text_one_table()
+    ensures { OneTextOneTable }
 {}

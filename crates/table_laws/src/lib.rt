@@ -6,4 +6,7 @@
 
 mod laws;
 
-pub use laws::{kept_by_changes, no_more_than_asked, no_place_matters, no_waste, the_same_share};
+pub use laws::{
+    kept_by_changes, no_more_than_asked, no_place_matters, no_waste, one_text_one_table,
+    the_same_share,
+};

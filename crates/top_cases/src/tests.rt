@@ -131,19 +131,21 @@ fn a_write_that_fails_leaves_a_prefix(rt: HostRuntime) -> Result<(), Fail> {
     Ok(())
 }
 
-// The lines that read nothing leave the source, and a write that fails leaves a prefix of their text.
+// Words that read nothing leave the source, and a write that fails leaves a prefix of their text.
 #[test]
-fn a_line_that_reads_nothing_leaves_the_source(rt: HostRuntime) -> Result<(), Fail> {
+fn words_that_read_nothing_leave_the_source(rt: HostRuntime) -> Result<(), Fail> {
     let alloc = rt.alloc();
-    for (line, text) in [("make", "{\"groups\":"), ("bulk", "groups 1\nt")] {
+    for (word, text) in [
+        ("make", "{\"groups\":"),
+        ("bulk", "groups 1\nt"),
+        ("none", "usage: bwe"),
+    ] {
         let mut source = sure(alloc, "input")?;
         let mut sink = MemorySink::new(alloc, 1_000, 1, vec![in alloc; 10]?)?;
-        let got = status(alloc, &[line, "0", "1", "1"], &mut source, &mut sink)?;
+        let got = status(alloc, &[word, "0", "1", "1"], &mut source, &mut sink)?;
         assert_eq!(rt; (got, sink.bytes()), (5, text.as_bytes()));
-        assert_eq!(rt;
-            read_all(alloc, &mut source, 100)?.as_slice(),
-            b"input".as_slice()
-        );
+        let left = read_all(alloc, &mut source, 100)?;
+        assert_eq!(rt; left.as_slice(), b"input".as_slice());
     }
     Ok(())
 }
