@@ -1,8 +1,7 @@
 -- The lines of the program, and what each may get for its input.
-use Rattle.std.specs.Prelude.{◌≡◌, ℕ, Bool, true, false, List, Option, Some, None, if◌then◌else◌, option_and_then}
+use Rattle.std.specs.Prelude.{◌≡◌, ℕ, Bool, true, false, List, Option, Some, None}
 use Rattle.command_line.specs.declared.CommandLine.{CommandLine}
 use Rattle.command_line.specs.declared.CommandLine.TheVariants.{Solve, Check, Run, Make, Bulk, Audit, Tiers, Enforce, Estimate, Levels}
-use Rattle.command_line.specs.Lines.{Text, command_line_of}
 use Rattle.one_run.specs.Endings.{Ending, Lines, Reply, Served}
 use Rattle.plan_doc.specs.Document.{document}
 use Rattle.bwe_cli.specs.Replies.{check_accepted, document_reply, levels_accepted, solve_accepted}
@@ -42,7 +41,8 @@ abbrev pub needs_threads : CommandLine → Bool
 needs_threads (Run readers reads) = true
 needs_threads _ = false
 
--- the line that words are, of those that need no threads
-abbrev pub one_thread_line_of : List Text → Option CommandLine
-one_thread_line_of words =
-    option_and_then (λ line. if needs_threads line then None else Some line) (command_line_of words)
+-- the line, where it needs no threads
+abbrev pub of_one_thread : Option CommandLine → Option CommandLine
+of_one_thread None = None
+of_one_thread (Some (Run readers reads)) = None
+of_one_thread (Some line) = Some line

@@ -10,6 +10,7 @@ ghost use Rattle.bwe_cli.specs.AuditReply.{audit_accepted, audit_reply, audit_st
 ghost use Rattle.bwe_cli.specs.Parted.{parts_reply};
 ghost use Rattle.plan_doc.specs.Plans.{plan_in};
 
+use crate::opened::open;
 use crate::parted::{Parted, read_parts};
 use crate::solve::table_of;
 use allocator::Allocator;
@@ -51,25 +52,10 @@ fn audit_document(
         ≡ audit_reply (names_view document.names) (plan_in document) document.script.items text.now) }
 {
     match read_document(alloc, input) {
-        Ok(again) => audit_by(alloc, document, allocator_of(again), text),
+        Ok(again) => audit_by(alloc, document, open(again).allocator, text),
         // It was accepted, so that only memory can be wanting.
         Err(_) => Err(OutOfMemory),
     }
-}
-
-// The allocator of a document, which has taken in nothing yet.
-fn allocator_of(document: Document) -> Allocator
-    requires { IsUsable document }
-    ensures plan { ⟦<Allocator as Maker>⟧.plan result ≡ plan_in document }
-    ensures first { ⟦<Allocator as Maker>⟧.absorbed result [] }
-{
-    let Document {
-        tree,
-        topology,
-        plan,
-        ..
-    } = document;
-    Allocator::new(tree, topology, plan)
 }
 
 // The verdict on the text, by a new allocator of the document's plan.

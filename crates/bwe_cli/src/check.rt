@@ -8,8 +8,9 @@ ghost use Rattle.plan_doc.specs.Conditions.{IsUsable};
 ghost use Rattle.plan_doc.specs.Plans.{plan_in};
 ghost use Rattle.bwe_cli.specs.Replies.{check_accepted, check_reply, document_reply, verdict_status};
 
+use crate::opened::{Opened, open};
 use crate::refused::refused;
-use allocator::{Allocator, after_script};
+use allocator::after_script;
 use bottleneck_cert::Verdict;
 use bwe_specs::OutOfMemory;
 use one_run::Answer;
@@ -33,16 +34,13 @@ fn check_document(alloc: Global, document: Document) -> Result<Answer, OutOfMemo
     ensures { IfOk result (λ answer. answer
         ≡ check_reply (texts_of document.names) (plan_in document) document.script.items document.closings.items) }
 {
-    let Document {
-        tree,
-        topology,
-        plan,
+    let Opened {
+        allocator,
         script,
         closings,
         names,
         ..
-    } = document;
-    let allocator = Allocator::new(tree, topology, plan);
+    } = open(document);
     let allocator = after_script(alloc, allocator, &script)?;
     let (values, plan) = (allocator.values(), allocator.plan());
     let verdict = bottleneck_cert::check(alloc, &values, allocator.topology(), plan, &closings)?;

@@ -8,8 +8,8 @@ ghost use Rattle.bwe_cli.specs.EnforceReply.{enforce_accepted, enforce_reply, en
 ghost use Rattle.bwe_cli.specs.Parted.{parts_reply};
 ghost use Rattle.plan_doc.specs.Plans.{plan_in};
 
+use crate::opened::{Opened, open};
 use crate::parted::{Parted, read_parts};
-use allocator::Allocator;
 use bwe_specs::OutOfMemory;
 use demand_book::Maker;
 use event_lines::{EventError, EventLine, event_refusal_line, read_events};
@@ -58,23 +58,20 @@ fn play(
     ensures { IfOk result (λ answer. answer
         ≡ enforced_reply (names_view document.names) (plan_in document) document.script.items document.task_owners.items events.now) }
 {
-    let Document {
-        tree,
-        topology,
-        plan,
+    let Opened {
+        allocator,
         script,
         names,
         task_owners,
         ..
-    } = document;
-    let maker = Allocator::new(tree, topology, plan);
+    } = open(document);
     // Who asks a maker for its number of tasks learns that they can be numbered.
-    let _tasks = maker.tasks();
+    let _tasks = allocator.tasks();
     Ok(Answer {
         status: 0,
         text: enforce_run::enforce(
             alloc,
-            maker,
+            allocator,
             &script,
             reporters,
             &task_owners,

@@ -8,6 +8,7 @@ ghost use Rattle.policy_tree.specs.Trees.{demand_in};
 ghost use Rattle.table_text.specs.TableText.{texts_of};
 ghost use Rattle.bwe_cli.specs.Replies.{document_reply, levels_accepted, levels_reply, values_reply};
 
+use crate::opened::{Opened, open};
 use crate::refused::refused;
 use allocator::{Allocator, after_script};
 use bwe_specs::OutOfMemory;
@@ -85,15 +86,12 @@ fn allocator_after(alloc: Global, document: Document) -> Result<(Allocator, Name
         demand_in after.0.reported.tree task ≡ demand_after document.script.items task) }
     ensures names { IfOk result (λ after. after.1 ≡ document.names) }
 {
-    let Document {
-        tree,
-        topology,
-        plan,
+    let Opened {
+        allocator,
         script,
         names,
         ..
-    } = document;
-    let allocator = Allocator::new(tree, topology, plan);
+    } = open(document);
     let allocator = after_script(alloc, allocator, &script)?;
     Ok((allocator, names))
 }

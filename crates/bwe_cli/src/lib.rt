@@ -6,8 +6,10 @@
 //! `Ending` of `one_run` how a call may end. Nothing is promised of time, nor that memory is there.
 #![tactic(auto)]
 
+ghost use Rattle.std.specs.Prelude.{◌≡◌, false, IfSome};
 ghost use Rattle.command_line.specs.Lines.{command_line_of, texts_of};
-ghost use Rattle.bwe_cli.specs.TopCall.{IsServed, one_thread_line_of};
+ghost use Rattle.command_line.specs.Ranges.{IsInRange};
+ghost use Rattle.bwe_cli.specs.TopCall.{IsServed, needs_threads, of_one_thread};
 
 mod answers;
 mod audit;
@@ -16,6 +18,7 @@ mod enforce;
 mod estimate;
 mod levels;
 mod made;
+mod opened;
 mod parted;
 mod reading;
 mod refused;
@@ -82,7 +85,7 @@ pub fn bwe_once<S: Source, K: Sink>(
     sink: &mut K,
 ) -> u8
     // The same, of each line but `run`.
-    ensures { IsServed (one_thread_line_of (texts_of words.now)) (record {
+    ensures { IsServed (of_one_thread (command_line_of (texts_of words.now))) (record {
       source = source.old;
       source_after = source.new;
       left = S.left;
@@ -94,13 +97,26 @@ pub fn bwe_once<S: Source, K: Sink>(
     }) result }
 {
     let line = match command_line_of_words(alloc, words) {
-        Ok(Some(CommandLine::Run { .. })) => return write_usage(sink),
-        Ok(Some(line)) => line,
-        Ok(None) => return write_usage(sink),
+        Ok(line) => in_one_thread(line),
         Err(OutOfMemory) => return 6,
+    };
+    let Some(line) = line else {
+        return write_usage(sink);
     };
     match read_input_of(alloc, line, source) {
         Ok(input) => finish(sink, answer_in_turn(alloc, line, &input)),
         Err(error) => refuse_input(sink, error),
+    }
+}
+
+// The line, where it needs no threads.
+fn in_one_thread(line: Option<CommandLine>) -> Option<CommandLine>
+    requires range { IfSome line IsInRange }
+    ensures line { result ≡ of_one_thread line }
+    ensures range { IfSome result (λ line. IsInRange line × (needs_threads line ≡ false)) }
+{
+    match line {
+        Some(CommandLine::Run { .. }) => None,
+        other => other,
     }
 }

@@ -1,6 +1,8 @@
 //! A document taken apart.
 
-ghost use Rattle.std.specs.Prelude.{◌≡◌, []};
+ghost use Rattle.std.specs.Prelude.{◌≡◌, ◌≤◌, [], All, length};
+ghost use Rattle.bwe_specs.specs.declared.limits.TheConstants.{MAX_REPORTS};
+ghost use Rattle.demand_book.specs.Fit.{IsFit};
 ghost use Rattle.plan_doc.specs.Conditions.{IsUsable};
 ghost use Rattle.plan_doc.specs.Plans.{plan_in};
 
@@ -25,6 +27,14 @@ pub(crate) fn open(document: Document) -> Opened
     requires { IsUsable document }
     ensures plan { ⟦<Allocator as Maker>⟧.plan result.allocator ≡ plan_in document }
     ensures first { ⟦<Allocator as Maker>⟧.absorbed result.allocator [] }
+    // The reports fit a log of the plan, and each task has an owner.
+    ensures few { length result.script.items ≤ MAX_REPORTS }
+    ensures fit { All (IsFit (⟦<Allocator as Maker>⟧.plan_tasks (⟦<Allocator as Maker>⟧.plan result.allocator))
+        (⟦<Allocator as Maker>⟧.plan_links (⟦<Allocator as Maker>⟧.plan result.allocator))) result.script.items }
+    ensures owners { length result.task_owners.items
+        ≡ ⟦<Allocator as Maker>⟧.plan_tasks (⟦<Allocator as Maker>⟧.plan result.allocator) }
+
+    // The rest is the document's.
     ensures script { result.script ≡ document.script }
     ensures closings { result.closings ≡ document.closings }
     ensures names { result.names ≡ document.names }

@@ -7,8 +7,9 @@ ghost use Rattle.plan_doc.specs.Conditions.{IsUsable};
 ghost use Rattle.plan_doc.specs.Plans.{plan_in};
 ghost use Rattle.bwe_cli.specs.Replies.{document_reply, solve_accepted, table_reply};
 
+use crate::opened::{Opened, open};
 use crate::refused::refused;
-use allocator::{Allocator, after_script};
+use allocator::after_script;
 use bwe_specs::OutOfMemory;
 use demand_book::Maker;
 use doc_names::Names;
@@ -50,15 +51,12 @@ pub(crate) fn table_of(
     ensures table { IfOk result (λ solved. solved.0 ≡ allocation (plan_in document) document.script.items) }
     ensures names { IfOk result (λ solved. solved.1 ≡ document.names) }
 {
-    let Document {
-        tree,
-        topology,
-        plan,
+    let Opened {
+        allocator,
         script,
         names,
         ..
-    } = document;
-    let allocator = Allocator::new(tree, topology, plan);
+    } = open(document);
     let mut allocator = after_script(alloc, allocator, &script)?;
     let table = allocator.table(alloc)?;
     Ok((table, names))

@@ -7,8 +7,9 @@ ghost use Rattle.plan_doc.specs.Plans.{plan_in};
 ghost use Rattle.bwe_cli.specs.Parted.{parts_reply};
 ghost use Rattle.bwe_cli.specs.TiersReply.{tiered_reply, tiers_accepted, tiers_reply};
 
+use crate::opened::{Opened, open};
 use crate::parted::{Parted, read_parts};
-use allocator::{Allocator, after_script};
+use allocator::after_script;
 use bwe_specs::OutOfMemory;
 use one_run::Answer;
 use plan_doc::Document;
@@ -50,15 +51,12 @@ fn fill(alloc: Global, document: Document, tiers: &[u8]) -> Result<Answer, OutOf
     ensures { IfOk result (λ answer. answer
         ≡ tiered_reply (texts_of document.names) (plan_in document) document.script.items tiers.now) }
 {
-    let Document {
-        tree,
-        topology,
-        plan,
+    let Opened {
+        allocator,
         script,
         names,
         ..
-    } = document;
-    let allocator = Allocator::new(tree, topology, plan);
+    } = open(document);
     let allocator = after_script(alloc, allocator, &script)?;
     let (tree, topology, plan) = allocator.into_parts();
     let prefix = script.len() as u64;

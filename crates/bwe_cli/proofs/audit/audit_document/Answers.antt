@@ -8,4 +8,4 @@ audit_by-requires-clause-tasks c = tasks-are (document c.args.input.now) c.args.
 
 pub audit_by-requires-clause-plan : goal.audit_by-requires-clause-plan
 audit_by-requires-clause-plan c =
-    c.allocator_of.ensures.plan ∙ same-plan (document c.args.input.now) c.args.document c.in-Ok.again c.requires.accepted c.in-Ok.ensures.exact
+    c.open.ensures.plan ∙ same-plan (document c.args.input.now) c.args.document c.in-Ok.again c.requires.accepted c.in-Ok.ensures.exact

@@ -19,9 +19,10 @@ returns c =
     let groups = c.in_ok-allocator.allocator.groups in
     let script = c.args.document.script.items in
     let closings = c.args.document.closings.items in
-    let plan : allocators.plan_by reported groups ≡ plan_in c.args.document = c.in_ok-allocator.ensures.plan ∙ c.new-allocator.ensures.plan in
-    let after = rw (c.deref.ensures.value) at c.in_ok-allocator.ensures.absorbed in
-    let found = rw (c.values-values.ensures, c.plan-plan.ensures.same, c.topology.ensures, c.deref-2.ensures.value) at c.in_ok-verdict.ensures.verdict in
+    let plan : allocators.plan_by reported groups ≡ plan_in c.args.document = c.in_ok-allocator.ensures.plan ∙ c.open-allocator.ensures.plan in
+    let after = rw (c.deref.ensures.value, c.open-allocator.ensures.script) at c.in_ok-allocator.ensures.absorbed in
+    let found = rw (c.values-values.ensures, c.plan-plan.ensures.same, c.topology.ensures, c.deref-2.ensures.value, c.open-allocator.ensures.closings) at c.in_ok-verdict.ensures.verdict in
     let judged : c.in_ok-verdict.verdict ≡ verdict (wan_after (plan_in c.args.document) script) closings =
     found ∙ ap (λ wan. verdict wan closings) (wan-after reported groups script after ∙ ap (λ plan. wan_after plan script) plan) in
-    ap₂ reply_parts (c.status_of.ensures ∙ ap verdict_status judged) (c.in_ok-check_text.ensures ∙ ap (verdict_line (texts_of c.args.document.names)) judged)
+    let text = rw c.open-allocator.ensures.names at c.in_ok-check_text.ensures in
+    ap₂ reply_parts (c.status_of.ensures ∙ ap verdict_status judged) (text ∙ ap (verdict_line (texts_of c.args.document.names)) judged)
