@@ -13,7 +13,6 @@ use circular_buffer::HeapCircularBuffer;
 use std::alloc::Global;
 use std::marker::Model;
 
-
 /// The greatest number of samples that an estimator keeps.
 pub const MAX_WINDOW: u32 = 1_000;
 

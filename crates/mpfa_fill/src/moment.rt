@@ -339,7 +339,11 @@ pub fn change(sums: &mut LinkSums, plan: &PathPlan, group: u32, place: u32, from
 }
 
 /// The amounts in rows.
-pub fn amounts_of(alloc: Global, plan: &PathPlan, sums: &LinkSums) -> Result<Vec<Vec<u64>>, OutOfMemory>
+pub fn amounts_of(
+    alloc: Global,
+    plan: &PathPlan,
+    sums: &LinkSums,
+) -> Result<Vec<Vec<u64>>, OutOfMemory>
     requires { IsSummedOver plan.now sums.now }
     ensures { IfOk result (λ rows. rows_in rows.items
         ≡ map (λ group. map (amount_at sums.now.amounts group) (numbers (path_group_count plan.now group))) (numbers (length plan.now))) }

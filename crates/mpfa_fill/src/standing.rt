@@ -99,11 +99,7 @@ fn uses_closed(plan: &PathPlan, group: u32, place: u32, closings: &[Closing]) ->
 }
 
 /// The stop shares, where a group that still grows stops at the top.
-pub fn stop_shares(
-    alloc: Global,
-    standings: &[Standing],
-    top: u64,
-) -> Result<Vec<u64>, OutOfMemory>
+pub fn stop_shares(alloc: Global, standings: &[Standing], top: u64) -> Result<Vec<u64>, OutOfMemory>
     ensures { IfOk result (λ shares. shares.items ≡ map (stop_of top) standings.now) }
 {
     let shares = standings
