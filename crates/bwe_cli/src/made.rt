@@ -17,12 +17,7 @@ use std::alloc::Global;
 use table_text::bulk_text;
 
 /// The made document.
-pub(crate) fn make(
-    alloc: Global,
-    seed: u64,
-    groups: u32,
-    tasks: u32,
-) -> Result<Answer, OutOfMemory>
+pub(crate) fn make(alloc: Global, seed: u64, groups: u32, tasks: u32) -> Result<Answer, OutOfMemory>
     requires { IsSize (record { seed = seed; groups = groups; tasks = tasks }) }
     ensures { IfOk result (λ answer. answer
         ≡ make_reply (record { seed = seed; groups = groups; tasks = tasks })) }
@@ -34,12 +29,7 @@ pub(crate) fn make(
 }
 
 /// The summary of the table of the made document, which is never refused.
-pub(crate) fn bulk(
-    alloc: Global,
-    seed: u64,
-    groups: u32,
-    tasks: u32,
-) -> Result<Answer, OutOfMemory>
+pub(crate) fn bulk(alloc: Global, seed: u64, groups: u32, tasks: u32) -> Result<Answer, OutOfMemory>
     requires { IsSize (record { seed = seed; groups = groups; tasks = tasks }) }
     ensures { IfOk result (λ answer. answer
         ≡ bulk_reply (record { seed = seed; groups = groups; tasks = tasks })) }
@@ -48,12 +38,7 @@ pub(crate) fn bulk(
 }
 
 // The summary of the table of the made document as it is read, or the line of its refusal.
-fn read_summary(
-    alloc: Global,
-    seed: u64,
-    groups: u32,
-    tasks: u32,
-) -> Result<Answer, OutOfMemory>
+fn read_summary(alloc: Global, seed: u64, groups: u32, tasks: u32) -> Result<Answer, OutOfMemory>
     requires { IsSize (record { seed = seed; groups = groups; tasks = tasks }) }
     ensures { IfOk result (λ answer. answer
         ≡ summary_of (record { seed = seed; groups = groups; tasks = tasks })

@@ -32,8 +32,5 @@ pub(crate) fn read_input_of<S: Source>(
 fn has_input(line: CommandLine) -> bool
     ensures { result ≡ reads line }
 {
-    !matches!(
-        line,
-        CommandLine::Make { .. } | CommandLine::Bulk { .. }
-    )
+    !matches!(line, CommandLine::Make { .. } | CommandLine::Bulk { .. })
 }

@@ -6,8 +6,8 @@ ghost use Rattle.clap.specs.declared.builder.command.Command.TheViews.{out-Comma
 ghost use Rattle.command_line.specs.Lines.{estimate_in as estimate_in_texts, is_hyphens, levels_in as levels_in_text, line_of_texts, number_given as number_of_option, run_line as line_of_given, size_in as size_in_texts, texts_of};
 ghost use Rattle.command_line.specs.Matches.{bwe_app, estimate_app, estimate_given, first_lines, given_in, levels_app, levels_given, line_entered, line_met, option_rule, place_rule, run_app, size_given, sized_app, texts_in};
 
-use crate::number::{any_number, number_in};
 use crate::CommandLine;
+use crate::number::{any_number, number_in};
 use bwe_specs::OutOfMemory;
 use clap::error::ErrorKind;
 use clap::{Arg, ArgAction, ArgMatches, Command};

@@ -71,7 +71,7 @@ pub fn write_usage<K: Sink>(sink: &mut K) -> u8
 pub fn finish<K: Sink>(sink: &mut K, answer: Result<Answer, OutOfMemory>) -> u8
     ensures { MatchResult answer
         (λ answer. Writes answer.status answer.text (K.written sink.old) (K.written sink.new)
-            (K.faults sink.old) (K.faults sink.new) result)
+        (K.faults sink.old) (K.faults sink.new) result)
         (λ _. IsSilent 6 (K.written sink.old) (K.written sink.new) result) }
 {
     match answer {
@@ -87,7 +87,7 @@ pub fn refuse_input<K: Sink>(sink: &mut K, error: ReadError) -> u8
         → IsSilent 4 (K.written sink.old) (K.written sink.new) result }
     ensures too_long { error ≡ ReadError.TooLong
         → Writes 8 too_long_line (K.written sink.old) (K.written sink.new)
-            (K.faults sink.old) (K.faults sink.new) result }
+        (K.faults sink.old) (K.faults sink.new) result }
     ensures memory { error ≡ ReadError.OutOfMemory
         → IsSilent 6 (K.written sink.old) (K.written sink.new) result }
 {
