@@ -1,9 +1,9 @@
 -- The line `run`, and what its input may get.
-use Rattle.std.specs.Prelude.{◌≡◌, ℕ, List, length, Result, Ok, Err}
+use Rattle.std.specs.Prelude.{◌≡◌, ℕ, length, Result, Ok, Err}
 use Rattle.bwe_specs.specs.Allocation.{Table}
 use Rattle.crew_log.specs.declared.log.CrewLog.{CrewLog}
 use Rattle.one_run.specs.Endings.{Reply}
-use Rattle.plan_doc.specs.Document.{Accepted, document}
+use Rattle.plan_doc.specs.Document.{Accepted}
 use Rattle.plan_doc.specs.Names.{NameLists}
 use Rattle.plan_doc.specs.Refusals.{Refusal}
 use Rattle.run_text.specs.RunText.{RunNames, run_text_of}

@@ -2,7 +2,7 @@
 use Rattle.std.specs.Prelude.{◌≡◌, ℕ, Bool, true, false, List, Option, Some, None}
 use Rattle.command_line.specs.declared.CommandLine.{CommandLine}
 use Rattle.command_line.specs.declared.CommandLine.TheVariants.{Solve, Check, Run, Make, Bulk, Audit, Tiers, Enforce, Estimate, Levels}
-use Rattle.one_run.specs.Endings.{Ending, Lines, Reply, Served}
+use Rattle.one_run.specs.Endings.{Ending, Reply, Served}
 use Rattle.plan_doc.specs.Document.{document}
 use Rattle.bwe_cli.specs.Replies.{check_accepted, document_reply, levels_accepted, solve_accepted}
 use Rattle.bwe_cli.specs.RunLine.{IsRunReply}

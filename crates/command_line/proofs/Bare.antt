@@ -3,7 +3,7 @@ use Rattle.std.proofs.Common.{◌≡◌, true, false, ◌&&◌, List, [], ◌∷
 use Rattle.std.specs.List.{fold}
 use Rattle.clap.specs.Kinds.{Kinds, or_else}
 use Rattle.clap.specs.Faults.{check_fault, defaults_fault, settle_fault, turn_fault, walk_fault}
-use Rattle.clap.specs.Simple.{Shape, built, built_leaf, inherited, marked_built, new_shape, with_leaf_noted}
+use Rattle.clap.specs.Simple.{Shape, built_leaf, inherited, marked_built, new_shape, with_leaf_noted}
 use Rattle.clap.specs.Walk.{Row, Text, Walk, finished, settled, walked}
 use Rattle.command_line.specs.Lines.{is_hyphens}
 use Rattle.command_line.specs.Matches.{bwe_app, estimate_app, levels_app, run_app, sized_app}

@@ -1,6 +1,6 @@
 -- What was read and what was written end a call.
-use Rattle.std.proofs.Common.{◌≡◌, ◌∙◌, ℕ, ◌+◌, ◌≤◌, Bool, true, false, ap, refl, subst, sym, true≢false, is_some, List, length, Option, Some, None, Result, Ok, Err, Vec, Global, IfOk, OnOk}
-use Rattle.std.specs.Prelude.{MatchResult, vec_len, IsErrOf}
+use Rattle.std.proofs.Common.{◌≡◌, ◌∙◌, ℕ, ◌+◌, ◌≤◌, true, false, ap, refl, subst, sym, List, Option, Some, None, Result, Ok, Err, Vec, Global, IfOk, OnOk}
+use Rattle.std.specs.Prelude.{MatchResult, vec_len}
 use Rattle.std.specs.Io.KnownBytes.{Consumes, IsAtEnd, Keeps}
 use Rattle.bwe_io.specs.Bytes.{Takes}
 use Rattle.bwe_io.specs.Faults.{HasRisen}

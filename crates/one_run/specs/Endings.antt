@@ -1,5 +1,5 @@
 -- How a call may end: a row of the table of statuses for each way.
-use Rattle.std.specs.Prelude.{◌≡◌, ℕ, ◌+◌, ◌≤◌, Bool, true, false, List, [], length, codes, Option, Some, None, Result, Ok, Err}
+use Rattle.std.specs.Prelude.{◌≡◌, ℕ, ◌+◌, ◌≤◌, Bool, true, false, List, [], length, codes, Option, Some, None}
 use Rattle.std.specs.Io.KnownBytes.{Appends, Consumes, IsAtEnd, Keeps}
 use Rattle.bwe_io.specs.Faults.{HasRisen}
 use Rattle.bwe_io.specs.Bytes.{AppendsPrefix, Takes}

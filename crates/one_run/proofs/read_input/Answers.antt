@@ -1,4 +1,4 @@
-use Rattle.std.proofs.Common.{refl, sym}
+use Rattle.std.proofs.Common.{refl}
 use Rattle.one_run.specs.Endings.{nothing}
 use Rattle.one_run.proofs.Ends.{read-whole}
 use Rattle.one_run.proofs.read_input.Goals as goal
