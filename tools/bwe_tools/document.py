@@ -1,8 +1,8 @@
 """Reading and writing of documents ("The document", docs/FORMAT.md).
 
 `parse` gives a document as dataclasses, with the JSON that it was read from in `raw`. What is no
-document is a ToolError: one sentence, status 2, no trace. Keys that are none of the format's are read
-over. `lint` is the tool that says more.
+document is a ToolError: one sentence, status 2, no trace. Keys that are none of the format's are
+read over. `lint` is the tool that says more.
 """
 
 import json
