@@ -1,7 +1,8 @@
 """Reading and writing of documents ("The document", docs/FORMAT.md).
 
-`load` gives a document as dataclasses, with the JSON that it was read from in `raw`. What is no
-document is a ToolError: one sentence, status 2, no trace. `lint` is the tool that says more.
+`parse` gives a document as dataclasses, with the JSON that it was read from in `raw`. What is no
+document is a ToolError: one sentence, status 2, no trace. Keys that are none of the format's are
+read over. `lint` is the tool that says more.
 """
 
 import json
@@ -149,6 +150,8 @@ def read_bytes(path):
 
 def parse(data, path="-"):
     """The document of some bytes; `path` is how a fault names where they come from."""
+    if len(data) > MOST_BYTES:
+        raise ToolError(f"{path} is longer than {MOST_BYTES:,} bytes, the most that bwe reads")
     try:
         _, raw = json_text.parse(data)
     except json_text.NotJson as fault:
@@ -173,16 +176,6 @@ def first_fault(raw):
     from bwe_tools import shape
 
     return shape.first_fault(raw) or rules.first_fault(raw)
-
-
-def load(path):
-    """The document of a file, or of standard input for `-`."""
-    data = read_bytes(path)
-    if len(data) > MOST_BYTES:
-        raise ToolError(
-            f"{path} is longer than {MOST_BYTES:,} bytes, which is the most that bwe reads"
-        )
-    return parse(data, path)
 
 
 def of_raw(raw):
