@@ -1,5 +1,5 @@
 -- The laws of a table of what stands.
-use Rattle.std.proofs.Common.{◌≡◌, ℕ, zero, suc, ◌<◌, ◌≤◌, List, [], ◌∷◌, length, map, flat_map, zip, reverse, get_or, slice_index, slice_index_or, sum, None, Result, Ok, Err, IfOk, refl, sym, ap, ◌∙◌, subst, arith, zero-add}
+use Rattle.std.proofs.Common.{◌≡◌, ℕ, zero, suc, ◌<◌, ◌≤◌, List, [], ◌∷◌, length, map, flat_map, reverse, get_or, slice_index, slice_index_or, sum, None, Result, Ok, Err, IfOk, refl, sym, ap, ◌∙◌, subst, arith, zero-add}
 use Rattle.std.proofs.lemmas.List.{reverse-reverse}
 use Rattle.std.proofs.lemmas.List.FromFn.{length-range_with_len, length-map-range_with_len, get_or-map-range_with_len}
 use Rattle.bwe_specs.specs.Paths.{PathGroups, link_load}
@@ -8,18 +8,21 @@ use Rattle.bwe_specs.specs.Reports.{numbers}
 use Rattle.bwe_specs.specs.Tree.{Cluster, cluster_limits}
 use Rattle.bwe_specs.specs.TreeFunctions.{IsCluster, AreClusters}
 use Rattle.bwe_specs.specs.Values.{AreValues}
-use Rattle.bwe_specs.specs.Laws.{IsHeldBy}
-use Rattle.bwe_specs.specs.Allocation.{Table, group_line}
+use Rattle.bwe_specs.specs.Allocation.{Table}
 use Rattle.bwe_specs.proofs.HandedOut.{sum-cluster_limits}
 use Rattle.bwe_specs.proofs.Loads.{fits-each}
 use Rattle.bwe_specs.proofs.Steps.{filling-sound}
 use Rattle.bwe_specs.proofs.StopShares.{held_back}
-use Rattle.policy_tree.specs.Trees.{IsTree, cluster_numbers, demand_in, task_numbers, value_in}
+use Rattle.policy_tree.specs.Trees.{IsTree, cluster_numbers, demand_in, value_in}
 use Rattle.policy_tree.specs.Nodes.{cluster_in}
+use Rattle.table_laws.proofs.Asked.{no-more-than-asked}
+use Rattle.table_laws.proofs.Shared.{shared-alike}
+use Rattle.table_laws.proofs.Walks.{numbered}
+use Rattle.table_laws.proofs.Wasted.{without-waste}
 use Rattle.allocator.specs.FrameLaws.{length-cluster_limits}
 use Rattle.allocator.specs.Reported.{Reported}
 use Rattle.allocator.specs.Allocators.{IsFitted, plan_by, table_by}
-use Rattle.allocator.specs.Laws.{IsConserved, IsFeasible, IsHeldBack, amount_in}
+use Rattle.allocator.specs.Laws.{IsNoMoreThanAsked, IsConserved, IsShared, IsFeasible, IsHeldBack, IsUnwasted, amount_in}
 use Rattle.allocator.specs.Tables.{wan_by}
 use Rattle.allocator.proofs.Filled.{amount-at_most, amounts-of_lines}
 use Rattle.allocator.proofs.Made.{never, bound}
@@ -74,3 +77,18 @@ module _ (reported : Reported) (groups : List PathGroups) (fitted : IsFitted rep
       ∙ sum-cluster_limits top demand (cluster_in reported.tree group) (cluster-at top clusters tree.functions group) amount
       (amount-at_most wan (never reported groups fitted values) (bound reported groups fitted values) group)
       ∙ sym (amount-is group (omega (arith, fitted.clusters)))
+
+  pub table-asked : IsTree reported.tree → IsNoMoreThanAsked reported.tree (table_by reported groups)
+  table-asked tree =
+      no-more-than-asked (plan_by reported groups) reported.prefix (demand_in reported.tree) reported.network.capacities tree.functions
+      (numbered reported.tree.clusters (length reported.tree.demands) tree.numbers)
+
+  pub table-shared : IsShared wan (table_by reported groups)
+  table-shared =
+      let closings : reverse (table_by reported groups).closings ≡ (filling wan).closings = reverse-reverse (filling wan).closings in
+      rw (closings) (shared-alike wan (never reported groups fitted values) values.starts)
+
+  pub table-unwasted : IsUnwasted wan (table_by reported groups)
+  table-unwasted =
+      let closings : reverse (table_by reported groups).closings ≡ (filling wan).closings = reverse-reverse (filling wan).closings in
+      rw (closings) (without-waste wan (never reported groups fitted values) values.starts)

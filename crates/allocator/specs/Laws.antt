@@ -5,8 +5,10 @@ use Rattle.bwe_specs.specs.Paths.{path_group_count}
 use Rattle.bwe_specs.specs.Filling.{Wan}
 use Rattle.bwe_specs.specs.Laws.{IsHeldBy}
 use Rattle.bwe_specs.specs.Allocation.{Table}
-use Rattle.policy_tree.specs.Trees.{Tree, cluster_numbers}
+use Rattle.policy_tree.specs.Trees.{Tree, cluster_numbers, demand_in}
 use Rattle.policy_tree.specs.Nodes.{cluster_in}
+use Rattle.table_laws.specs.Tasks.{AreAskedFor}
+use Rattle.table_laws.specs.Tables.{IsSharedAlike, IsWithoutWaste}
 
 -- what a group gets
 abbrev pub amount_in : Table → ℕ → ℕ
@@ -25,3 +27,19 @@ IsHeldBack wan table = (group place : ℕ) → group < length wan.groups → pla
 -- Conservation law: the limits of a group's tasks add up to its amount
 abbrev pub IsConserved : Tree → Table → Type 0
 IsConserved tree table = (group : ℕ) → group < length tree.clusters → sum (map (slice_index table.limits) (cluster_numbers (cluster_in tree group))) ≡ amount_in table group
+
+-- No more than asked: each task's limit is at most its demand, and at most its weight times what its job's task function
+-- gives at the top share
+abbrev pub IsNoMoreThanAsked : Tree → Table → Type 0
+IsNoMoreThanAsked tree table = AreAskedFor tree.top (demand_in tree) tree.clusters table.limits
+
+-- The same share: a group's amount is exactly what its function gives at its stop share, and at each closing every group
+-- that then grew over the link stood at the closing's share
+abbrev pub IsShared : Wan → Table → Type 0
+IsShared wan table = IsSharedAlike wan table.groups (reverse table.closings)
+
+-- No waste: where a group has less than it may have at the top, each of its path groups uses a closed link; and on each
+-- closed link what is left free is less than what the groups that then grew over it would have put there with the next
+-- whole share
+abbrev pub IsUnwasted : Wan → Table → Type 0
+IsUnwasted wan table = IsWithoutWaste wan table.groups table.loads (reverse table.closings)

@@ -7,7 +7,7 @@ ghost use Rattle.policy_tree.specs.Trees.{task_numbers};
 use crate::reported::Reported;
 use crate::table::make_table;
 use crate::values::TreeValues;
-use bwe_specs::{Closing, OutOfMemory, Report};
+use bwe_specs::{OutOfMemory, Report};
 use demand_book::Maker;
 use limit_table::LimitTable;
 use path_groups::PathPlan;
@@ -16,15 +16,11 @@ use std::alloc::Global;
 use std::marker::Model;
 use wan_topology::Topology;
 
-/// Makes tables of limits from reports.
-///
-/// It keeps the closings of its last table, where the next one looks first: a table after a report that changes
-/// nothing costs about two tests for each closing. They alter no table.
+/// Makes tables of limits from reports. It keeps nothing of a table that it made.
 #[derive(Drop)]
 pub struct Allocator {
     reported: Reported,
     plan: PathPlan,
-    closings: Vec<Closing>,
 }
 
 impl Model for Allocator {
@@ -53,7 +49,7 @@ impl Allocator {
     /// The allocator of a tree, of which nobody has asked anything yet, and of path groups over the links of a network.
     ///
     /// The capacities of `topology` stand where a link has no report.
-    pub fn new(alloc: Global, tree: PolicyTree, topology: Topology, plan: PathPlan) -> Allocator
+    pub fn new(tree: PolicyTree, topology: Topology, plan: PathPlan) -> Allocator
         requires idle { tree.demands ≡ replicate (length tree.demands) 0 }
         requires built_on { IsBuiltOn topology plan }
         requires groups { length tree.clusters ≡ length plan }
@@ -67,7 +63,6 @@ impl Allocator {
         Allocator {
             reported: Reported::new(tree, topology),
             plan,
-            closings: Vec::new(alloc),
         }
     }
 
@@ -104,7 +99,7 @@ impl Allocator {
         ensures built_on { IsBuiltOn self.reported.network self.groups }
         ensures groups { length self.reported.tree.clusters ≡ length self.groups }
     {
-        let Allocator { reported, plan, .. } = self;
+        let Allocator { reported, plan } = self;
         let (tree, topology) = reported.into_parts();
         (tree, topology, plan)
     }
@@ -152,8 +147,6 @@ impl Maker for Allocator {
 
     fn table(&mut self, alloc: Global) -> Result<LimitTable, OutOfMemory> {
         self.reported.rematch();
-        let table = make_table(alloc, &self.reported, &self.plan, &self.closings)?;
-        self.closings = Vec::from_slice(alloc, &table.closings)?;
-        Ok(table)
+        make_table(alloc, &self.reported, &self.plan)
     }
 }

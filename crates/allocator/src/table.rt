@@ -7,34 +7,28 @@ ghost use Rattle.bwe_specs.specs.Values.{AreValues};
 ghost use Rattle.policy_tree.specs.Trees.{demand_in, value_in, IsTree};
 ghost use Rattle.mpfa_fill.specs.Filling.{IsFilling};
 ghost use Rattle.allocator.specs.Allocators.{IsFitted, table_by};
-ghost use Rattle.allocator.specs.Laws.{IsConserved, IsFeasible, IsHeldBack};
+ghost use Rattle.allocator.specs.Laws.{IsNoMoreThanAsked, IsConserved, IsShared, IsFeasible, IsHeldBack, IsUnwasted};
 ghost use Rattle.allocator.specs.Tables.{wan_by};
 
 use crate::line::group_lines;
 use crate::loads::loads_of;
 use crate::reported::Reported;
 use crate::values::TreeValues;
-use bwe_specs::{Closing, OutOfMemory};
+use bwe_specs::OutOfMemory;
 use limit_table::{GroupLine, LimitTable};
-use mono_search::Steps;
-use mpfa_fill::Filling;
 use link_solver::solve_by_links;
+use mpfa_fill::Filling;
 use path_groups::PathPlan;
 use policy_tree::PolicyTree;
 use std::alloc::Global;
-use std::marker::Brand;
-use std::sync::ledger::{Blank, Ledger};
 use task_limits::all_limits;
 
 /// The table under the demands and capacities that now stand: the allocation ("Allocation", docs/DEFINITIONS.md), for
-/// which three laws hold.
-///
-/// The hints say where links may close, and alter no table.
+/// which six laws hold ("Laws" and "Laws of a table" there).
 pub fn make_table(
     alloc: Global,
     reported: &Reported,
     plan: &PathPlan,
-    hints: &[Closing],
 ) -> Result<LimitTable, OutOfMemory>
     requires { IsFitted reported.now plan.now }
     ensures table { IfOk result (λ table. table ≡ table_by reported.now plan.now) }
@@ -47,8 +41,18 @@ pub fn make_table(
 
     // Conservation law: the limits of a group's tasks add up to its amount
     ensures conserved { IfOk result (IsConserved reported.now.tree) }
+
+    // No more than asked: no limit is above its task's demand, nor above its weight times its function at the top
+    ensures asked { IfOk result (IsNoMoreThanAsked reported.now.tree) }
+
+    // The same share: a group has what its function gives at its stop share, and groups that grow over a link
+    // when it closes stand at one share
+    ensures shared { IfOk result (IsShared (wan_by reported.now plan.now)) }
+
+    // No waste: a closed link has less free than those who grew over it would have put there with one share more
+    ensures unwasted { IfOk result (IsUnwasted (wan_by reported.now plan.now)) }
 {
-    let filling = filling_of::<Brand>(alloc, reported, plan, hints, Blank::new(1))?;
+    let filling = filling_of(alloc, reported, plan)?;
     table_of_filling(alloc, reported, plan, filling)
 }
 
@@ -76,18 +80,9 @@ fn table_of_filling(
     })
 }
 
-// The filling under what now stands. Its tests are not counted.
-fn filling_of<L: Ledger>(
-    alloc: Global,
-    reported: &Reported,
-    plan: &PathPlan,
-    hints: &[Closing],
-    blank: Blank,
-) -> Result<Filling, OutOfMemory>
-    requires fitted { IsFitted reported.now plan.now }
-    requires name { blank.name ≡ L.name }
-    requires parts { blank.parts ≡ L.parts }
-    requires some { 0 < L.parts }
+// The filling under what now stands.
+fn filling_of(alloc: Global, reported: &Reported, plan: &PathPlan) -> Result<Filling, OutOfMemory>
+    requires { IsFitted reported.now plan.now }
     ensures tree { IsTree reported.now.tree }
     ensures values { AreValues (length reported.now.tree.clusters) reported.now.tree.top (value_in reported.now.tree) }
     ensures filling { IfOk result (IsFilling (wan_by reported.now plan.now)) }
@@ -95,8 +90,6 @@ fn filling_of<L: Ledger>(
     let values = TreeValues {
         tree: reported.tree(),
     };
-    let _steps: Steps<L> = Steps::new(blank);
-    let _hints = hints;
     solve_by_links(alloc, &values, reported.topology(), plan)
 }
 

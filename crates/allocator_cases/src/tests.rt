@@ -19,7 +19,7 @@ fn table_of(alloc: Global, text: &str) -> Result<LimitTable, DocError> {
         script,
         ..
     } = read_document(alloc, text.as_bytes())?;
-    let allocator = Allocator::new(alloc, tree, topology, plan);
+    let allocator = Allocator::new(tree, topology, plan);
     let mut allocator = after_script(alloc, allocator, &script)?;
     Ok(allocator.table(alloc)?)
 }
@@ -71,7 +71,7 @@ fn a_repeated_demand_sends_no_entry(rt: HostRuntime) -> Result<(), Fail> {
     assert!(rt; 0 < script.len());
     assert!(rt; script.len() < 100);
     let again = script[0];
-    let allocator = Allocator::new(alloc, tree, topology, plan);
+    let allocator = Allocator::new(tree, topology, plan);
     let (applied, later, change) = change_by(alloc, allocator, &script, again)?;
     assert_eq!(rt;
         (change.prefix, change.limits.len(), change.groups.len()),
@@ -99,7 +99,7 @@ fn an_untold_reader_sees_the_limits_too(rt: HostRuntime) -> Result<(), Fail> {
         plan,
         ..
     } = read_document(alloc, SHARED_LINK.as_bytes())?;
-    let allocator = Allocator::new(alloc, tree, topology, plan);
+    let allocator = Allocator::new(tree, topology, plan);
     tell_one_of_two(&rt, alloc, allocator)
 }
 

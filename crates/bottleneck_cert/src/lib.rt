@@ -1,23 +1,27 @@
-//! The check of a list of closings: whether they are those of the filling, without filling.
+//! The check of a list of closings: whether they are those of the filling.
 //!
-//! `check` looks at two shares for each closing and at the top, so its cost goes by the list and not by the top share.
-//! The top call's `check` line prints its verdict. The closings that a table or a document names are a certificate of the
-//! whole allocation: where the verdict is `Right`, nothing but the filling has them ("Certificate law", docs/DEFINITIONS.md).
-//! It does not stand on the solver, whose answers it judges. Nothing is promised of time.
+//! `check` finds the next closing by the dues of links, as the solver does, and compares it with the one that is named;
+//! only where they differ is each link tested. So its cost goes by the list and not by the top share, and a closing moves
+//! only the groups of its link. The top call's `check` line prints its verdict. The closings that a table or a document
+//! names are a certificate of the whole allocation: where the verdict is `Right`, nothing but the filling has them
+//! ("Certificate law", docs/DEFINITIONS.md). Nothing is promised of time.
 #![tactic(auto)]
 
-ghost use Rattle.std.specs.Prelude.{◌≡◌, ◌↔◌, ◌==◌, length, reverse, IfOk, OnOk, None};
+ghost use Rattle.std.specs.Prelude.{◌≡◌, ◌↔◌, ◌==◌, ℕ, ◌+◌, ◌<◌, ◌≤◌, [], length, reverse, IfOk, OnOk, Some, None, true, false};
 ghost use Rattle.std.specs.List.{list_any};
 ghost use Rattle.bwe_specs.specs.declared.network.Verdict.TheVariants.{Right};
 ghost use Rattle.bwe_specs.specs.Filling.{filling};
-ghost use Rattle.bwe_specs.specs.RightClosings.{last_share, cause_after, next_cause as next_cause_of, top_verdict as top_verdict_of, verdict as verdict_of};
+ghost use Rattle.bwe_specs.specs.RightClosings.{last_share, over_at, cause_after, share_cause as share_cause_of, next_cause as next_cause_of, top_verdict as top_verdict_of, verdict as verdict_of};
 ghost use Rattle.path_groups.specs.Plan.{IsBuiltOn};
 ghost use Rattle.mpfa_fill.specs.GroupValues.{Values, wan_of};
-ghost use Rattle.mpfa_fill.specs.Moment.{IsMoment, wan_in, state_of};
+ghost use Rattle.mpfa_fill.specs.LastFit.{is_over_at};
+ghost use Rattle.link_solver.specs.Dues.{due_at, AreDues};
+ghost use Rattle.link_solver.specs.Front.{IsFront, wan_in, closings_in};
 
 use bwe_specs::OutOfMemory;
 pub use bwe_specs::{Cause, Closing, Verdict};
-use mpfa_fill::{GroupValues, Moment};
+use link_solver::{Due, Front, GroupsByLink, first_dues, next_closing};
+use mpfa_fill::GroupValues;
 use path_groups::PathPlan;
 use std::alloc::Global;
 use wan_topology::Topology;
@@ -43,58 +47,118 @@ pub fn check<V: GroupValues>(
         ≡ reverse (filling (wan_of (V.meaning values.now) plan.now topology.now.capacities)).closings)) }
 {
     let top = values.top();
-    let mut moment = Moment::first(alloc, values, topology, plan)?;
+    let by_link = GroupsByLink::of(alloc, topology, plan)?;
+    let mut front = Front::open(alloc, values, topology, plan, &by_link)?;
+    let mut dues = first_dues(alloc, &front, top)?;
+    Ok(verdict_on(alloc, &mut front, &mut dues, top, closings)?)
+}
+
+// The verdict on closings, where none is closed yet.
+fn verdict_on<V: GroupValues>(
+    alloc: Global,
+    front: &mut Front<V>,
+    dues: &mut [Due],
+    top: u64,
+    closings: &[Closing],
+) -> Result<Verdict, OutOfMemory>
+    requires front { IsFront V.meaning front.old }
+    requires dues { AreDues (wan_in V.meaning front.old) (closings_in front.old) dues.old }
+    requires none { closings_in front.old ≡ [] }
+    requires top { top ≡ (V.meaning front.old.values.now).top }
+    ensures { IfOk result (λ verdict. verdict ≡ verdict_of (wan_in V.meaning front.old) closings.now) }
+{
     for place in 0..closings.len() {
         let closing = closings[place];
-        let cause = cause_of(&mut moment, closing, topology.links(), top);
-        if let Some(cause) = cause {
+        if let Some(cause) = cause_of(alloc, front, dues, top, closing)? {
             return Ok(Verdict::Wrong {
                 at: place as u64,
                 cause,
             });
         }
-        moment.go_to(closing.share);
-        moment.close_link(closing.link)?;
+        front.close(closing, dues, top + 1)?;
     }
-    moment.go_to(top);
-    Ok(top_verdict(moment.first_over(), closings.len() as u64))
+    let over = front.first_over(alloc, top)?;
+    Ok(top_verdict(over, closings.len() as u64))
 }
 
-// Why the closing is not right after those of the moment, which goes to the closing's share on the way, or past it.
+// Why the closing is not right after those of the front, if it is not.
 fn cause_of<V: GroupValues>(
-    moment: &mut Moment<'_, V>,
-    closing: Closing,
-    links: u32,
+    alloc: Global,
+    front: &Front<V>,
+    dues: &mut [Due],
     top: u64,
-) -> Option<Cause>
-    requires moment { IsMoment V.meaning moment.old }
-    requires last { (state_of moment.old).share ≡ last_share (state_of moment.old).closings }
-    requires links { links ≡ length (wan_in V.meaning moment.old).capacities }
-    requires top { top ≡ (wan_in V.meaning moment.old).top }
-    ensures cause { result ≡ cause_after (wan_in V.meaning moment.old) (state_of moment.old).closings closing }
-    ensures moment { IsMoment V.meaning moment.new }
-    ensures wan { wan_in V.meaning moment.new ≡ wan_in V.meaning moment.old }
-    ensures closings { (state_of moment.new).closings ≡ (state_of moment.old).closings }
+    closing: Closing,
+) -> Result<Option<Cause>, OutOfMemory>
+    requires front { IsFront V.meaning front.now }
+    requires dues { AreDues (wan_in V.meaning front.now) (closings_in front.now) dues.old }
+    requires top { top ≡ (V.meaning front.now.values.now).top }
+    ensures cause { IfOk result (λ cause. cause
+        ≡ cause_after (wan_in V.meaning front.now) (closings_in front.now) closing) }
+    ensures dues { OnOk result (AreDues (wan_in V.meaning front.now) (closings_in front.now) dues.new) }
+    ensures least { IfOk result (λ cause. cause ≡ None
+        → (link : ℕ) → link < length dues.new → closing.share ≤ (due_at dues.new link).share) }
 {
-    if closing.link >= links {
-        return Some(Cause::NoSuchLink);
+    if closing.link >= front.links() {
+        return Ok(Some(Cause::NoSuchLink));
     }
-    if is_closed(moment.closings(), closing.link) {
-        return Some(Cause::Reclosed);
+    if is_closed(front.closings(), closing.link) {
+        return Ok(Some(Cause::Reclosed));
     }
-    if closing.share < moment.share() {
-        return Some(Cause::ShareFalls);
+    if closing.share < last_of(front.closings()) {
+        return Ok(Some(Cause::ShareFalls));
     }
     if closing.share >= top {
-        return Some(Cause::ShareAtTop);
+        return Ok(Some(Cause::ShareAtTop));
     }
-    moment.go_to(closing.share);
-    if let Some(link) = moment.first_over() {
-        return Some(Cause::OverBefore { link });
+    let next = next_closing(alloc, front, dues, top)?;
+    if is_named(next, closing) {
+        return Ok(None);
     }
-    moment.go_to(closing.share + 1);
-    let is_named_over = moment.is_over(closing.link);
-    next_cause(closing.link, is_named_over, moment.first_over())
+    Ok(share_cause(alloc, front, closing)?)
+}
+
+// Whether the closing is the next one.
+fn is_named(next: Option<Closing>, closing: Closing) -> bool
+    ensures same { result ≡ true → next ≡ Some closing }
+    ensures other { result ≡ false → next ≡ Some closing → ⊥ }
+{
+    match next {
+        Some(next) => next.link == closing.link && next.share == closing.share,
+        None => false,
+    }
+}
+
+// What is wrong with the closing at its share or at the next one.
+fn share_cause<V: GroupValues>(
+    alloc: Global,
+    front: &Front<V>,
+    closing: Closing,
+) -> Result<Option<Cause>, OutOfMemory>
+    requires front { IsFront V.meaning front.now }
+    requires link { closing.link < length front.now.topology.now.capacities }
+    requires last { last_share (closings_in front.now) ≤ closing.share }
+    requires below { closing.share < (V.meaning front.now.values.now).top }
+    ensures { IfOk result (λ cause. cause
+        ≡ share_cause_of (over_at (wan_in V.meaning front.now) (closings_in front.now) closing.share)
+        (next_cause_of closing.link (is_over_at (wan_in V.meaning front.now) (closings_in front.now) (closing.share + 1) closing.link)
+        (over_at (wan_in V.meaning front.now) (closings_in front.now) (closing.share + 1)))) }
+{
+    if let Some(link) = front.first_over(alloc, closing.share)? {
+        return Ok(Some(Cause::OverBefore { link }));
+    }
+    let is_named_over = front.is_over(alloc, closing.link, closing.share + 1)?;
+    let over = front.first_over(alloc, closing.share + 1)?;
+    Ok(next_cause(closing.link, is_named_over, over))
+}
+
+// The share of the last closing, or 0.
+fn last_of(closings: &[Closing]) -> u64
+    ensures { result ≡ last_share (reverse closings.now) }
+{
+    match closings.last() {
+        Some(closing) => closing.share,
+        None => 0,
+    }
 }
 
 // Whether the link was closed.

@@ -13,8 +13,6 @@ use circular_buffer::HeapCircularBuffer;
 use std::alloc::Global;
 use std::marker::Model;
 
-#[cfg(test)]
-mod tests;
 
 /// The greatest number of samples that an estimator keeps.
 pub const MAX_WINDOW: u32 = 1_000;

@@ -8,8 +8,6 @@ mod document;
 mod laws;
 mod network;
 mod size;
-#[cfg(test)]
-mod tests;
 mod tree;
 
 pub use document::make_document;

@@ -48,7 +48,7 @@ pub fn run_document<G: Gate + Sync, R: Threads + Wait + Sync>(
         names,
         ..
     } = document;
-    let allocator = Allocator::new(alloc, tree, topology, plan);
+    let allocator = Allocator::new(tree, topology, plan);
     let log = run_crew(rt, alloc, allocator, &scripts, readers, reads, gate)?;
     Ok((log, names))
 }

@@ -9,8 +9,6 @@ mod line;
 mod play;
 mod regions;
 mod run;
-#[cfg(test)]
-mod tests;
 mod text;
 
 pub use run::enforce;

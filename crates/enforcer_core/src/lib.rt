@@ -10,8 +10,6 @@ mod centre;
 mod event;
 mod law;
 mod region;
-#[cfg(test)]
-mod tests;
 mod world;
 
 pub use event::{WorldAnswer, WorldEvent};

@@ -14,8 +14,6 @@ use std::alloc::{AllocFailed, Global};
 
 mod lines;
 mod refusal_line;
-#[cfg(test)]
-mod tests;
 mod words;
 
 pub use refusal_line::event_refusal_line;

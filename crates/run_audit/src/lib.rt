@@ -22,6 +22,3 @@ pub use due::MAX_READS;
 pub use run::audit;
 pub use text::audit_text;
 pub use verdict::{AuditCause, AuditVerdict};
-
-#[cfg(test)]
-mod tests;

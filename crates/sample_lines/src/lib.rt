@@ -23,8 +23,6 @@ mod names;
 mod refusal_line;
 mod reports;
 mod sample;
-#[cfg(test)]
-mod tests;
 
 use crate::lines::read_samples;
 use crate::reports::estimate_samples;

@@ -6,8 +6,6 @@
 #![tactic(auto)]
 
 mod part;
-#[cfg(test)]
-mod tests;
 mod text;
 
 pub use part::{TiersError, read_tiers, refused_tiers};

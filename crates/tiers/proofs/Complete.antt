@@ -1,5 +1,5 @@
 -- The whole table that the fillings of all tiers make.
-use Rattle.std.proofs.Common.{◌≡◌, ℕ, ◌<◌, ◌≤◌, List, [], length, map, flat_map, zip, slice_index, sym, ap, ap₂, ◌∙◌, subst, arith}
+use Rattle.std.proofs.Common.{◌≡◌, ℕ, ◌<◌, ◌≤◌, List, [], length, map, flat_map, zip, slice_index, refl, sym, ap, ap₂, ◌∙◌, subst, arith}
 use Rattle.std.proofs.lemmas.List.FromFn.{length-range_with_len, length-map-range_with_len}
 use Rattle.bwe_specs.specs.declared.network.Closing.{Closing}
 use Rattle.bwe_specs.specs.Paths.{PathGroups, link_load}
@@ -12,10 +12,13 @@ use Rattle.policy_tree.specs.Trees.{Tree, IsTree, demand_in, value_in}
 use Rattle.path_groups.specs.Plan.{IsPlan}
 use Rattle.wan_topology.specs.Network.{Network, IsNetwork}
 use Rattle.allocator.specs.FrameLaws.{length-limits_of}
+use Rattle.table_laws.specs.Tasks.{AreAskedFor}
 use Rattle.tiers.specs.Tiered.{Tiered, tier_closings, tier_count, tiered_amounts, tiered_line, tiered_under}
 use Rattle.tiers.specs.Tables.{IsTierTable, plan_of}
+use Rattle.tiers.specs.TierLaws.{IsNoMoreThanAsked, IsShared, IsUnwasted}
 use Rattle.tiers.specs.Fillings.{Fillings, AreFilled, line_in_tier, wan_by}
 use Rattle.tiers.proofs.Step.{step-never, step-bound}
+use Rattle.tiers.proofs.Lawful.{tiers-asked, tiers-shared, tiers-unwasted}
 use Rattle.tiers.proofs.Made.{made-lines, made-count, made-amounts, made-total, made-loads, made-feasible}
 
 abbrev table_parts : ℕ → List (List Closing) → List ℕ → List GroupLine → List ℕ → Tiered
@@ -82,6 +85,24 @@ module _ (tree : Tree) (initial : Network) (groups : List PathGroups) (tiers : L
       is_network.few_links,
     );
   }
+
+  -- the laws of a table hold in each tier
+  pub whole-asked : (prefix : ℕ) → IsTree tree → IsNoMoreThanAsked tree (table_parts prefix closings limits lines loads)
+  whole-asked prefix is_tree =
+      subst (λ (limits : List ℕ). AreAskedFor tree.top (demand_in tree) tree.clusters limits) (sym whole-limits)
+      (tiers-asked tree wan tiers is_tree (λ group. refl) (step-never tree initial groups tiers clusters values) (step-bound tree initial groups tiers clusters values))
+
+  pub whole-shared : (prefix : ℕ) → IsShared wan tiers (table_parts prefix closings limits lines loads)
+  unfolding tiered_under
+  whole-shared prefix =
+      subst (λ (table : Tiered). IsShared wan tiers table) (sym (whole-table prefix))
+      (tiers-shared wan tiers (step-never tree initial groups tiers clusters values) values.starts (step-bound tree initial groups tiers clusters values) one_each tree.clusters (demand_in tree) prefix)
+
+  pub whole-unwasted : (prefix : ℕ) → IsUnwasted wan tiers (table_parts prefix closings limits lines loads)
+  unfolding tiered_under
+  whole-unwasted prefix =
+      subst (λ (table : Tiered). IsUnwasted wan tiers table) (sym (whole-table prefix))
+      (tiers-unwasted wan tiers (step-never tree initial groups tiers clusters values) values.starts (step-bound tree initial groups tiers clusters values) one_each tree.clusters (demand_in tree) prefix)
 
   -- no link's load exceeds its capacity
   pub whole-feasible : (link : ℕ) → link < length initial.capacities → slice_index loads link ≤ slice_index initial.capacities link

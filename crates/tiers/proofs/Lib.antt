@@ -6,4 +6,5 @@ pub mod Step
 pub mod Made
 pub mod Agreeing
 pub mod Lower
+pub mod Lawful
 pub mod Complete

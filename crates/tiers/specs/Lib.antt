@@ -2,3 +2,4 @@ pub mod Tiered
 pub mod Tables
 pub mod Fillings
 pub mod Laws
+pub mod TierLaws

@@ -6,7 +6,8 @@ ghost use Rattle.path_groups.specs.Plan.{IsBuiltOn};
 ghost use Rattle.policy_tree.specs.Trees.{demand_in};
 ghost use Rattle.tiers.specs.Tiered.{tiered_under};
 ghost use Rattle.tiers.specs.Tables.{IsFeasible, plan_of};
-ghost use Rattle.tiers.specs.Fillings.{HasLine, line_in_tier};
+ghost use Rattle.tiers.specs.TierLaws.{IsNoMoreThanAsked, IsShared, IsUnwasted};
+ghost use Rattle.tiers.specs.Fillings.{HasLine, line_in_tier, wan_by};
 
 use crate::fillings::{Fillings, fill_each};
 use crate::table::TierTable;
@@ -35,7 +36,20 @@ pub fn fill_tiers(
     requires one_each { length tiers.now ≡ length plan.now }
     ensures table { IfOk result (λ table. table ≡
         tiered_under (plan_of tree.now topology plan.now) prefix (demand_in tree.now) topology.capacities tiers.now) }
+
+    // Feasibility law: no link's load exceeds its capacity
     ensures feasible { IfOk result (IsFeasible topology.capacities) }
+
+    // No more than asked: no limit is above its task's demand, nor above its weight times its function at the top
+    ensures asked { IfOk result (IsNoMoreThanAsked tree.now) }
+
+    // The same share: a group has what its function gives at its stop share, and groups of a tier that grow over a
+    // link when it closes stand at one share
+    ensures shared { IfOk result (IsShared (wan_by tree.now topology plan.now) tiers.now) }
+
+    // No waste: a closed link has less free than those of the tier who grew over it would have put there with one
+    // share more
+    ensures unwasted { IfOk result (IsUnwasted (wan_by tree.now topology plan.now) tiers.now) }
 {
     // Who asks a tree, a plan and a network for these learns what is true of each.
     let (_top, _groups, _links) = (tree.top(), plan.groups(), topology.links());

@@ -14,14 +14,12 @@ use crate::values::TierValues;
 use allocator::{group_line, loads_of};
 use bwe_specs::{Closing, OutOfMemory};
 use limit_table::GroupLine;
-use mono_search::Steps;
+use link_solver::solve_by_links;
 use mpfa_fill::Filling;
-use mpfa_solver::solve;
 use path_groups::PathPlan;
 use policy_tree::PolicyTree;
 use std::alloc::Global;
-use std::marker::{Brand, Model};
-use std::sync::ledger::{Blank, Ledger};
+use std::marker::Model;
 use wan_topology::Topology;
 
 /// By tier: the closings in their order, the amounts by group and place, and each group's stop share. And the load of each
@@ -120,7 +118,7 @@ pub(crate) fn fill_each(
     let mut topology = topology;
     let mut fillings = Fillings::none(alloc, topology.links())?;
     for tier in 0..count_of(tiers) {
-        let filling = fill_tier::<Brand>(alloc, tree, &topology, plan, tiers, tier, Blank::new(1))?;
+        let filling = fill_tier(alloc, tree, &topology, plan, tiers, tier)?;
         let loads = loads_of(alloc, &topology, plan, &filling.amounts)?;
         lower(&mut topology, &loads);
         fillings.take(filling, &loads)?;
@@ -128,27 +126,22 @@ pub(crate) fn fill_each(
     Ok(fillings)
 }
 
-// The filling of a tier between the capacities of the topology. Its tests are not counted.
-fn fill_tier<L: Ledger>(
+// The filling of a tier between the capacities of the topology.
+fn fill_tier(
     alloc: Global,
     tree: &PolicyTree,
     topology: &Topology,
     plan: &PathPlan,
     tiers: &[u8],
     tier: u32,
-    blank: Blank,
 ) -> Result<Filling, OutOfMemory>
     requires built_on { IsBuiltOn topology.now plan.now }
     requires groups { length tree.now.clusters ≡ length plan.now }
-    requires name { blank.name ≡ L.name }
-    requires parts { blank.parts ≡ L.parts }
-    requires some { 0 < L.parts }
     ensures { IfOk result
         (IsFilling (wan_of (values_of_tier tree.now tiers.now tier) plan.now topology.now.capacities)) }
 {
     let values = TierValues { tree, tiers, tier };
-    let mut steps: Steps<L> = Steps::new(blank);
-    solve(alloc, &values, topology, plan, &[], &mut steps)
+    solve_by_links(alloc, &values, topology, plan)
 }
 
 // How many tiers there are, from 0 to the greatest one given.

@@ -1,24 +1,18 @@
 use bwe_cli::{bwe, bwe_once};
-use bwe_io::{MemorySink, MemorySource, SureSink, SureSource};
+use bwe_io::{MemorySink, MemorySource, Sink, Source, SureSink, SureSource, read_all};
 use command_line::USAGE;
 use crew_actors::OpenGate;
 use std::alloc::{AllocError, Global};
 use std::test::Fail;
 
-const SHARED_LINK: &str =
-    "{\"version\":1,\"top\":100,\"links\":[{\"name\":\"l0\",\"from\":\"a\",\"to\":\"b\",\"capacity\":100}],\"groups\":[{\"name\":\"g0\",\"from\":\"a\",\"to\":\"b\",\"paths\":[[{\"weight\":1,\"links\":[\"l0\"]}]],\"users\":[{\"name\":\"u0\",\"jobs\":[{\"name\":\"j0\",\"task\":[[0,0],[100,100]],\"tasks\":[{\"name\":\"t0\",\"reporter\":\"r0\"}]}]}]},{\"name\":\"g1\",\"from\":\"a\",\"to\":\"b\",\"paths\":[[{\"weight\":1,\"links\":[\"l0\"]}]],\"users\":[{\"name\":\"u0\",\"jobs\":[{\"name\":\"j0\",\"task\":[[0,0],[100,100]],\"tasks\":[{\"name\":\"t1\",\"reporter\":\"r0\"}]}]}]}],\"reporters\":[\"r0\"],\"script\":[{\"reporter\":\"r0\",\"task\":\"t0\",\"demand\":80},{\"reporter\":\"r0\",\"task\":\"t1\",\"demand\":80}]}";
+// A document without links, groups and reports, its length before it, and its table.
+const DOCUMENT: &str =
+    "{\"version\":1,\"top\":1,\"links\":[],\"groups\":[],\"reporters\":[],\"script\":[]}";
 
-const SHARED_LINK_TABLE: &str =
-    "table 2\nclosing l0 at 50\nlink l0 load 100\ngroup g0 share 50 amount 50\nplace 0 amount 50 closed by l0\ngroup g1 share 50 amount 50\nplace 0 amount 50 closed by l0\ntask t0 limit 50\ntask t1 limit 50\ntotal 100\n";
+const TWO_PARTS: &str =
+    "71\n{\"version\":1,\"top\":1,\"links\":[],\"groups\":[],\"reporters\":[],\"script\":[]}\n";
 
-// Shared link with its own closing, and with one at which its link still fits.
-const RIGHT_CLOSINGS: &str =
-    "{\"version\":1,\"top\":100,\"links\":[{\"name\":\"l0\",\"from\":\"a\",\"to\":\"b\",\"capacity\":100}],\"groups\":[{\"name\":\"g0\",\"from\":\"a\",\"to\":\"b\",\"paths\":[[{\"weight\":1,\"links\":[\"l0\"]}]],\"users\":[{\"name\":\"u0\",\"jobs\":[{\"name\":\"j0\",\"task\":[[0,0],[100,100]],\"tasks\":[{\"name\":\"t0\",\"reporter\":\"r0\"}]}]}]},{\"name\":\"g1\",\"from\":\"a\",\"to\":\"b\",\"paths\":[[{\"weight\":1,\"links\":[\"l0\"]}]],\"users\":[{\"name\":\"u0\",\"jobs\":[{\"name\":\"j0\",\"task\":[[0,0],[100,100]],\"tasks\":[{\"name\":\"t1\",\"reporter\":\"r0\"}]}]}]}],\"reporters\":[\"r0\"],\"script\":[{\"reporter\":\"r0\",\"task\":\"t0\",\"demand\":80},{\"reporter\":\"r0\",\"task\":\"t1\",\"demand\":80}],\"closings\":[{\"link\":\"l0\",\"share\":50}]}";
-
-const EARLY_CLOSING: &str =
-    "{\"version\":1,\"top\":100,\"links\":[{\"name\":\"l0\",\"from\":\"a\",\"to\":\"b\",\"capacity\":100}],\"groups\":[{\"name\":\"g0\",\"from\":\"a\",\"to\":\"b\",\"paths\":[[{\"weight\":1,\"links\":[\"l0\"]}]],\"users\":[{\"name\":\"u0\",\"jobs\":[{\"name\":\"j0\",\"task\":[[0,0],[100,100]],\"tasks\":[{\"name\":\"t0\",\"reporter\":\"r0\"}]}]}]},{\"name\":\"g1\",\"from\":\"a\",\"to\":\"b\",\"paths\":[[{\"weight\":1,\"links\":[\"l0\"]}]],\"users\":[{\"name\":\"u0\",\"jobs\":[{\"name\":\"j0\",\"task\":[[0,0],[100,100]],\"tasks\":[{\"name\":\"t1\",\"reporter\":\"r0\"}]}]}]}],\"reporters\":[\"r0\"],\"script\":[{\"reporter\":\"r0\",\"task\":\"t0\",\"demand\":80},{\"reporter\":\"r0\",\"task\":\"t1\",\"demand\":80}],\"closings\":[{\"link\":\"l0\",\"share\":49}]}";
-
-const EARLY_CLOSING_VERDICT: &str = "wrong at 0: link fits at the next share\n";
+const TABLE: &str = "table 0\ntotal 0\n";
 
 fn words(alloc: Global, texts: &[&str]) -> Result<Vec<String>, AllocError> {
     let mut words = Vec::new(alloc);
@@ -28,43 +22,81 @@ fn words(alloc: Global, texts: &[&str]) -> Result<Vec<String>, AllocError> {
     Ok(words)
 }
 
+fn sure(alloc: Global, input: &str) -> Result<SureSource, AllocError> {
+    Ok(SureSource::new(Vec::from_slice(alloc, input.as_bytes())?))
+}
+
+// The status of `bwe_once`.
+fn status<S: Source, K: Sink>(
+    alloc: Global,
+    line: &[&str],
+    source: &mut S,
+    sink: &mut K,
+) -> Result<u8, AllocError> {
+    Ok(bwe_once(alloc, &words(alloc, line)?, source, sink))
+}
+
+// What `bwe_once` writes after its status, on devices that never fail.
+fn written(alloc: Global, line: &[&str], input: &str) -> Result<(u8, Vec<u8>), Fail> {
+    let mut source = sure(alloc, input)?;
+    let mut sink = SureSink::new(alloc, 1_000)?;
+    let status = status(alloc, line, &mut source, &mut sink)?;
+    Ok((status, Vec::from_slice(alloc, sink.bytes())?))
+}
+
+// The lines on one document, and words that are none.
 #[test]
-fn each_line_has_its_text_and_status(rt: HostRuntime) -> Result<(), Fail> {
+fn a_document_has_its_text_and_status(rt: HostRuntime) -> Result<(), Fail> {
     let alloc = rt.alloc();
-    for (line, input, status, text) in [
-        ("solve", SHARED_LINK, 0, SHARED_LINK_TABLE),
-        ("check", RIGHT_CLOSINGS, 0, "right\n"),
-        ("check", EARLY_CLOSING, 1, EARLY_CLOSING_VERDICT),
+    for (line, input, wanted, text) in [
+        ("solve", DOCUMENT, 0, TABLE),
+        ("check", DOCUMENT, 0, "right\n"),
         ("solve", "{", 3, "refused 1 not json\n"),
-        ("check", "[]", 3, "refused 2 shape at /\n"),
-        ("resolve", SHARED_LINK, 2, USAGE),
+        ("run", DOCUMENT, 2, USAGE),
     ] {
-        let mut source = SureSource::new(Vec::from_slice(alloc, input.as_bytes())?);
-        let mut sink = SureSink::new(alloc, 1_000)?;
-        let got = bwe_once(alloc, &words(alloc, &[line])?, &mut source, &mut sink);
-        assert_eq!(rt; (got, sink.bytes()), (status, text.as_bytes()));
+        let (got, bytes) = written(alloc, &[line], input)?;
+        assert_eq!(rt; (got, bytes.as_slice()), (wanted, text.as_bytes()));
     }
     Ok(())
 }
 
-// The case "Levels at 90": one text, of values asked one after the other and of values by threads.
+// The lines on two parts. The second part is a line feed alone, so it is one of no tiers, and none of the others.
+#[test]
+fn two_parts_have_their_text_and_status(rt: HostRuntime) -> Result<(), Fail> {
+    let alloc = rt.alloc();
+    for (line, input, wanted, text) in [
+        ("tiers", TWO_PARTS, 0, "tiers 0\ntotal 0\n"),
+        ("enforce", TWO_PARTS, 3, "refused 16 events at line 0\n"),
+        ("audit", TWO_PARTS, 1, "wrong at line 0: form\n"),
+        ("audit", DOCUMENT, 3, "refused 14 parts\n"),
+    ] {
+        let (got, bytes) = written(alloc, &[line], input)?;
+        assert_eq!(rt; (got, bytes.as_slice()), (wanted, text.as_bytes()));
+    }
+    Ok(())
+}
+
+// One text, of values asked one after the other and of values by threads.
 #[test]
 fn levels_have_one_text(rt: HostRuntime) -> Result<(), Fail> {
     let alloc = rt.alloc();
-    for (share, text) in [
-        ("90", "levels 90\nlevel g0 80\nlevel g1 80\ntotal 160\n"),
-        ("1000", "levels 100\nlevel g0 80\nlevel g1 80\ntotal 160\n"),
-    ] {
-        let levels = words(alloc, &["levels", share])?;
-        let mut source = SureSource::new(Vec::from_slice(alloc, SHARED_LINK.as_bytes())?);
-        let mut sink = SureSink::new(alloc, 1_000)?;
-        let status = bwe_once(alloc, &levels, &mut source, &mut sink);
-        assert_eq!(rt; (status, sink.bytes()), (0, text.as_bytes()));
-        let mut source = SureSource::new(Vec::from_slice(alloc, SHARED_LINK.as_bytes())?);
-        let mut sink = SureSink::new(alloc, 1_000)?;
-        let status = bwe(&rt, alloc, &levels, &mut source, &mut sink, &OpenGate);
-        assert_eq!(rt; (status, sink.bytes()), (0, text.as_bytes()));
-    }
+    let line = ["levels", "90"];
+    let (one, text) = written(alloc, &line, DOCUMENT)?;
+    assert_eq!(rt;
+        (one, text.as_slice()),
+        (0, b"levels 1\ntotal 0\n".as_slice())
+    );
+    let mut source = sure(alloc, DOCUMENT)?;
+    let mut sink = SureSink::new(alloc, 1_000)?;
+    let other = bwe(
+        &rt,
+        alloc,
+        &words(alloc, &line)?,
+        &mut source,
+        &mut sink,
+        &OpenGate,
+    );
+    assert_eq!(rt; (other, sink.bytes()), (0, text.as_slice()));
     Ok(())
 }
 
@@ -72,13 +104,14 @@ fn levels_have_one_text(rt: HostRuntime) -> Result<(), Fail> {
 #[test]
 fn a_read_that_fails_writes_nothing(rt: HostRuntime) -> Result<(), Fail> {
     let alloc = rt.alloc();
-    let solve = words(alloc, &["solve"])?;
-    for call in 0..SHARED_LINK.len() as u64 + 1 {
-        let input = Vec::from_slice(alloc, SHARED_LINK.as_bytes())?;
-        let mut source = MemorySource::new(input, 1, vec![in alloc; call]?);
-        let mut sink = SureSink::new(alloc, 1_000)?;
-        assert_eq!(rt; bwe_once(alloc, &solve, &mut source, &mut sink), 4);
-        assert!(rt; sink.bytes().is_empty());
+    for call in 0..TWO_PARTS.len() as u64 + 1 {
+        for line in ["solve", "tiers"] {
+            let input = Vec::from_slice(alloc, TWO_PARTS.as_bytes())?;
+            let mut source = MemorySource::new(input, 1, vec![in alloc; call]?);
+            let mut sink = SureSink::new(alloc, 1_000)?;
+            assert_eq!(rt; status(alloc, &[line], &mut source, &mut sink)?, 4);
+            assert!(rt; sink.bytes().is_empty());
+        }
     }
     Ok(())
 }
@@ -87,16 +120,32 @@ fn a_read_that_fails_writes_nothing(rt: HostRuntime) -> Result<(), Fail> {
 #[test]
 fn a_write_that_fails_leaves_a_prefix(rt: HostRuntime) -> Result<(), Fail> {
     let alloc = rt.alloc();
-    let solve = words(alloc, &["solve"])?;
-    let table = SHARED_LINK_TABLE.as_bytes();
-    for call in 0..table.len() {
-        let mut source = SureSource::new(Vec::from_slice(alloc, SHARED_LINK.as_bytes())?);
+    let table = TABLE.as_bytes();
+    for call in 0..table.len() + 1 {
+        let mut source = sure(alloc, DOCUMENT)?;
         let mut sink = MemorySink::new(alloc, 1_000, 1, vec![in alloc; call as u64]?)?;
-        assert_eq!(rt; bwe_once(alloc, &solve, &mut source, &mut sink), 5);
+        let wanted = if call < table.len() { 5 } else { 0 };
+        assert_eq!(rt; status(alloc, &["solve"], &mut source, &mut sink)?, wanted);
         assert_eq!(rt; sink.bytes(), &table[..call]);
     }
-    let mut source = SureSource::new(Vec::from_slice(alloc, SHARED_LINK.as_bytes())?);
-    let mut sink = MemorySink::new(alloc, 1_000, 1, vec![in alloc; table.len() as u64]?)?;
-    assert_eq!(rt; bwe_once(alloc, &solve, &mut source, &mut sink), 0);
+    Ok(())
+}
+
+// Words that read nothing leave the source, and a write that fails leaves a prefix of their text.
+#[test]
+fn words_that_read_nothing_leave_the_source(rt: HostRuntime) -> Result<(), Fail> {
+    let alloc = rt.alloc();
+    for (word, text) in [
+        ("make", "{\"groups\":"),
+        ("bulk", "groups 1\nt"),
+        ("none", "usage: bwe"),
+    ] {
+        let mut source = sure(alloc, "input")?;
+        let mut sink = MemorySink::new(alloc, 1_000, 1, vec![in alloc; 10]?)?;
+        let got = status(alloc, &[word, "0", "1", "1"], &mut source, &mut sink)?;
+        assert_eq!(rt; (got, sink.bytes()), (5, text.as_bytes()));
+        let left = read_all(alloc, &mut source, 100)?;
+        assert_eq!(rt; left.as_slice(), b"input".as_slice());
+    }
     Ok(())
 }

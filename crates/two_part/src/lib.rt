@@ -10,8 +10,6 @@ ghost use Rattle.std.specs.Prelude.{◌≡◌, ◌==◌, List, ℕ, length, posi
 ghost use Rattle.two_part.specs.TwoPart.{AreParts, IsTwoPart, parts_behind, parts_of};
 
 mod digits;
-#[cfg(test)]
-mod tests;
 
 use crate::digits::number_in;
 

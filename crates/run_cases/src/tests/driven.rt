@@ -29,7 +29,7 @@ fn a_driven_board_ends_with_the_history(rt: HostRuntime) -> Result<(), Fail> {
         plan,
         ..
     } = read_document(alloc, SHARED_LINK.as_bytes())?;
-    let allocator = Allocator::new(alloc, tree, topology, plan);
+    let allocator = Allocator::new(tree, topology, plan);
     assert_eq!(rt; allocator.tasks(), 2);
     assert_eq!(rt; allocator.links(), 1);
     profiled::<Brand, _>(&rt, alloc, allocator)

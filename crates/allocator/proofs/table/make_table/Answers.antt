@@ -1,12 +1,8 @@
-use Rattle.std.proofs.Common.{arith, sym, subst}
 use Rattle.allocator.specs.Allocators.{table_by}
-use Rattle.allocator.specs.Laws.{IsConserved, IsFeasible, IsHeldBack}
+use Rattle.allocator.specs.Laws.{IsNoMoreThanAsked, IsConserved, IsShared, IsFeasible, IsHeldBack, IsUnwasted}
 use Rattle.allocator.specs.Tables.{wan_by}
-use Rattle.allocator.proofs.Lawful.{table-conserved, table-feasible, table-held_back, ok-where}
+use Rattle.allocator.proofs.Lawful.{table-asked, table-conserved, table-feasible, table-held_back, table-shared, table-unwasted, ok-where}
 use Rattle.allocator.proofs.table.make_table.Goals as goal
-
-pub filling_of-requires-clause-some : goal.filling_of-requires-clause-some
-filling_of-requires-clause-some c = rw (c.new.ensures) (omega arith)
 
 pub returns-clause-feasible : goal.returns-clause-feasible
 returns-clause-feasible c =
@@ -22,3 +18,18 @@ pub returns-clause-conserved : goal.returns-clause-conserved
 returns-clause-conserved c =
     ok-where c.table_of_filling.result (IsConserved c.args.reported.now.tree) (table_by c.args.reported.now c.args.plan.now)
     (table-conserved c.args.reported.now c.args.plan.now c.requires c.filling_of.ensures.values c.filling_of.ensures.tree) c.table_of_filling.ensures
+
+pub returns-clause-asked : goal.returns-clause-asked
+returns-clause-asked c =
+    ok-where c.table_of_filling.result (IsNoMoreThanAsked c.args.reported.now.tree) (table_by c.args.reported.now c.args.plan.now)
+    (table-asked c.args.reported.now c.args.plan.now c.requires c.filling_of.ensures.values c.filling_of.ensures.tree) c.table_of_filling.ensures
+
+pub returns-clause-shared : goal.returns-clause-shared
+returns-clause-shared c =
+    ok-where c.table_of_filling.result (IsShared (wan_by c.args.reported.now c.args.plan.now)) (table_by c.args.reported.now c.args.plan.now)
+    (table-shared c.args.reported.now c.args.plan.now c.requires c.filling_of.ensures.values) c.table_of_filling.ensures
+
+pub returns-clause-unwasted : goal.returns-clause-unwasted
+returns-clause-unwasted c =
+    ok-where c.table_of_filling.result (IsUnwasted (wan_by c.args.reported.now c.args.plan.now)) (table_by c.args.reported.now c.args.plan.now)
+    (table-unwasted c.args.reported.now c.args.plan.now c.requires c.filling_of.ensures.values) c.table_of_filling.ensures

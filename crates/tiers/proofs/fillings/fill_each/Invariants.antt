@@ -3,6 +3,3 @@ use Rattle.tiers.proofs.fillings.fill_each.Given as goal
 
 abbrev pub invariant-loop-tier : goal.invariant-loop-tier
 invariant-loop-tier l = IsFilledTo l.tree l.initial.topology l.plan l.tiers l.tier l.topology l.fillings
-
-abbrev pub ghosts-fill_tier : goal.ghosts-fill_tier
-ghosts-fill_tier a = record { name = a.blank.name; parts = a.blank.parts }

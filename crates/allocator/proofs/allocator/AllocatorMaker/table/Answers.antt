@@ -1,4 +1,5 @@
 use Rattle.std.proofs.Common.{◌≡◌, ◌∙◌, subst, sym}
+use Rattle.std.proofs.lemmas.Result.{IfOk-weaker}
 use Rattle.bwe_specs.specs.Allocation.{allocation}
 use Rattle.allocator.specs.Allocators.{plan_in}
 use Rattle.allocator.specs.Reported.{IsAfter}
@@ -6,8 +7,10 @@ use Rattle.allocator.proofs.Fitted.{table-after}
 use Rattle.allocator.proofs.allocator.AllocatorMaker.table.Goals as goal
 
 pub returns-clause-table : goal.returns-clause-table
-returns-clause-table c = λ reports after.
-    let table = rw (c.rematch.ensures) at c.in_ok-table.ensures.table in
+returns-clause-table c =
+    IfOk-weaker c.make_table.result _ _
+    (λ made table reports after.
     let same : IsAfter c.self.inside.reported reports = subst (λ allocating. IsAfter allocating.reported reports) (sym c.self.view_is) after in
-    subst (λ allocating. c.in_ok-table.table ≡ allocation (plan_in allocating) reports) c.self.view_is
-    (table ∙ table-after c.self.inside.reported c.self.inside.plan reports same)
+    subst (λ allocating. made ≡ allocation (plan_in allocating) reports) c.self.view_is
+    (table ∙ table-after c.self.inside.reported c.self.inside.plan reports same))
+    (rw (c.rematch.ensures) at c.make_table.ensures.table)

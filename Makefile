@@ -1,0 +1,69 @@
+# Proves and builds the programs, and checks them.
+#
+## make          proves and builds bwe, on all processors; what has not changed is left as it is
+## make check    every proof, every edit that has to be refused, every test, then the whole cases
+## make cases    the whole cases alone, on the built program
+## make tools    the tests of tools/
+## make look     a first table within two minutes; nothing of it is proved
+## make bench    times of the program on made documents
+## make clean    removes all that was proved and built
+#
+# Sources decide what is stale, and of that rt proves again only what has changed. A library counts
+# as built by the stamp that rt leaves in its out/rlib, a program by itself.
+
+SHELL := /bin/bash
+ifeq ($(MAKELEVEL),0)
+MAKEFLAGS += --jobs=$(shell nproc) --no-print-directory --no-builtin-rules
+endif
+
+# The crates, and what each stands on: the lines of crates.txt, here as NAME:DEP,DEP without blanks.
+comma    := ,
+lines    := $(shell sed -nE 's/^([a-z0-9_]+)[^:]*: */\1:/p' crates.txt | tr -s ' ' ,)
+crates   := $(foreach it,$(lines),$(firstword $(subst :, ,$(it))))
+programs := $(patsubst crates/%/src/main.rt,%,$(wildcard $(crates:%=crates/%/src/main.rt)))
+files    := $(shell find $(crates:%=crates/%) -name out -prune -o -print)
+below     = $(filter $(crates),$(subst $(comma), ,$(patsubst $1:%,%,$(filter $1:%,$(lines)))))
+sources   = $(filter crates/$1/src% crates/$1/specs% crates/$1/proofs%,$(files))
+built     = $(if $(filter $1,$(programs)),crates/$1/out/$1,crates/$1/out/rlib/stamp)
+
+.PHONY: build check cases tools look bench clean help $(programs)
+build: $(programs)
+$(foreach it,$(programs),$(eval $(it): $(call built,$(it))))
+
+# One target a crate, after those below it.
+define target
+$(call built,$1): crates.txt $(call sources,$1) $(foreach it,$(call below,$1),$(call built,$(it)))
+	@tools/prove $1
+endef
+$(foreach it,$(crates),$(eval $(call target,$(it))))
+# A program that is newer than all sources needs no library; an interrupt leaves what is built.
+.SECONDARY:
+.PRECIOUS: $(foreach it,$(crates),$(call built,$(it)))
+
+check:
+	rt ci
+	@# The programs are now built of these sources by the gate; libraries of older ones go.
+	@chmod +x $(foreach it,$(programs),$(call built,$(it)))
+	@$(MAKE) -n | sed -n 's|^tools/prove \(.*\)|crates/\1/out/rlib/stamp|p' | xargs rm -f
+	@tools/packages && $(MAKE) tools || [ $$? = 3 ]
+	@tools/cases.py
+
+cases: bwe
+	@tools/cases.py
+
+tools:
+	@tools/packages
+	@[ ! -d tools/tests ] || /usr/bin/python3 -m pytest -q -p no:cacheprovider tools
+
+look:
+	@echo "bwe: a look before any proof: what follows is compiled, and not proved" >&2
+	@cd crates/bwe && rt try -- solve <../../examples/shared-link.json
+
+bench: bwe
+	@tools/bench.py
+
+clean:
+	rm -rf crates/*/out
+
+help:
+	@sed -n 's/^## //p' Makefile

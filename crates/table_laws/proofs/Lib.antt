@@ -1,0 +1,13 @@
+pub mod Asked
+pub mod Closings
+pub mod Shared
+pub mod Wasted
+pub mod Followed
+pub mod Sums
+pub mod Numbers
+pub mod Pieces
+pub mod Reordered
+pub mod Alike
+pub mod Walks
+pub mod Reading
+pub mod Printed

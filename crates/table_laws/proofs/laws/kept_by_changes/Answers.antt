@@ -1,0 +1,5 @@
+use Rattle.table_laws.proofs.Followed.{kept-by-changes}
+use Rattle.table_laws.proofs.laws.kept_by_changes.Goals as goal
+
+pub returns : goal.returns
+returns c = kept-by-changes

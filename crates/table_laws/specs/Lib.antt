@@ -1,0 +1,7 @@
+pub mod Tasks
+pub mod Growing
+pub mod Tables
+pub mod Following
+pub mod Order
+pub mod Printing
+pub mod Laws

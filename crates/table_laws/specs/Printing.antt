@@ -1,0 +1,31 @@
+-- Tables whose text says what they are.
+use Rattle.std.specs.Prelude.{ℕ, ◌<◌, ◌^◌, ◌≢◌, length, All, IfSome}
+use Rattle.bwe_specs.specs.declared.network.Closing.{Closing}
+use Rattle.bwe_specs.specs.Allocation.{GroupLine, PlaceLine, Table}
+use Rattle.table_text.specs.TableText.{NameTexts, name_at}
+
+-- no name of a link has a line feed (10) or a space (32), and no two links have one name
+pub record AreTelling (names : NameTexts) : Type 0 where
+  pub plain : All (λ name. All (λ byte. (byte ≢ 10) × (byte ≢ 32)) name) names.links
+  pub apart : (number other : ℕ) → number < other → other < length names.links → name_at names.links number ≢ name_at names.links other
+
+-- the link has a name, and each number has 64 bits
+pub record IsNamedClosing (names : NameTexts) (closing : Closing) : Type 0 where
+  pub link : closing.link < length names.links
+  pub share : closing.share < 2 ^ 64
+
+pub record IsNamedPlace (names : NameTexts) (place : PlaceLine) : Type 0 where
+  pub amount : place.amount < 2 ^ 64
+  pub closed : IfSome place.closed (λ link. link < length names.links)
+
+pub record IsNamedLine (names : NameTexts) (line : GroupLine) : Type 0 where
+  pub share : line.share < 2 ^ 64
+  pub amount : line.amount < 2 ^ 64
+  pub places : All (IsNamedPlace names) line.places
+
+pub record IsNamed (names : NameTexts) (table : Table) : Type 0 where
+  pub prefix : table.prefix < 2 ^ 64
+  pub closings : All (IsNamedClosing names) table.closings
+  pub loads : All (λ load. load < 2 ^ 64) table.loads
+  pub groups : All (IsNamedLine names) table.groups
+  pub limits : All (λ limit. limit < 2 ^ 64) table.limits

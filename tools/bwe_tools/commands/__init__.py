@@ -1,0 +1,1 @@
+"""One module for each command: its name with `_` for `-`, and in it the click command `command`."""

@@ -1,0 +1,39 @@
+"""What somebody likely meant: a near name, a number with a unit, a name without blanks."""
+
+from __future__ import annotations
+
+import difflib
+import re
+import unicodedata
+
+from bwe_tools.units import kilobits
+
+NAME = re.compile(r"[A-Za-z0-9_.-]{1,64}\Z")
+
+
+def near(word: str, words) -> str | None:
+    """The word among others that is most like it, where one is like enough."""
+    others = {other.lower(): other for other in words}
+    found = difflib.get_close_matches(word.lower(), list(others), n=1, cutoff=0.6)
+    return others[found[0]] if found else None
+
+
+def plain_name(text: str) -> str:
+    """A text as a name of the format: accents taken off, each other sign a hyphen, at most 64 long.
+    """
+    letters = unicodedata.normalize("NFKD", text).encode("ascii", "ignore").decode()
+    return re.sub(r"[^A-Za-z0-9_.]+", "-", letters).strip("-")[:64].rstrip("-") or "x"
+
+
+def whole(value) -> str | None:
+    """The whole number that a value stands for, as it is written in a document."""
+    if isinstance(value, str):
+        amount = kilobits(value)
+        return None if amount is None else str(amount)
+    if isinstance(value, bool) or not isinstance(value, (int, float)):
+        return None
+    return (
+        str(round(value))
+        if 0 <= value < 2**53 and getattr(value, "text", "")[:1] != "-"
+        else None
+    )

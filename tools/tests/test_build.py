@@ -1,0 +1,290 @@
+"""The Makefile and the launcher, over a small repository and a stand-in for `rt`."""
+
+import os
+import pty
+import shutil
+import signal
+import subprocess
+import time
+from pathlib import Path
+
+import pytest
+
+TOP = Path(__file__).resolve().parent.parent.parent
+CRATES = {
+    "words": [],
+    "numbers": ["words"],
+    "tables": ["words", "numbers"],
+    "aside": ["words"],
+    "bwe": ["tables"],
+}
+
+# Builds a library where those below are built, and refuses a crate whose source says `wrong`.
+RT = r"""#!/bin/bash
+echo "$1 ${PWD##*/}" >>"$CALLS"
+name=${PWD##*/}
+case $1 in
+version) echo "a kit of tests"; exit ;;
+esac
+for below in $(sed -n "s/^$name://p" ../../crates.txt); do
+    [ -d "../$below" ] || continue
+    [ -f "../$below/out/rlib/stamp" ] || { echo "$below is not built"; exit 1; }
+done
+mkdir -p out
+sleep "${PROVING:-0}"
+if grep -q wrong src/*; then
+    echo "fn $name::good: proved"
+    echo "fn $name::bad: a goal is open"
+    exit 1
+fi
+case $1 in
+lib) mkdir -p out/rlib && cat src/* >out/rlib/stamp ;;
+run) printf '#!/bin/bash\necho "words: $*"\n[ "$1" = make ] || cat\nexit 3\n' >out/bwe
+     chmod +x out/bwe; touch out/bwe.stamp ;;
+esac
+"""
+
+
+@pytest.fixture(name="project")
+def made_project(tmp_path, monkeypatch):
+    """A repository of four libraries, of which the program `bwe` needs three."""
+    top = tmp_path / "project"
+    for name in ("Makefile", "bwe", "tools/prove", "HANDLES", "README.md", "CHANGELOG.md"):
+        (top / name).parent.mkdir(parents=True, exist_ok=True)
+        shutil.copy(TOP / name, top / name)
+    lines = [f"{name}: {' '.join([*below, 'itertools'])}\n" for name, below in CRATES.items()]
+    (top / "crates.txt").write_text("# words first\n" + "".join(lines))
+    for name in CRATES:
+        source = top / "crates" / name / "src" / ("main.rt" if name == "bwe" else "lib.rt")
+        source.parent.mkdir(parents=True)
+        source.write_text("right\n")
+    (top / "crates/bwe/args").write_text("solve\n")
+    (top / "crates/bwe/stdin").write_text("")
+    (tmp_path / "bin").mkdir()
+    rt = tmp_path / "bin/rt"
+    rt.write_text(RT)
+    rt.chmod(0o755)
+    monkeypatch.setenv("PATH", f"{tmp_path}/bin:/usr/bin:/bin")
+    monkeypatch.setenv("CALLS", str(tmp_path / "calls"))
+    for name in ("MAKEFLAGS", "MFLAGS", "MAKELEVEL"):
+        monkeypatch.delenv(name, raising=False)
+    old_files(top)
+    return top
+
+
+def old_files(top):
+    """Makes all files of the project older than what is built next."""
+    for path in top.rglob("*"):
+        os.utime(path, (time.time() - 100, time.time() - 100))
+
+
+def run(top, *words, given=""):
+    return subprocess.run(
+        words, cwd=top, input=given, capture_output=True, text=True, timeout=60, check=False
+    )
+
+
+def proved(top):
+    """The crates for which the stand-in was called in a room, in order, since the last look."""
+    calls = top.parent / "calls"
+    lines = calls.read_text().splitlines() if calls.exists() else []
+    calls.write_text("")
+    return list(
+        dict.fromkeys(line.split()[1] for line in lines if line.split()[0] in ("lib", "run"))
+    )
+
+
+def test_make_builds_what_the_program_stands_on_in_order(project):
+    made = run(project, "make")
+    assert made.returncode == 0, made.stderr
+    assert proved(project) == ["words", "numbers", "tables", "bwe"]
+    assert "bwe: 4 left to prove; now words\n" in made.stderr
+    assert made.stderr.endswith("bwe: all is proved\n")
+    assert not list(project.glob("crates/*/out/room"))
+
+
+def test_a_second_make_does_nothing(project):
+    run(project, "make")
+    proved(project)
+    assert run(project, "make").returncode == 0
+    assert proved(project) == []
+
+
+def test_a_newer_source_is_proved_again_with_those_above(project):
+    run(project, "make")
+    proved(project)
+    old_files(project)
+    (project / "crates/numbers/src/more.rt").write_text("right\n")
+    assert run(project, "make", "-q", "bwe").returncode == 1
+    assert run(project, "make").returncode == 0
+    assert proved(project) == ["numbers", "tables", "bwe"]
+
+
+def test_no_library_is_built_for_a_program_that_is_newer_than_all_sources(project):
+    run(project, "make")
+    proved(project)
+    shutil.rmtree(project / "crates/words/out")
+    assert run(project, "make").returncode == 0
+    assert proved(project) == []
+
+
+def test_a_failed_crate_is_named_last_with_its_log(project):
+    (project / "crates/numbers/src/lib.rt").write_text("wrong\n")
+    made = run(project, "make")
+    assert made.returncode != 0
+    told = made.stderr[made.stderr.index("bwe: numbers is not proved") :]
+    assert "fn numbers::bad: a goal is open\n" in told
+    assert "good" not in told
+    assert proved(project) == ["words", "numbers"]
+
+
+def test_an_interrupted_build_goes_on_where_it_stopped(project, monkeypatch):
+    monkeypatch.setenv("PROVING", "1")
+    making = subprocess.Popen(
+        ["make"],
+        cwd=project,
+        start_new_session=True,
+        stderr=subprocess.DEVNULL,
+        preexec_fn=lambda: signal.signal(signal.SIGINT, signal.SIG_DFL),
+    )
+    stamp = project / "crates/words/out/rlib/stamp"
+    until(lambda: stamp.exists() and (project / "crates/numbers/out/room").exists())
+    os.killpg(making.pid, signal.SIGINT)
+    assert making.wait() != 0
+    until(lambda: not list(project.glob("crates/*/out/room")))
+    proved(project)
+    monkeypatch.setenv("PROVING", "0")
+    assert run(project, "make").returncode == 0
+    assert proved(project) == ["numbers", "tables", "bwe"]
+
+
+def until(holds):
+    for _ in range(300):
+        if holds():
+            return
+        time.sleep(0.1)
+    raise AssertionError("it took too long")
+
+
+def test_help_and_version_need_no_build(project):
+    told = run(project, "./bwe", "--help")
+    assert told.returncode == 0
+    for line in (
+        "solve",
+        "check",
+        "levels",
+        "run",
+        "audit",
+        "tiers",
+        "estimate",
+        "enforce",
+        "make",
+        "bulk",
+    ):
+        assert f"\n  {line} " in told.stdout
+    version = run(project, "./bwe", "--version")
+    assert version.returncode == 0
+    assert version.stdout.splitlines()[1:] == ["kit: a kit of tests", "program: not built yet"]
+    assert proved(project) == []
+
+
+def test_version_tells_whether_the_program_is_of_these_sources(project):
+    run(project, "make")
+    assert "of these very sources" in run(project, "./bwe", "--version").stdout
+    (project / "crates/aside/src/lib.rt").write_text("another\n")
+    assert "of these very sources" in run(project, "./bwe", "--version").stdout
+    (project / "crates/words/src/lib.rt").write_text("another\n")
+    assert "of other sources" in run(project, "./bwe", "--version").stdout
+
+
+def test_bytes_and_status_are_those_of_the_program(project):
+    run(project, "make")
+    told = run(project, "./bwe", "solve", given="a document")
+    assert (told.returncode, told.stdout, told.stderr) == (3, "words: solve\na document", "")
+
+
+def test_the_first_call_builds_and_a_newer_source_builds_again(project):
+    told = run(project, "./bwe", "solve", given="a document")
+    assert (told.returncode, told.stdout) == (3, "words: solve\na document")
+    assert told.stderr.startswith("bwe: not built yet")
+    proved(project)
+    old_files(project)
+    (project / "crates/tables/src/lib.rt").write_text("another\n")
+    assert run(project, "./bwe", "solve").stderr.startswith("bwe: sources are newer")
+    assert proved(project) == ["tables", "bwe"]
+
+
+@pytest.mark.parametrize(
+    "words",
+    [
+        ["solve"],
+        ["check"],
+        ["audit"],
+        ["tiers"],
+        ["enforce"],
+        ["levels", "90"],
+        ["estimate", "2", "110"],
+        ["run"],
+        ["run", "--readers", "3"],
+        ["run", "--reads=2", "--readers=3"],
+    ],
+)
+def test_one_more_word_is_the_file_to_read(project, tmp_path, words):
+    run(project, "make")
+    (tmp_path / "a document").write_text("from a file")
+    told = run(project, "./bwe", *words, str(tmp_path / "a document"), given="unread")
+    assert (told.stdout, told.stderr) == (f"words: {' '.join(words)}\nfrom a file", "")
+
+
+@pytest.mark.parametrize(
+    "words",
+    [["solve", "absent"], ["levels", "crates.txt"], ["solve", "crates.txt", "x"], ["help"], []],
+)
+def test_words_without_a_file_reach_the_program(project, words):
+    run(project, "make")
+    told = run(project, "./bwe", *words)
+    assert told.stdout == f"words: {' '.join(words)}\n"
+    assert ("no file" in told.stderr) == (words == ["solve", "absent"])
+
+
+def test_links_are_followed(project, tmp_path):
+    run(project, "make")
+    (tmp_path / "first").symlink_to(project / "bwe")
+    (tmp_path / "second").symlink_to(tmp_path / "first")
+    assert run(tmp_path, "./second", "solve", given="x").stdout == "words: solve\nx"
+
+
+def test_without_the_kit_it_says_what_is_missing(project, tmp_path):
+    (tmp_path / "bin/rt").unlink()
+    told = run(project, "./bwe", "solve")
+    assert (told.returncode, told.stdout) == (70, "")
+    assert "no command rt" in told.stderr and "rattle-kit-" in told.stderr
+
+
+def test_a_failed_build_ends_with_status_70(project):
+    (project / "crates/words/src/lib.rt").write_text("wrong\n")
+    told = run(project, "./bwe", "solve")
+    assert (told.returncode, told.stdout) == (70, "")
+    assert (
+        told.stderr.endswith("bwe: words is not proved\nbwe: the build failed\n")
+        or "words is not proved" in told.stderr
+    )
+
+
+def test_a_terminal_is_told_that_a_document_is_awaited(project):
+    run(project, "make")
+    ours, theirs = pty.openpty()
+    with subprocess.Popen(
+        ["./bwe", "solve"],
+        cwd=project,
+        stdin=theirs,
+        stdout=subprocess.PIPE,
+        stderr=subprocess.PIPE,
+        text=True,
+    ) as waiting:
+        os.write(ours, b"\x04")
+        told = waiting.communicate(timeout=20)
+    assert told == (
+        "words: solve\n",
+        "bwe: waiting for a document on standard input, which Ctrl-D ends\n",
+    )

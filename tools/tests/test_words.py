@@ -1,0 +1,126 @@
+"""Completions, the manual, the entry script and the plot: that they run and fit each other."""
+
+import re
+import shutil
+import subprocess
+
+import growth_plot
+import pytest
+
+from bwe_tools.cli import group
+from bwe_tools.program import find_program, solve
+from tool_runs import EXAMPLES, ROOT, needs_program, stand_in
+
+COMMANDS = ("diff", "explain", "json", "lint", "metrics", "page", "whatif")
+LINES = "solve check run make bulk audit tiers enforce estimate levels".split()
+
+
+def shell(text: str) -> list[str]:
+    words = ["bash", "--norc", "-c", text]
+    return subprocess.run(
+        words, cwd=ROOT, capture_output=True, text=True, check=True
+    ).stdout.split()
+
+
+def completed(file: str, function: str, *words: str) -> list[str]:
+    """What bash completes the last of the words to."""
+    quoted = " ".join(f"'{word}'" for word in words)
+    return shell(
+        f"source completions/{file}; COMP_WORDS=({quoted}); COMP_CWORD={len(words) - 1};"
+        f' {function} {words[0]}; printf "%s\\n" "${{COMPREPLY[@]}}"'
+    )
+
+
+def test_bash_completes_the_lines_of_bwe():
+    assert completed("bwe.bash", "_bwe", "bwe", "") == LINES + ["--help", "--version"]
+    assert completed("bwe.bash", "_bwe", "bwe", "run", "--re") == ["--readers", "--reads"]
+    assert completed("bwe.bash", "_bwe", "bwe", "solve", "examples/shared-link.js") == [
+        "examples/shared-link.json"
+    ]
+    assert completed("bwe.bash", "_bwe", "bwe", "levels", "examples/sh") == []
+    assert completed("bwe.bash", "_bwe", "bwe", "make", "") == []
+
+
+def test_bash_completes_the_commands_of_bwe_tools():
+    tool = "tools/bwe-tools"
+    assert completed("bwe-tools.bash", "_bwe_tools", tool, "what") == ["whatif"]
+    assert "--together" in completed("bwe-tools.bash", "_bwe_tools", tool, "whatif", "--")
+
+
+@pytest.mark.skipif(shutil.which("zsh") is None, reason="there is no zsh")
+@pytest.mark.parametrize("name", ["_bwe", "_bwe-tools"])
+def test_zsh_reads_its_completions(name):
+    subprocess.run(["zsh", "-n", ROOT / "completions" / name], check=True)
+
+
+def test_each_command_has_help_and_a_place_in_the_manual():
+    manual = (ROOT / "man" / "bwe-tools.1").read_text()
+    names = group.list_commands(None)
+    assert set(COMMANDS) <= set(names)
+    for name in names:
+        assert f"\n.It Cm {name} " in manual or f"\n.It Cm {name}\n" in manual
+        assert group.get_command(None, name).help
+
+
+def test_the_manual_has_each_line_and_status_of_bwe():
+    manual = (ROOT / "man" / "bwe.1").read_text()
+    for line in LINES:
+        assert re.search(rf"^\.It Cm .*\b{line}\b", manual, re.MULTILINE), line
+    assert re.findall(r"^\.It ([0-9]+)$", manual, re.MULTILINE) == [*map(str, range(9)), "70"]
+
+
+@pytest.mark.skipif(shutil.which("mandoc") is None, reason="there is no mandoc")
+@pytest.mark.parametrize("name", ["bwe.1", "bwe-tools.1"])
+def test_mandoc_has_nothing_to_say(name):
+    words = ["mandoc", "-T", "lint", "-W", "warning", ROOT / "man" / name]
+    assert subprocess.run(words, capture_output=True).stdout == b""
+
+
+def test_the_entry_script_runs_through_a_link(tmp_path):
+    (tmp_path / "tools").symlink_to(ROOT / "tools" / "bwe-tools")
+    with (EXAMPLES / "maintenance.txt").open("rb") as table:
+        words = [tmp_path / "tools", "json"]
+        child = subprocess.run(words, stdin=table, capture_output=True, cwd=tmp_path)
+    assert child.returncode == 0 and child.stdout.startswith(b"{")
+
+
+def test_a_reader_that_goes_away_leaves_no_trace():
+    command = f"tools/bwe-tools metrics '{EXAMPLES / 'abilene.txt'}' | head -n 1"
+    child = subprocess.run(["bash", "-c", command], cwd=ROOT, capture_output=True, text=True)
+    assert child.stderr == "" and child.stdout.startswith("# HELP")
+
+
+@needs_program
+def test_the_plot_has_documents_that_bwe_takes():
+    program = str(find_program())
+    assert solve(growth_plot.nested(3)).total > 0
+    made = growth_plot.made(program, 16, 64)
+    counts = [
+        len(solve(growth_plot.with_links_that_fill(made, links)).closings) for links in (0, 4, 16)
+    ]
+    assert counts[0] == 0 < counts[1] <= 4 < counts[2]
+
+
+@needs_program
+def test_the_plot_stops_a_curve_that_takes_too_long(tmp_path, monkeypatch):
+    made = growth_plot.made(str(find_program()), 2, 4)
+    few = [("groups", 2, made), ("groups", 4, made), ("tasks", 4, made)]
+    monkeypatch.setattr(growth_plot, "documents", lambda program: few)
+    slow = stand_in(tmp_path, "cat > /dev/null; sleep 0.05; echo table 1")
+    points = growth_plot.measure({"slow": str(slow)}, runs=3, patience=0.01)
+    assert [(point.curve, point.size) for point in points] == [("groups", 2), ("tasks", 4)]
+
+
+def test_the_plot_is_svg(tmp_path):
+    sizes = enumerate(growth_plot.TITLES)
+    points = [growth_plot.Point("bwe", curve, 10 * at, 0.1 * at) for at, curve in sizes]
+    growth_plot.draw(points, str(tmp_path / "growth.svg"))
+    assert "<svg" in (tmp_path / "growth.svg").read_text()
+
+
+def test_the_plot_says_what_is_no_program(tmp_path):
+    words = ["--program", str(tmp_path / "absent"), "-o", tmp_path / "growth.svg"]
+    script = ROOT / "tools" / "growth_plot.py"
+    child = subprocess.run([script, *words], capture_output=True, text=True)
+    assert child.returncode == 2 and child.stderr.count("\n") == 1
+    assert child.stderr.startswith("bwe-tools: ")
