@@ -3,7 +3,6 @@ use Rattle.std.specs.Prelude.{ℕ, ◌≡◌, ◌≤◌, List}
 use Rattle.logbook.specs.Pages.{Book}
 use Rattle.atomic_table.specs.Seated.{TableId}
 use Rattle.bwe_specs.specs.declared.report.Report.{Report}
-use Rattle.bwe_specs.specs.declared.limits.TheConstants.{MAX_REPORTERS, MAX_READERS}
 use Rattle.board_pair.specs.Plan.{NamesTables}
 
 -- the identities of the bases, and for how many readers they are
@@ -20,6 +19,6 @@ pub record IsOpening {T : Type 0} (absorbed_none : Type 0) (table_of : List Repo
   pub tasks_so : plan_tasks ≡ tasks
   pub links_so : plan_links ≡ links
   pub reporters_so : reporters ≡ named_reporters
-  pub few_reporters : reporters ≤ MAX_REPORTERS
+  pub few_reporters : reporters ≤ 64
   pub some_readers : 1 ≤ readers
-  pub few_readers : readers ≤ MAX_READERS
+  pub few_readers : readers ≤ 64

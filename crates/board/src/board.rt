@@ -1,5 +1,5 @@
 //! The board: what threads call.
-ghost use Rattle.std.specs.Prelude.{◌≡◌, ◌≤◌, ◌++◌, length, drop, IfOk, IfErr, OnOk, OnErr};
+ghost use Rattle.std.specs.Prelude.{◌≡◌, ◌+◌, ◌-◌, ◌^◌, ◌≤◌, ◌++◌, length, drop, min, IfOk, IfErr, OnOk, OnErr};
 ghost use Rattle.std.specs.List.{All, sum_by};
 ghost use mathlib.Core.List.{IsPrefix};
 ghost use Rattle.bwe_specs.specs.declared.limits.TheConstants.{MAX_REPORTS};
@@ -56,6 +56,8 @@ impl<M: Maker, N: Profile<M::Table>, B: Bases> Board<M, N, B> {
         ensures number { pass.new.number ≡ pass.old.number }
         ensures seen { IsPrefix pass.old.seen pass.new.seen }
         ensures placed { IfOk result (λ first. drop first pass.new.seen ≡ reports.now) }
+        // That log ends with the piece.
+        ensures ends { IfOk result (λ first. first + length reports.now ≡ length pass.new.seen) }
         // Its own list grows by the piece, and is then all of its number in that log.
         ensures own { IfOk result (λ first. pass.new.own ≡ pass.old.own ++ placed pass.old.number first reports.now) }
         ensures exact { OnOk result (pass.new.own ≡ own_of pass.old.number pass.new.seen) }
@@ -67,7 +69,9 @@ impl<M: Maker, N: Profile<M::Table>, B: Bases> Board<M, N, B> {
         self.state.lock(rt).append(alloc, pass, reports)
     }
 
-    /// An ack that holds all that the pass has seen, and so each of its reports. Where no posted table covers that, it solves and posts one.
+    /// An ack that holds all that the pass has seen, and so each of its reports: a table of all these has been posted.
+    ///
+    /// Where no posted table covers that, it solves and posts one.
     pub fn settle<R: Wait>(
         &self,
         rt: &R,
@@ -81,7 +85,7 @@ impl<M: Maker, N: Profile<M::Table>, B: Bases> Board<M, N, B> {
         self.ack_of(rt, alloc, &pass.known)
     }
 
-    /// Posts the table of the log as it stands, and answers how many reports the posted table covers. The pass has then seen so many.
+    /// Posts the table of the log as it stands, and answers how many reports the posted table covers. The pass then has the ack of these.
     ///
     /// Where a table was posted that covers the whole log it solves nothing. The log lock is free while it solves.
     pub fn round<R: Wait>(
@@ -90,21 +94,18 @@ impl<M: Maker, N: Profile<M::Table>, B: Bases> Board<M, N, B> {
         alloc: Global,
         pass: &mut AllocatorPass<B>,
     ) -> Result<u64, OutOfMemory>
-        ensures seen { IsPrefix pass.old pass.new }
-        ensures prefix { IfOk result (λ prefix. prefix ≡ length pass.new) }
-        ensures floor { IfOk result (λ prefix. length pass.old ≤ prefix) }
+        ensures seen { IsPrefix pass.old.posted pass.new.posted }
+        ensures prefix { IfOk result (λ prefix. prefix ≡ length pass.new.posted) }
+        ensures floor { IfOk result (λ prefix. length pass.old.posted ≤ prefix) }
+        ensures rounds { OnOk result (pass.new.rounds ≡ min (pass.old.rounds + 1) (2 ^ 64 - 1)) }
         ensures refused { OnErr result (pass.new ≡ pass.old) }
     {
-        let behind = self.state.lock(rt).is_behind();
-        if behind {
-            solve_and_post(rt, alloc, &self.shop, &self.state)?;
-        }
-        let ack = self.state.lock(rt).ack(&pass.known)?;
-        pass.known = ack.known().copy();
-        Ok(pass.known.len())
+        let posted = self.newest_ack(rt, alloc, pass.ack().known())?;
+        pass.count(posted);
+        Ok(pass.ack().prefix())
     }
 
-    /// The whole log, and the table of it. It takes the passes of all reporters, in the order of their numbers.
+    /// The whole log, and the table of it, which has then been posted. It takes the passes of all reporters, in the order of their numbers.
     pub fn finish<R: Wait>(
         &self,
         rt: &R,
@@ -137,6 +138,22 @@ impl<M: Maker, N: Profile<M::Table>, B: Bases> Board<M, N, B> {
         state.into_inner().close(rt);
     }
 
+    // An ack of the log as it stands, which holds what is known.
+    fn newest_ack<R: Wait>(
+        &self,
+        rt: &R,
+        alloc: Global,
+        known: &Beginning<B>,
+    ) -> Result<Ack<B>, OutOfMemory>
+        ensures known { IfOk result (λ ack. IsPrefix known.now ack) }
+    {
+        let is_behind = self.state.lock(rt).is_behind();
+        if is_behind {
+            return solve_and_post(rt, alloc, &self.shop, &self.state, known);
+        }
+        self.state.lock(rt).ack(known)
+    }
+
     // An ack that holds what is known.
     fn ack_of<R: Wait>(
         &self,
@@ -149,7 +166,6 @@ impl<M: Maker, N: Profile<M::Table>, B: Bases> Board<M, N, B> {
         if let Ok(ack) = self.state.lock(rt).ack(known) {
             return Ok(ack);
         }
-        solve_and_post(rt, alloc, &self.shop, &self.state)?;
-        self.state.lock(rt).ack(known)
+        solve_and_post(rt, alloc, &self.shop, &self.state, known)
     }
 }

@@ -2,7 +2,6 @@
 ghost use Rattle.std.specs.Prelude.{◌≡◌, ℕ, ◌+◌, ◌<◌, ◌≤◌, [], List, length, IfOk, OnOk};
 ghost use Rattle.std.specs.List.{All};
 ghost use Rattle.bwe_specs.specs.declared.report.Report.{Report};
-ghost use Rattle.bwe_specs.specs.declared.limits.TheConstants.{MAX_REPORTERS, MAX_READERS};
 ghost use Rattle.board.specs.Reporting.{AreFresh, fresh_pass};
 ghost use Rattle.board_pair.specs.Reading.{IsNewReader};
 ghost use Rattle.board_pair.specs.Plan.{NamesTables};
@@ -13,7 +12,7 @@ use crate::reporter::ReporterPass;
 use crate::steps::LogState;
 use crate::workshop::Workshop;
 use board_log::{Bases, OpenedLog, OpenedRoll, Roll, WholeLog};
-use board_pair::{Pair, Poster, Profile, ReaderPass, seat_all};
+use board_pair::{Ack, Pair, Poster, Profile, ReaderPass, seat_all};
 use bwe_specs::OutOfMemory;
 use demand_book::Maker;
 use std::alloc::Global;
@@ -58,9 +57,9 @@ impl<M: Maker, N: Profile<M::Table>> Opened<M, N> {
         requires tasks { M.plan_tasks (M.plan maker) ≡ N.tasks }
         requires links { M.plan_links (M.plan maker) ≡ N.links }
         requires reporters { reporters ≡ N.reporters }
-        requires few_reporters { reporters ≤ MAX_REPORTERS }
+        requires few_reporters { reporters ≤ 64 }
         requires some_readers { 1 ≤ readers }
-        requires few_readers { readers ≤ MAX_READERS }
+        requires few_readers { readers ≤ 64 }
         ensures readers { IfOk result (λ opened. opened.readers ≡ readers) }
     {
         Ok(Opened {
@@ -96,7 +95,7 @@ impl<M: Maker, N: Profile<M::Table>> Opened<M, N> {
         ensures fresh { IfOk result (λ opened. AreFresh opened.1.items) }
         ensures readers { IfOk result (λ opened. length opened.2.items ≡ self.readers) }
         ensures new { IfOk result (λ opened. All (IsNewReader M.Table.covers N.belongs) opened.2.items) }
-        ensures allocator { IfOk result (λ opened. opened.3 ≡ []) }
+        ensures allocator { IfOk result (λ opened. opened.3 ≡ record { posted = []; rounds = 0 }) }
     {
         let Opened {
             mut maker,
@@ -117,13 +116,9 @@ impl<M: Maker, N: Profile<M::Table>> Opened<M, N> {
         match seat_all(alloc, readers, &known, &table, &poster) {
             Ok(seats) => {
                 let shop = Workshop::empty(alloc, maker, whole.first(0));
+                let allocator = AllocatorPass::new(Ack::of(&poster));
                 let state = LogState::empty(alloc, whole, roll, poster);
-                Ok((
-                    Board::new(shop, state),
-                    passes,
-                    seats,
-                    AllocatorPass { known },
-                ))
+                Ok((Board::new(shop, state), passes, seats, allocator))
             }
             Err(error) => {
                 poster.take(rt);

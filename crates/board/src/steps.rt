@@ -150,17 +150,14 @@ impl<M: Maker, N: Profile<M::Table>, B: Bases> LogState<M, N, B> {
 
     /// An ack of what is posted, if that covers what is known.
     pub(crate) fn ack(&self, known: &Beginning<B>) -> Result<Ack<B>, OutOfMemory>
-        ensures ack { IfOk result (λ ack. ack ≡ take self.now.posted self.now.log) }
         ensures prefix { IfOk result (λ ack. length ack ≡ self.now.posted) }
         ensures known { IfOk result (λ ack. IsPrefix known.now ack) }
     {
-        let whole = self.whole.first(self.log.len() as u64);
-        let posted = self.posted();
-        if !known.begins(&whole) || known.len() > posted {
+        let ack = Ack::of(&self.poster);
+        if !known.begins(ack.known()) {
             return Err(OutOfMemory);
         }
-        let known = whole.first(posted);
-        Ok(Ack::new(known))
+        Ok(ack)
     }
 
     /// Whether the log has reports that the posted table doesn't cover.
@@ -180,26 +177,28 @@ impl<M: Maker, N: Profile<M::Table>, B: Bases> LogState<M, N, B> {
         shop.look(whole, log.as_slice())
     }
 
-    /// Posts the table of all that the workshop has seen.
+    /// Posts the table of all that the workshop has seen, and gives the ack of what is then posted.
     pub(crate) fn post_made<R: Wait>(
         &mut self,
         rt: &R,
         alloc: Global,
         shop: &Workshop<M, N, B>,
         table: M::Table,
-    ) -> Result<u64, OutOfMemory>
+    ) -> Result<Ack<B>, OutOfMemory>
         requires covers { M.Table.covers table ≡ length shop.now }
         requires belongs { N.belongs shop.now table }
         ensures log { self.new.log ≡ self.old.log }
-        ensures posted { IfOk result (λ prefix. prefix ≡ self.new.posted) }
-        ensures covered { IfOk result (λ prefix. length shop.now ≤ prefix) }
+        ensures prefix { IfOk result (λ ack. length ack ≡ self.new.posted) }
+        ensures within { self.new.posted ≤ length self.new.log }
+        ensures covered { IfOk result (IsPrefix shop.now) }
         ensures raised { self.old.posted ≤ self.new.posted }
     {
         let whole = self.whole.first(self.log.len() as u64);
         if !shop.is_seen_in(&whole) {
             return Err(OutOfMemory);
         }
-        post(rt, alloc, self, table)
+        post(rt, alloc, self, table)?;
+        self.ack(shop.seen())
     }
 
     /// The whole log and its table, once each pass is compared with the log.
@@ -214,7 +213,8 @@ impl<M: Maker, N: Profile<M::Table>, B: Bases> LogState<M, N, B> {
         requires count { length passes.items ≡ N.reporters }
         requires order { AreInOrder passes.items }
         ensures log { self.new.log ≡ self.old.log }
-        ensures posted { self.old.posted ≤ self.new.posted }
+        ensures posted { OnOk result (self.new.posted ≡ length self.new.log) }
+        ensures raised { self.old.posted ≤ self.new.posted }
         ensures whole { IfOk result (λ ended. ended.ack ≡ self.old.log) }
         ensures history { IfOk result (λ ended. ended.history.items ≡ self.old.log) }
         ensures seen { IfOk result (λ ended. All (λ pass. IsPrefix pass.seen ended.ack) passes.items) }
@@ -233,8 +233,8 @@ impl<M: Maker, N: Profile<M::Table>, B: Bases> LogState<M, N, B> {
         }
         compare_all(&mut self.roll, passes.as_mut_slice());
         match self.last_table(rt, alloc, shop) {
-            Ok((history, table)) => Ok(Ended {
-                ack: Ack::new(known),
+            Ok((ack, history, table)) => Ok(Ended {
+                ack,
                 history,
                 length,
                 table,
@@ -302,25 +302,28 @@ impl<M: Maker, N: Profile<M::Table>, B: Bases> LogState<M, N, B> {
         Ok(())
     }
 
-    // Posts the table of the whole log, and gives both.
+    // Posts the table of the whole log, and gives the ack of it and both.
+    #[tactic(auto, using(board_log::proofs::Prefixes::prefix_whole))]
     fn last_table<R: Wait>(
         &mut self,
         rt: &R,
         alloc: Global,
         shop: &mut Workshop<M, N, B>,
-    ) -> Result<(Vec<Report>, M::Table), OutOfMemory>
+    ) -> Result<(Ack<B>, Vec<Report>, M::Table), OutOfMemory>
         ensures log { self.new.log ≡ self.old.log }
-        ensures posted { self.old.posted ≤ self.new.posted }
-        ensures history { IfOk result (λ last. last.0.items ≡ self.old.log) }
-        ensures covers { IfOk result (λ last. M.Table.covers last.1 ≡ length self.old.log) }
-        ensures belongs { IfOk result (λ last. N.belongs self.old.log last.1) }
+        ensures posted { OnOk result (self.new.posted ≡ length self.new.log) }
+        ensures raised { self.old.posted ≤ self.new.posted }
+        ensures ack { IfOk result (λ last. last.0 ≡ self.old.log) }
+        ensures history { IfOk result (λ last. last.1.items ≡ self.old.log) }
+        ensures covers { IfOk result (λ last. M.Table.covers last.2 ≡ length self.old.log) }
+        ensures belongs { IfOk result (λ last. N.belongs self.old.log last.2) }
     {
         self.show(shop)?;
         let history = Vec::from_slice(alloc, self.log.as_slice())?;
         let table = shop.solve(alloc)?;
         let copy = table.copy(alloc)?;
-        self.post_made(rt, alloc, shop, copy)?;
-        Ok((history, table))
+        let ack = self.post_made(rt, alloc, shop, copy)?;
+        Ok((ack, history, table))
     }
 }
 
@@ -354,13 +357,17 @@ fn grow<B: Bases>(
     piece: &Vec<Report>,
 ) -> Result<(), OutOfMemory>
     requires whole { whole.old ≡ log.old.items }
+    requires room { length log.old.items ≤ MAX_REPORTS }
     ensures whole { whole.new ≡ log.new.items }
     ensures ok { OnOk result (log.new.items ≡ log.old.items ++ piece.now.items) }
     ensures refused { OnErr result (log.new.items ≡ log.old.items) }
 {
+    if piece.is_empty() {
+        return Ok(());
+    }
     let held = log.len();
     log.extend_from_slice(piece.as_slice())?;
-    if !whole.append(piece) {
+    if whole.append(piece).is_err() {
         log.truncate(held);
         return Err(OutOfMemory);
     }

@@ -24,6 +24,7 @@ const RUNS: u64 = 100;
 #[derive(Clone, Copy)]
 pub enum Case<'a> {
     Told,
+    Rounds,
     FullLog,
     Beside { meeting: &'a Meeting },
     Memory { refused: u64 },
@@ -33,6 +34,12 @@ pub enum Case<'a> {
 #[test]
 fn a_told_reader_and_an_untold_one_see_the_report(rt: HostRuntime) -> Result<(), Fail> {
     on_board::<Brand, _>(&rt, rt.alloc(), TestMaker::new(None, None), Case::Told)
+}
+
+// Nobody tells the reader of the rounds, before which nobody settles.
+#[test]
+fn an_untold_reader_sees_the_table_of_each_round(rt: HostRuntime) -> Result<(), Fail> {
+    on_board::<Brand, _>(&rt, rt.alloc(), TestMaker::new(None, None), Case::Rounds)
 }
 
 // The cases "Full log" and "Full board".

@@ -11,7 +11,7 @@ ghost use Rattle.board_pair.specs.Plan.{NamesTables};
 
 use crate::steps::LogState;
 use board_log::{Bases, Beginning};
-use board_pair::Profile;
+use board_pair::{Ack, Profile};
 use bwe_specs::{OutOfMemory, Report};
 use demand_book::Maker;
 use std::alloc::Global;
@@ -87,6 +87,13 @@ impl<M: Maker, N: Profile<M::Table>, B: Bases> Workshop<M, N, B> {
         self.maker.table(alloc)
     }
 
+    // What was seen.
+    pub(crate) fn seen(&self) -> &Beginning<B>
+        ensures seen { result.now ≡ self.now }
+    {
+        &self.known
+    }
+
     // Whether the log begins with all that was seen here.
     pub(crate) fn is_seen_in(&self, whole: &Beginning<B>) -> bool
         ensures seen { OnTrue result (IsPrefix self.now whole.now) }
@@ -126,16 +133,23 @@ fn absorb_all<M: Maker>(
     Ok(())
 }
 
-/// Sees the log, makes the table of it while the log lock is free, and posts it.
+/// Sees the log, makes the table of it while the log lock is free, and posts it. The ack of what is then posted holds what is known.
 pub(crate) fn solve_and_post<M: Maker, N: Profile<M::Table>, B: Bases, R: Wait>(
     rt: &R,
     alloc: Global,
     shop: &Mutex<Workshop<M, N, B>>,
     state: &Mutex<LogState<M, N, B>>,
-) -> Result<u64, OutOfMemory> {
+    known: &Beginning<B>,
+) -> Result<Ack<B>, OutOfMemory>
+    ensures known { IfOk result (λ ack. IsPrefix known.now ack) }
+{
     let mut shop = shop.lock(rt);
     let shop = &mut *shop;
     state.lock(rt).show(shop)?;
     let table = shop.solve(alloc)?;
-    state.lock(rt).post_made(rt, alloc, shop, table)
+    let ack = state.lock(rt).post_made(rt, alloc, shop, table)?;
+    if !known.begins(ack.known()) {
+        return Err(OutOfMemory);
+    }
+    Ok(ack)
 }

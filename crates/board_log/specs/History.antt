@@ -1,6 +1,6 @@
 -- The rule of the history, and what its steps tell.
-use Rattle.std.specs.Prelude.{ℕ, ◌≡◌, ◌≤◌, ◌==◌, true, List, [], ◌∷◌, ◌++◌, length, MatchBool}
-use Rattle.std.specs.List.{flat_map}
+use Rattle.std.specs.Prelude.{ℕ, ◌≡◌, ◌<◌, ◌≤◌, ◌==◌, true, List, [], ◌∷◌, ◌++◌, length, MatchBool}
+use Rattle.std.specs.List.{flat_map, All}
 use Rattle.logbook.specs.Pages.{Cell, Step, View, Book, Named}
 use Rattle.atomic_table.specs.Seated.{TableId}
 use Rattle.bwe_specs.specs.declared.report.Report.{Report}
@@ -9,21 +9,26 @@ use Rattle.bwe_specs.specs.declared.report.Report.{Report}
 abbrev pub log_of : List (List Report) → List Report
 log_of pieces = flat_map (λ piece. piece) pieces
 
--- the first word counts the pieces. A book has two words, of which this one leaves the second at 0
+-- no piece is empty
+abbrev pub AreFilled : List (List Report) → Type 0
+AreFilled pieces = All (λ piece. 0 < length piece) pieces
+
+-- the first word counts the pieces, and none of them is empty. A book has two words, of which this one leaves the second at 0
 abbrev pub CountsPieces : List Cell → List (List Report) → Type 0
-CountsPieces cells pieces = cells ≡ (length pieces, true) ∷ (0, true) ∷ []
+CountsPieces cells pieces = (cells ≡ (length pieces, true) ∷ (0, true) ∷ []) × AreFilled pieces
 
 -- the word of a book that counts its pieces
 abbrev pub word_of : Book → Named
 word_of book = record { tracked = true; key = 0; book = book }
 
--- the piece was added to all that had been seen; or the history was longer
+-- the piece was added to all that had been seen; or the log was longer, and is now seen to be
 abbrev pub AddsPiece : Step (List Report) → View (List Report) ℕ → ℕ → View (List Report) ℕ → Type 0
-AddsPiece step before found after = MatchBool (found == step.old) (after.0 ≡ before.0 ++ step.ask ∷ []) (Unit {0})
+AddsPiece step before found after = MatchBool (found == step.old) (after.0 ≡ before.0 ++ step.ask ∷ []) (length (log_of before.0) < length (log_of after.0))
 
--- who holds the whole log has the word of the named book, and counts the pieces
+-- who holds the whole log has the word of the named book, and counts the pieces, of which none is empty
 pub record IsCounted (named : Book) (word : Named) (count : ℕ) (book : Book) (pieces : List (List Report)) : Type 0 where
   pub counted : count ≡ length pieces
+  pub filled : AreFilled pieces
   pub named_so : book ≡ named
   pub word_is : word ≡ word_of named
 

@@ -1,5 +1,5 @@
 //! The log as it was reached: the whole of it, and its beginnings.
-ghost use Rattle.std.specs.Prelude.{◌≡◌, ◌<◌, ◌≤◌, ◌++◌, [], length, take, MatchBool};
+ghost use Rattle.std.specs.Prelude.{◌≡◌, ◌+◌, ◌^◌, ◌<◌, ◌≤◌, ◌++◌, [], length, take, MatchBool, IfErr, OnOk, OnErr};
 ghost use Rattle.std.specs.Bool.{OnTrue, OnFalse};
 ghost use mathlib.Core.List.{IsPrefix};
 ghost use Rattle.board_log.specs.History.{word_of};
@@ -13,7 +13,7 @@ use std::marker::{Model, PhantomData};
 // Reports that came in together. No value of it is made.
 type Piece = LinkedList<Report>;
 
-// The rule of the history: its word counts the pieces.
+// The rule of the history: its word counts the pieces, and none is empty.
 struct PieceCount;
 
 impl Rule<Piece, u64> for PieceCount {
@@ -136,18 +136,38 @@ impl<B: Bases> Model for Beginning<B> {
     ghost invariant = { λ beginning. IsReached B.book beginning.len beginning.seen.book beginning.seen.log };
 }
 
+/// A log that was reached, for who did not know that it is so long. Contracts see it as its reports.
+#[derive(Drop)]
+pub struct LongerLog<B: Bases> {
+    seen: Seen<Piece, u64, PieceCount>,
+    of: PhantomData<B>,
+}
+
+impl<B: Bases> Model for LongerLog<B> {
+    ghost use Rattle.std.specs.Prelude.{◌≡◌, List};
+    ghost use Rattle.bwe_specs.specs.declared.report.Report.{Report};
+    ghost use Rattle.board_log.specs.History.{log_of};
+
+    ghost Value = { List Report };
+
+    ghost view = { λ longer. log_of longer.seen.log };
+
+    ghost invariant = { λ longer. longer.seen.book ≡ B.book };
+}
+
 impl<B: Bases> WholeLog<B> {
-    /// Adds a piece at the end, and says whether it did.
+    /// Adds a piece at the end.
     ///
-    /// It did not where the log is longer than is known here. There is one `WholeLog` of a log, so that never happens in a run,
-    /// but no clause can say so, and none refuses a body that never adds: a test does.
-    pub fn append(&mut self, piece: &Vec<Report>) -> bool
-        ensures added { OnTrue result (self.new ≡ self.old ++ piece.now.items) }
-        ensures refused { OnFalse result (self.new ≡ self.old) }
+    /// It does not where the log is longer than is known here, and then it gives that longer log, which nobody can make up.
+    /// There is one `WholeLog` of a log, so that never happens in a run, but no clause can say so.
+    #[tactic(auto, using(crate::proofs::Adding::few_pieces))]
+    pub fn append(&mut self, piece: &Vec<Report>) -> Result<(), LongerLog<B>>
+        requires some { 0 < length piece.now.items }
+        requires room { length self.old < 2 ^ 62 }
+        ensures added { OnOk result (self.new ≡ self.old ++ piece.now.items) }
+        ensures refused { OnErr result (self.new ≡ self.old) }
+        ensures longer { IfErr result (λ longer. length self.old < length longer) }
     {
-        if self.pieces >= 1 << 62 {
-            return false;
-        }
         let mut seen = self.seen.again();
         let mut offer: Offer<Piece, u64, PieceCount, Nothing> = seen.plain::<
             Nothing,
@@ -166,11 +186,14 @@ impl<B: Bases> WholeLog<B> {
                 &mut pen,
             );
         if found != pieces {
-            return false;
+            return Err(LongerLog {
+                seen,
+                of: PhantomData,
+            });
         }
         self.seen = seen;
         self.pieces = pieces + 1;
-        true
+        Ok(())
     }
 
     /// The first `len` reports.

@@ -15,7 +15,7 @@ mod history;
 mod roll;
 
 pub use bases::Bases;
-pub use history::{Beginning, OpenedLog, WholeLog};
+pub use history::{Beginning, LongerLog, OpenedLog, WholeLog};
 pub use roll::{Member, OpenedRoll, PlacedReport, Roll};
 
 /// A reporter's own list without the places is its reports in the log, in their order.

@@ -18,7 +18,7 @@ fn compared<B: Bases, R: Abort>(rt: &R, alloc: Global, opened: OpenedLog) -> Res
     let mut log: WholeLog<B> = opened.named();
     let none = log.first(0);
     let piece = vec![in alloc; report_by(0), report_by(1)]?;
-    assert_eq!(rt; log.append(&piece), true);
+    assert!(rt; log.append(&piece).is_ok());
     let two = log.first(2);
     let one = two.first(1);
     assert_eq!(rt; (none.len(), one.len(), two.len()), (0, 1, 2));

@@ -1,10 +1,15 @@
-ghost use Rattle.std.specs.Prelude.{◌≡◌, length};
+ghost use Rattle.std.specs.Prelude.{◌≡◌, length, take};
 
+use crate::pair::{News, Pair};
+use crate::poster::Poster;
+use crate::profile::Profile;
 use board_log::{Bases, Beginning};
+use demand_book::Posted;
 use std::marker::Model;
 
-/// An acknowledgement: the first reports of the log, of which a table was posted that covers them all. Contracts see it as those reports.
+/// An acknowledgement: the first reports of the log, all of which a posted table covers. Contracts see it as those reports.
 ///
+/// `Ack::of` alone makes one, of what a poster shows: who has an ack knows that a table of so many reports was posted.
 /// It holds no table. Passes of its board `learn` it.
 #[derive(Drop)]
 pub struct Ack<B: Bases> {
@@ -21,11 +26,15 @@ impl<B: Bases> Model for Ack<B> {
 }
 
 impl<B: Bases> Ack<B> {
-    /// The ack of the first reports of a log. Whoever makes one has posted a table that covers them: no clause here can say so.
-    pub fn new(known: Beginning<B>) -> Ack<B>
-        ensures reports { result ≡ known }
+    /// The ack of what is posted: the reports that the table covers which a poster shows.
+    pub fn of<T: Posted, N: Profile<T>>(poster: &Poster<Pair<T, N, B>, News<T, N, B>>) -> Ack<B>
+        ensures reports { result ≡ take (T.covers poster.now.shown.table) poster.now.shown.log }
+        ensures covers { length result ≡ T.covers poster.now.shown.table }
     {
-        Ack { known }
+        let pair = poster.shown();
+        Ack {
+            known: pair.covered(),
+        }
     }
 
     /// How many reports it holds.

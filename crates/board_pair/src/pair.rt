@@ -125,6 +125,14 @@ impl<T: Posted, N: Profile<T>, B: Bases> Pair<T, N, B> {
         &self.table
     }
 
+    // The reports that the table covers.
+    pub(crate) fn covered(&self) -> Beginning<B>
+        ensures covered { result ≡ take (T.covers self.now.table) self.now.log }
+        ensures length { length result ≡ T.covers self.now.table }
+    {
+        self.known.first(self.table.prefix())
+    }
+
     // Takes the log to all that is known of it here, and the table to that one by their change.
     // `more` is what the known log has from the place `from` on, where this log ends.
     fn follow(

@@ -153,7 +153,7 @@ where
     { read_lines(rt, alloc, newest, gate, number as u32, reads, pass) };
     let rounds = |_: usize, pass: &mut AllocatorPass<B>| -> Result<(), OutOfMemory>
         requires { reads ≤ 1000 }
-        ensures { IsPrefix pass.old pass.new }
+        ensures { IsPrefix pass.old.posted pass.new.posted }
     { make_rounds(rt, alloc, board, gate, reads + 1, pass) };
     let (reported, (read, made)) = all_at_once(
         rt, alloc, &report, reporters, &read, readers, &rounds, allocator,

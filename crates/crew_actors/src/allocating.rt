@@ -1,4 +1,5 @@
 //! What the allocator does.
+ghost use Rattle.std.specs.Prelude.{◌≡◌, ◌+◌, ◌-◌, ◌^◌, min, OnOk};
 ghost use mathlib.Core.List.{IsPrefix};
 
 use crate::actor::{Actor, Gate};
@@ -8,7 +9,7 @@ use demand_book::Maker;
 use std::alloc::Global;
 use std::sync::Wait;
 
-/// Makes so many rounds. Each posts a table of the log as it stands, where none covers it.
+/// Makes so many rounds. Each posts a table of the log as it stands, where none covers it, and the pass has the ack of the last.
 pub fn make_rounds<M: Maker, N: Profile<M::Table>, B: Bases, G: Gate, R: Wait>(
     rt: &R,
     alloc: Global,
@@ -17,8 +18,11 @@ pub fn make_rounds<M: Maker, N: Profile<M::Table>, B: Bases, G: Gate, R: Wait>(
     rounds: u64,
     pass: &mut AllocatorPass<B>,
 ) -> Result<(), OutOfMemory>
-    ensures seen { IsPrefix pass.old pass.new }
+    ensures seen { IsPrefix pass.old.posted pass.new.posted }
+    ensures rounds { OnOk result (pass.new.rounds ≡ min (pass.old.rounds + rounds) (2 ^ 64 - 1)) }
 {
+    // The count is a number of 64 bits, as the loop has to know.
+    let _made = pass.rounds();
     for call in 0..rounds {
         gate.before(Actor::Allocator, call);
         let posted = board.round(rt, alloc, pass);

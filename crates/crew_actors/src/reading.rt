@@ -1,5 +1,5 @@
 //! What a reader does.
-ghost use Rattle.std.specs.Prelude.{◌≡◌, ◌+◌, ◌-◌, ◌^◌, ◌<◌, ◌≤◌, ◌++◌, [], length, drop, min, IfOk, OnOk};
+ghost use Rattle.std.specs.Prelude.{◌≡◌, ◌+◌, ◌-◌, ◌^◌, ◌<◌, ◌≤◌, ◌++◌, [], length, drop, min, IfOk, IfSome, OnOk};
 ghost use Rattle.std.specs.List.{All};
 ghost use mathlib.Core.List.{IsPrefix};
 ghost use Rattle.board_core.specs.Core.{IsAllowed};
@@ -112,6 +112,23 @@ fn entries_from<T: Posted, N: Profile<T>, B: Bases>(
     Ok(entries)
 }
 
+// Learns what was left, if anything was.
+fn learn_left<T: Posted, N: Profile<T>, B: Bases>(
+    alloc: Global,
+    left: &Option<Ack<B>>,
+    pass: &mut ReaderPass<T, N, B>,
+) -> Result<(), OutOfMemory>
+    ensures learnt { OnOk result (IfSome left.now (λ ack. length ack ≤ T.covers pass.new.table)) }
+    ensures log { IsPrefix pass.old.log pass.new.log }
+    ensures floor { T.covers pass.old.table ≤ T.covers pass.new.table }
+    ensures reads { pass.new.reads ≡ pass.old.reads }
+{
+    match left {
+        Some(ack) => pass.learn(alloc, ack),
+        None => Ok(()),
+    }
+}
+
 // Learns the newest acknowledgement, if there is one.
 fn learn_newest<T: Posted, N: Profile<T>, B: Bases, R: Wait>(
     rt: &R,
@@ -123,11 +140,8 @@ fn learn_newest<T: Posted, N: Profile<T>, B: Bases, R: Wait>(
     ensures floor { T.covers pass.old.table ≤ T.covers pass.new.table }
     ensures reads { pass.new.reads ≡ pass.old.reads }
 {
-    let shared = newest.lock(rt);
-    match &*shared {
-        Some(ack) => pass.learn(alloc, ack),
-        None => Ok(()),
-    }
+    let left = newest.lock(rt);
+    learn_left(alloc, &left, pass)
 }
 
 /// Reads so often, and learns the newest acknowledgement before each read, if there is one. It waits for the place where that is left.

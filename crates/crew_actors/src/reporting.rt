@@ -1,6 +1,7 @@
 //! What a reporter does.
-ghost use Rattle.std.specs.Prelude.{◌≡◌, ◌≤◌, ◌<◌, ◌++◌, ◌∷◌, [], length, IfErr, OnOk, OnErr};
+ghost use Rattle.std.specs.Prelude.{◌≡◌, ◌≤◌, ◌<◌, ◌++◌, ◌∷◌, [], length, IfSome, IfErr, OnOk, OnErr};
 ghost use Rattle.std.specs.List.{All};
+ghost use mathlib.Core.List.{IsPrefix};
 ghost use Rattle.board_log.specs.Laws.{without_places};
 ghost use Rattle.board_log.specs.Roll.{IsBy};
 ghost use Rattle.board_core.specs.Core.{IsAllowed};
@@ -10,8 +11,8 @@ ghost use Rattle.crew_actors.specs.Reporters.{IsCutShort};
 
 use crate::actor::{Actor, Gate};
 use crate::reading::NewestAck;
-use board::{Bases, Board, Profile, ReportError, ReporterPass};
-use bwe_specs::Report;
+use board::{Ack, Bases, Board, Profile, ReportError, ReporterPass};
+use bwe_specs::{OutOfMemory, Report};
 use demand_book::Maker;
 use std::alloc::Global;
 use std::sync::Wait;
@@ -66,7 +67,39 @@ fn report_script<M: Maker, N: Profile<M::Table>, B: Bases, G: Gate, R: Wait>(
     Ok(())
 }
 
-/// Reports each entry of a script by a call of its own, and settles. The acknowledgement is left for the readers.
+// The later of two acks, which holds both.
+#[tactic(auto, using(crate::proofs::Lines::prefix_same))]
+fn later_of<B: Bases>(left: Option<Ack<B>>, ack: Ack<B>) -> Ack<B>
+    ensures new { IsPrefix ack result }
+    ensures left { IfSome left (λ before. IsPrefix before result) }
+{
+    let Some(before) = left else {
+        return ack;
+    };
+    if ack.known().begins(before.known()) {
+        return before;
+    }
+    ack
+}
+
+// Settles, and leaves the acknowledgement for the readers, where no later one was left.
+fn settle_and_leave<M: Maker, N: Profile<M::Table>, B: Bases, R: Wait>(
+    rt: &R,
+    alloc: Global,
+    board: &Board<M, N, B>,
+    newest: &NewestAck<B>,
+    pass: &mut ReporterPass<B>,
+) -> Result<(), OutOfMemory>
+    ensures pass { pass.new ≡ pass.old }
+{
+    let ack = board.settle(rt, alloc, pass)?;
+    let mut left = newest.lock(rt);
+    let before = left.take();
+    *left = Some(later_of(before, ack));
+    Ok(())
+}
+
+/// Reports each entry of a script by a call of its own, and settles. The acknowledgement is left for the readers before the settle is answered.
 ///
 /// A call that is refused ends it.
 pub fn report_and_settle<M: Maker, N: Profile<M::Table>, B: Bases, G: Gate, R: Wait>(
@@ -92,8 +125,8 @@ pub fn report_and_settle<M: Maker, N: Profile<M::Table>, B: Bases, G: Gate, R: W
     };
     let call = script.len() as u64;
     gate.before(actor, call);
-    let settled = board.settle(rt, alloc, pass);
+    let settled = settle_and_leave(rt, alloc, board, newest, pass);
     gate.after(actor, call);
-    *newest.lock(rt) = Some(settled?);
+    settled?;
     Ok(())
 }

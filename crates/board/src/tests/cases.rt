@@ -48,6 +48,7 @@ pub fn play<
             &mut other,
             &mut allocator,
         )?,
+        Case::Rounds => round_often(rt, alloc, board, &mut first, &mut one, &mut allocator)?,
         Case::FullLog => fill_log(rt, alloc, board, &mut first)?,
         Case::Memory { refused } => settle_three(rt, alloc, board, &mut first, &mut one, refused)?,
         Case::Beside { meeting } => {
@@ -121,6 +122,31 @@ fn see<N: Profile<SmallTable>, B: Bases, R: Abort>(
     assert_eq!(rt; (view.entry(0), view.entry(1)), (Some(report), None));
 }
 
+// Ten reports with a round after each, and a reader that nobody tells of them.
+fn round_often<N: Profile<SmallTable>, B: Bases, R: Wait + Abort>(
+    rt: &R,
+    alloc: Global,
+    board: &Board<TestMaker<'_>, N, B>,
+    pass: &mut ReporterPass<B>,
+    reader: &mut ReaderPass<SmallTable, N, B>,
+    allocator: &mut AllocatorPass<B>,
+) -> Result<(), Fail>
+    requires names { (2 ≡ N.reporters) × (2 ≡ N.tasks) × (1 ≡ N.links) }
+    requires first { pass.old.number ≡ 0 }
+    ensures number { pass.new.number ≡ pass.old.number }
+{
+    for reports in 1..11 {
+        assert!(rt; board.report(rt, alloc, pass, &[demand_by(0, 5)]).is_ok());
+        assert_eq!(rt; board.round(rt, alloc, allocator)?, reports);
+        assert_eq!(rt;
+            (reader.floor(), reader.read(alloc).prefix()),
+            (reports - 1, reports)
+        );
+    }
+    assert_eq!(rt; (allocator.rounds(), allocator.ack().prefix()), (10, 10));
+    Ok(())
+}
+
 fn fill_log<N: Profile<SmallTable>, B: Bases, R: Wait + Abort>(
     rt: &R,
     alloc: Global,
@@ -140,6 +166,7 @@ fn fill_log<N: Profile<SmallTable>, B: Bases, R: Wait + Abort>(
     );
     assert_eq!(rt; pass.sent(), 199_999);
     assert_eq!(rt; board.report(rt, alloc, pass, &[report]), Ok(199_999));
+    assert_eq!(rt; board.report(rt, alloc, pass, &[]), Ok(200_000));
     Ok(())
 }
 
@@ -315,6 +342,7 @@ fn end<N: Profile<SmallTable>, B: Bases, R: Wait + Abort>(
 fn end_of(case: Case<'_>) -> (u64, u64, u64, u64) {
     match case {
         Case::Told => (1, 1, 1, 80),
+        Case::Rounds => (10, 10, 10, 50),
         Case::FullLog => (200_000, 200_000, 200_000, 200_000),
         Case::Beside { meeting: _ } => (2, 2, 2, 12),
         Case::Memory { refused: _ } => (3, 3, 3, 15),

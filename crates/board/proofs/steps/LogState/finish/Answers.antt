@@ -1,4 +1,5 @@
-use Rattle.std.proofs.Common.{◌≡◌, ◌∙◌, ap, sym, subst, arith, length, List}
+use Rattle.std.proofs.Common.{◌≡◌, ◌≤◌, ◌∙◌, ap, sym, subst, arith, length, take, List}
+use Rattle.std.proofs.lemmas.List.{take_all}
 use Rattle.std.specs.List.{All}
 use mathlib.Core.List.{IsPrefix}
 use Rattle.bwe_specs.specs.declared.report.Report.{Report}
@@ -20,6 +21,10 @@ returns-in-Ok-clause-sent g c =
 
 pub returns-in-Ok-clause-seen : goal.returns-in-Ok-clause-seen
 returns-in-Ok-clause-seen g c =
+    let log = c.self.inside.log.items in
     let passes : List Reporting = c.args.passes.items in
-    let begun : All (λ (pass : Reporting). IsPrefix pass.seen c.first-known.result) passes = subst (All (λ (pass : Reporting). IsPrefix pass.seen c.first-known.result)) c.as_slice.ensures.value c.if-not-each_begins.ensures.begins in
-    subst (λ (ack : List Report). All (λ (pass : Reporting). IsPrefix pass.seen ack) passes) (sym c.new.ensures.reports) begun
+    let Begin : List Report → Type 0 = λ reports. All (λ (pass : Reporting). IsPrefix pass.seen reports) passes in
+    let count : length log ≤ c.len-length.result = omega (arith, c.len-length.ensures, c.self.inside.log.ok.0) in
+    let known : c.first-known.result ≡ log = c.first-known.ensures.reports ∙ ap (take c.len-length.result) c.self.invariant.whole_so ∙ take_all c.len-length.result log count in
+    let begun : Begin c.first-known.result = subst (λ (all : List Reporting). All (λ (pass : Reporting). IsPrefix pass.seen c.first-known.result) all) c.as_slice.ensures.value c.if-not-each_begins.ensures.begins in
+    subst Begin (known ∙ sym c.in-Ok.ensures.ack) begun

@@ -14,5 +14,5 @@ compare_exchange-found-requires g c =
       book,
       pen.0 ∙ book,
       offer.0,
-      rw (ap (λ w. w.key) h, pen.1, offer.1, offer.3) (adds_moves c.again-seen.result.log c.args.piece.now.items c.self.inside.pieces len),
+      rw (ap (λ w. w.key) h, pen.1, offer.1, offer.3) (adds_moves c.again-seen.result.log c.args.piece.now.items c.self.inside.pieces c.requires.some len),
     )
