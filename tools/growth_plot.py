@@ -7,18 +7,20 @@
 Without --program it is the program of $BWE, or the built one. Each time is the least of a few
 runs, with reading the document and writing the table. The documents of the first two curves are
 those of `bwe make`. A program that takes longer than --patience seconds for one run is not asked
-for larger documents of that curve. --data keeps the numbers as JSON.
+for larger documents of that curve. --data keeps the numbers as JSON. Where other work runs on the
+machine, --processor-time tells more.
 """
 
 from __future__ import annotations
 
 import json
 import random
+import resource
 import subprocess
 import sys
 import tempfile
 import time
-from collections.abc import Iterator
+from collections.abc import Callable, Iterator
 from dataclasses import asdict, dataclass
 from pathlib import Path
 
@@ -32,6 +34,8 @@ sys.path.insert(0, str(Path(__file__).resolve().parent))
 
 from bwe_tools.document import ToolError  # noqa: E402
 from bwe_tools.program import find_program  # noqa: E402
+
+Clock = Callable[[], float]
 
 TOP = 1_000_000
 TITLES = {
@@ -59,11 +63,17 @@ def made(program: str, groups: int, tasks: int) -> bytes:
     return subprocess.run(words, stdout=subprocess.PIPE, check=True).stdout
 
 
-def solve(program: str, document: Path) -> tuple[float, bytes]:
-    begun = time.perf_counter()
+def processor_time() -> float:
+    """What all programs that this one ran have used of processors, in seconds."""
+    used = resource.getrusage(resource.RUSAGE_CHILDREN)
+    return used.ru_utime + used.ru_stime
+
+
+def solve(program: str, document: Path, clock: Clock) -> tuple[float, bytes]:
+    begun = clock()
     with document.open("rb") as given:
         child = subprocess.run([program, "solve"], stdin=given, stdout=subprocess.PIPE, check=True)
-    return time.perf_counter() - begun, child.stdout
+    return clock() - begun, child.stdout
 
 
 def with_links_that_fill(document: bytes, links: int) -> bytes:
@@ -131,7 +141,9 @@ def documents(program: str) -> Iterator[tuple[str, int | None, bytes]]:
         yield "nested", groups * 36, nested(groups)
 
 
-def measure(programs: dict[str, str], runs: int, patience: float) -> list[Point]:
+def measure(
+    programs: dict[str, str], runs: int, patience: float, clock: Clock = time.perf_counter
+) -> list[Point]:
     points: list[Point] = []
     slow: set[tuple[str, str]] = set()
     with tempfile.TemporaryDirectory() as folder:
@@ -141,17 +153,19 @@ def measure(programs: dict[str, str], runs: int, patience: float) -> list[Point]
             for name, program in programs.items():
                 if (name, curve) in slow:
                     continue
-                seconds, table = solve(program, path)
+                seconds, table = solve(program, path, clock)
                 if seconds > patience:
                     slow.add((name, curve))
                 elif seconds < patience / 4:
-                    seconds = min([seconds, *(solve(program, path)[0] for _ in range(runs - 1))])
+                    seconds = min(
+                        [seconds, *(solve(program, path, clock)[0] for _ in range(runs - 1))]
+                    )
                 closings = table.count(b"\nclosing ")
                 points.append(Point(name, curve, closings if size is None else size, seconds))
     return points
 
 
-def draw(points: list[Point], path: str) -> None:
+def draw(points: list[Point], path: str, unit: str = "seconds") -> None:
     pyplot.rcParams.update({"font.size": 9, "svg.hashsalt": "bwe", "svg.fonttype": "none"})
     figure, fields = pyplot.subplots(2, 2, figsize=(9.2, 6.6), constrained_layout=True)
     programs = list(dict.fromkeys(point.program for point in points))
@@ -173,7 +187,7 @@ def draw(points: list[Point], path: str) -> None:
         field.set_xlabel(
             "closings" if curve == "closings" else "groups" if curve == "groups" else "tasks"
         )
-        field.set_ylabel("seconds")
+        field.set_ylabel(unit)
         field.set_xlim(left=0)
         field.set_ylim(bottom=0)
         field.grid(color="#dde2e9", linewidth=0.7)
@@ -191,17 +205,21 @@ def draw(points: list[Point], path: str) -> None:
 @click.option("--data", help="A file for the measured times, as JSON.")
 @click.option("--runs", type=click.IntRange(1), default=5, help="Runs of which the least counts.")
 @click.option("--patience", default=6.0, help="Seconds after which a curve ends.")
+@click.option(
+    "--processor-time", "busy", is_flag=True, help="Time of processors, not of the clock."
+)
 def main(
-    chosen: tuple[str, ...], output: str, data: str | None, runs: int, patience: float
+    chosen: tuple[str, ...], output: str, data: str | None, runs: int, patience: float, busy: bool
 ) -> None:
     programs = dict(
         word.split("=", 1) if "=" in word else (Path(word).name, word) for word in chosen
     )
+    clock = processor_time if busy else time.perf_counter
     try:
-        points = measure(programs or {"bwe": str(find_program())}, runs, patience)
+        points = measure(programs or {"bwe": str(find_program())}, runs, patience, clock)
         if data:
             Path(data).write_text(json.dumps([asdict(point) for point in points], indent=1) + "\n")
-        draw(points, output)
+        draw(points, output, "seconds of a processor" if busy else "seconds")
     except (OSError, subprocess.CalledProcessError) as fault:
         raise ToolError(str(fault)) from None
 

@@ -9,7 +9,7 @@ from bwe_tools.document import Document
 
 
 @dataclass(frozen=True)
-class Warning:
+class Advice:
     place: tuple
     sentence: str
 
@@ -22,15 +22,24 @@ def unreported_tasks(document: Document):
                 place = ("groups", group_at, "users", user_at, "jobs", job_at, "tasks")
                 for at, task in enumerate(job.tasks):
                     if task.name not in reported:
-                        sentence = f"task \"{task.name}\" has no report, so its demand is 0 and it gets nothing"
-                        yield Warning((*place, at), sentence)
+                        sentence = (
+                            f"task \"{task.name}\" has no report, so its demand is 0 and it gets"
+                            " nothing"
+                        )
+                        yield Advice((*place, at), sentence)
 
 
 def unused_links(document: Document):
-    used = {link for group in document.groups for paths in group.paths for path in paths for link in path.links}
+    used = {
+        link
+        for group in document.groups
+        for paths in group.paths
+        for path in paths
+        for link in path.links
+    }
     for at, link in enumerate(document.links):
         if link.name not in used:
-            yield Warning(("links", at), f"link \"{link.name}\" is in no path")
+            yield Advice(("links", at), f"link \"{link.name}\" is in no path")
 
 
 def links_of(paths) -> set:
@@ -38,22 +47,33 @@ def links_of(paths) -> set:
 
 
 def path_groups(document: Document):
-    """Groups with one path group, path groups that fall together, and path groups of several paths that leave none of them."""
+    """Groups with one path group, path groups that fall together, and path groups of several paths
+    that leave none of them.
+    """
     for at, group in enumerate(document.groups):
         place, links = ("groups", at, "paths"), [links_of(paths) for paths in group.paths]
         if len(links) == 1:
-            yield Warning(place, f"group \"{group.name}\" has one path group: where a link of it closes, it gets no more")
+            yield Advice(
+                place,
+                (
+                    f"group \"{group.name}\" has one path group: where a link of it closes, it gets"
+                    " no more"
+                ),
+            )
         elif common := set.intersection(*links):
-            sentence = f"all path groups of group \"{group.name}\" fall together where {named(common)} closes"
-            yield Warning(place, sentence)
+            sentence = (
+                f"all path groups of group \"{group.name}\" fall together where"
+                f" {named(common)} closes"
+            )
+            yield Advice(place, sentence)
         for number, paths in enumerate(group.paths):
             alone = [any(other <= set(path.links) for other in links) for path in paths]
             if len(paths) > 1 and not all(alone):
                 sentence = (
-                    f"path group {number} of group \"{group.name}\" falls whole with any of its links, "
-                    f"and its path {alone.index(False)} is no path group by itself"
+                    f"path group {number} of group \"{group.name}\" falls whole with any of its"
+                    f" links, and its path {alone.index(False)} is no path group by itself"
                 )
-                yield Warning((*place, number), sentence)
+                yield Advice((*place, number), sentence)
 
 
 def named(links) -> str:
@@ -70,16 +90,27 @@ def neighbours(document: Document) -> dict:
 
 
 def is_one_slip(word: str, other: str) -> bool:
-    """Whether one letter was left out, doubled, changed or exchanged with the next one. Digits count for numbers, not slips."""
+    """Whether one letter was left out, doubled, changed or exchanged with the next one. Digits
+    count for numbers, not slips.
+    """
     if re.findall(r"\d+", word) != re.findall(r"\d+", other) or abs(len(word) - len(other)) > 1:
         return False
-    start = next((at for at, (one, two) in enumerate(zip(word, other)) if one != two), min(len(word), len(other)))
+    start = next(
+        (at for at, (one, two) in enumerate(zip(word, other)) if one != two),
+        min(len(word), len(other)),
+    )
     rest, others = word[start:], other[start:]
-    return rest[1:] in (others, others[1:]) or rest == others[1:] or rest[:2][::-1] + rest[2:] == others
+    return (
+        rest[1:] in (others, others[1:])
+        or rest == others[1:]
+        or rest[:2][::-1] + rest[2:] == others
+    )
 
 
 def misspelt_sites(document: Document):
-    """Sites whose names differ in case or separators alone, and sites at an end that are one slip away from another."""
+    """Sites whose names differ in case or separators alone, and sites at an end that are one slip
+    away from another.
+    """
     around = neighbours(document)
     sites = list(around)
     first_use = {}
@@ -94,7 +125,9 @@ def misspelt_sites(document: Document):
             if is_same or (is_end and is_one_slip(site.lower(), other.lower())):
                 wrong = few if is_end else site
                 right = other if wrong == site else site
-                yield Warning(first_use[wrong], f"site \"{wrong}\" looks like a misspelt \"{right}\"")
+                yield Advice(
+                    first_use[wrong], f"site \"{wrong}\" looks like a misspelt \"{right}\""
+                )
 
 
 def plain(site: str) -> str:

@@ -110,11 +110,7 @@ def changes_between(old: Things, new: Things) -> list[Change]:
     changes = []
     for key, said in new.items():
         if key not in old:
-            changes.append(
-                Change(
-                    "+", _name(key), [f"+ {what}: {_text(value)}" for what, value in said.items()]
-                )
-            )
+            changes.append(Change("+", _name(key), _lines({}, said)))
         elif old[key] != said:
             changes.append(Change("~", _name(key), _lines(old[key], said)))
     changes += [Change("-", _name(key), []) for key in old if key not in new]

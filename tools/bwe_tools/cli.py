@@ -11,10 +11,14 @@ from . import commands
 
 
 class CommandFolder(click.Group):
-    """Imports a command only when it is asked for, so that one tool's libraries do not slow another."""
+    """Imports a command only when it is asked for, so that one tool's libraries do not slow
+    another.
+    """
 
     def list_commands(self, context):
-        return sorted(module.name.replace("_", "-") for module in pkgutil.iter_modules(commands.__path__))
+        return sorted(
+            module.name.replace("_", "-") for module in pkgutil.iter_modules(commands.__path__)
+        )
 
     def get_command(self, context, name):
         if name not in self.list_commands(context):

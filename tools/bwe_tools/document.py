@@ -1,7 +1,7 @@
 """Reading and writing of documents ("The document", docs/FORMAT.md).
 
-`load` gives a document as dataclasses, with the JSON that it was read from in `raw`. What is no document is a ToolError:
-one sentence, status 2, no trace. `lint` is the tool that says more.
+`load` gives a document as dataclasses, with the JSON that it was read from in `raw`. What is no
+document is a ToolError: one sentence, status 2, no trace. `lint` is the tool that says more.
 """
 
 import json
@@ -114,18 +114,26 @@ class Document:
 
     def sites(self):
         """All sites in the order in which they are first named."""
-        ends = [end for thing in (*self.links, *self.groups) for end in (thing.source, thing.target)]
+        ends = [
+            end for thing in (*self.links, *self.groups) for end in (thing.source, thing.target)
+        ]
         return list(dict.fromkeys(ends))
 
     def capacities(self):
         """The capacity of each link by its name, after the whole script."""
         given = {link.name: link.capacity for link in self.links}
-        return given | {report.link: report.amount for report in self.script if report.link is not None}
+        return given | {
+            report.link: report.amount for report in self.script if report.link is not None
+        }
 
     def demands(self):
-        """The demand of each task by its name, after the whole script: 0 where nothing was reported."""
+        """The demand of each task by its name, after the whole script: 0 where nothing was
+        reported.
+        """
         nothing = {task.name: 0 for task in self.tasks()}
-        return nothing | {report.task: report.amount for report in self.script if report.task is not None}
+        return nothing | {
+            report.task: report.amount for report in self.script if report.task is not None
+        }
 
 
 def read_bytes(path):
@@ -152,7 +160,10 @@ def parse(data, path="-"):
         is_sound = False
     if not is_sound:
         fault = first_fault(raw)
-        raise ToolError(f"{path} is no document: {fault.sentence} (bwe: {fault.refusal}); `bwe-tools lint` says where")
+        raise ToolError(
+            f"{path} is no document: {fault.sentence} (bwe: {fault.refusal}); `bwe-tools lint` says"
+            " where"
+        )
     return document
 
 
@@ -168,7 +179,9 @@ def load(path):
     """The document of a file, or of standard input for `-`."""
     data = read_bytes(path)
     if len(data) > MOST_BYTES:
-        raise ToolError(f"{path} is longer than {MOST_BYTES:,} bytes, which is the most that bwe reads")
+        raise ToolError(
+            f"{path} is longer than {MOST_BYTES:,} bytes, which is the most that bwe reads"
+        )
     return parse(data, path)
 
 
@@ -181,7 +194,9 @@ def of_raw(raw):
         groups=tuple(group_of(group) for group in raw["groups"]),
         reporters=tuple(raw["reporters"]),
         script=tuple(report_of(report) for report in raw["script"]),
-        closings=tuple(Closing(closing["link"], whole(closing["share"])) for closing in raw.get("closings", [])),
+        closings=tuple(
+            Closing(closing["link"], whole(closing["share"])) for closing in raw.get("closings", [])
+        ),
         raw=raw,
     )
 
@@ -230,7 +245,9 @@ def report_of(raw):
 
 
 def dump(raw):
-    """The text of a document: a line for each link, group, reporter list and report, so that it can be read and compared."""
+    """The text of a document: a line for each link, group, reporter list and report, so that it can
+    be read and compared.
+    """
     members = []
     for key, value in raw.items():
         if isinstance(value, list) and value and isinstance(value[0], dict):

@@ -1,10 +1,13 @@
-"""A fault of a document: where it is, what it is, what was likely meant, and the line that bwe refuses it with."""
+"""A fault of a document: where it is, what it is, what was likely meant, and the line that bwe
+refuses it with.
+"""
 
 from __future__ import annotations
 
 from dataclasses import dataclass, replace
 
-# The keys of all objects in the order of the format's tables, so that each object's own keys stand in their order.
+# The keys of all objects in the order of the format's tables, so that each object's own keys stand
+# in their order.
 WALK = (
     "version top name from to function reporter weight link task demand capacity owner share "
     "links groups reporters script closings paths users jobs tasks"
@@ -13,7 +16,9 @@ WALK = (
 
 @dataclass(frozen=True)
 class Fault:
-    """`place` is the steps from the root; `key` is a key of the object there where that is at fault."""
+    """`place` is the steps from the root; `key` is a key of the object there where that is at
+    fault.
+    """
 
     place: tuple
     sentence: str
@@ -31,4 +36,7 @@ def pointer(place: tuple) -> str:
 
 def walk_order(place: tuple) -> tuple:
     """What sorts places in the order of the format's walk: an object before its members."""
-    return tuple(step if isinstance(step, int) else WALK.index(step) if step in WALK else -1 for step in place)
+    return tuple(
+        step if isinstance(step, int) else WALK.index(step) if step in WALK else -1
+        for step in place
+    )

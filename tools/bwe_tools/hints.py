@@ -19,7 +19,8 @@ def near(word: str, words) -> str | None:
 
 
 def plain_name(text: str) -> str:
-    """A text as a name of the format: accents taken off, each other sign a hyphen, at most 64 long."""
+    """A text as a name of the format: accents taken off, each other sign a hyphen, at most 64 long.
+    """
     letters = unicodedata.normalize("NFKD", text).encode("ascii", "ignore").decode()
     return re.sub(r"[^A-Za-z0-9_.]+", "-", letters).strip("-")[:64].rstrip("-") or "x"
 
@@ -31,4 +32,8 @@ def whole(value) -> str | None:
         return None if amount is None else str(amount)
     if isinstance(value, bool) or not isinstance(value, (int, float)):
         return None
-    return str(round(value)) if 0 <= value < 2**53 and getattr(value, "text", "")[:1] != "-" else None
+    return (
+        str(round(value))
+        if 0 <= value < 2**53 and getattr(value, "text", "")[:1] != "-"
+        else None
+    )

@@ -62,7 +62,9 @@ def parse(data: bytes):
         text = data.decode("utf-8")
     except UnicodeDecodeError as fault:
         before = data[: fault.start].decode("utf-8")
-        raise NotJson(f"the byte {data[fault.start]} begins no character of UTF-8", len(before)) from None
+        raise NotJson(
+            f"the byte {data[fault.start]} begins no character of UTF-8", len(before)
+        ) from None
     check_levels(text)
     try:
         value = json.loads(
@@ -82,18 +84,24 @@ def check_levels(text: str) -> None:
         if token[0] in "[{":
             levels += 1
             if levels > MOST_LEVELS:
-                raise NotJson(f"lists and objects are nested more than {MOST_LEVELS} deep", token.start())
+                raise NotJson(
+                    f"lists and objects are nested more than {MOST_LEVELS} deep", token.start()
+                )
         elif token[0] in "]}":
             levels -= 1
 
 
 def check_surrogates(text: str) -> None:
-    """Each escape of a first half of a pair has to be followed by one of a second half, and no other may be one."""
+    """Each escape of a first half of a pair has to be followed by one of a second half, and no
+    other may be one.
+    """
     is_half_open, end = False, 0
     for escape in ESCAPE.finditer(text):
         code = int(escape[1], 16) if escape[1] else 0
         is_second = 0xDC00 <= code < 0xE000
-        if is_second != (is_half_open and escape.start() == end) or (is_half_open and not is_second):
+        if is_second != (is_half_open and escape.start() == end) or (
+            is_half_open and not is_second
+        ):
             raise NotJson("half a pair of \\u escapes is no character", escape.start())
         is_half_open, end = 0xD800 <= code < 0xDC00, escape.end()
     if is_half_open:
@@ -109,7 +117,9 @@ def offset_of_number(text: str) -> int:
 
 
 def json_sentence(text: str, fault: json.JSONDecodeError) -> str:
-    """What is wrong where Python's parser stopped, in the words of somebody who writes JSON by hand."""
+    """What is wrong where Python's parser stopped, in the words of somebody who writes JSON by
+    hand.
+    """
     if not text.strip():
         return "the file is empty"
     here, before = text[fault.pos : fault.pos + 1], text[: fault.pos].rstrip()
@@ -144,7 +154,9 @@ def json_sentence(text: str, fault: json.JSONDecodeError) -> str:
 
 
 def members(text: str, at: int):
-    """The steps of the object or list that begins at an offset: the step, where its key stands, where its value stands."""
+    """The steps of the object or list that begins at an offset: the step, where its key stands,
+    where its value stands.
+    """
     decoder = json.JSONDecoder(parse_int=str, parse_float=str, strict=True)
     is_object = text[at] == "{"
     number, at = 0, SPACE.match(text, at + 1).end()
@@ -161,7 +173,9 @@ def members(text: str, at: int):
 
 
 def offset_of(text: str, place, is_key: bool = False) -> int:
-    """Where the value at a place stands, or its key. Of a key that an object repeats the last one counts."""
+    """Where the value at a place stands, or its key. Of a key that an object repeats the last one
+    counts.
+    """
     at = key_at = SPACE.match(text, 0).end()
     for step in place:
         ends = [(key, value) for found, key, value in members(text, at) if found == step]

@@ -1,4 +1,6 @@
-"""What the converters read a file into, before it is a document: sites, links and demands under the file's own names."""
+"""What the converters read a file into, before it is a document: sites, links and demands under the
+file's own names.
+"""
 
 from __future__ import annotations
 
@@ -13,7 +15,9 @@ MOST_NAME = 64
 
 @dataclass(frozen=True)
 class Line:
-    """A link of the file. Its ends are keys of sites; its capacity is in kb/s, None where the file has none."""
+    """A link of the file. Its ends are keys of sites; its capacity is in kb/s, None where the file
+    has none.
+    """
 
     source: str
     target: str
@@ -24,7 +28,9 @@ class Line:
 
 @dataclass(frozen=True)
 class Demand:
-    """What one task wants from site to site, in kb/s; users, jobs and tasks have the file's names where it gives some."""
+    """What one task wants from site to site, in kb/s; users, jobs and tasks have the file's names
+    where it gives some.
+    """
 
     source: str
     target: str
@@ -37,12 +43,16 @@ class Demand:
 
 @dataclass
 class Network:
-    """Sites by key with what people call them. Where `is_directed`, a line goes one way, and its reverse may be a line too."""
+    """Sites by key with what people call them. Where `is_directed`, a line goes one way, and its
+    reverse may be a line too.
+    """
 
     sites: dict = field(default_factory=dict)
     lines: list = field(default_factory=list)
     demands: list = field(default_factory=list)
-    places: dict = field(default_factory=dict)  # longitude and latitude by key, where the file has them
+    places: dict = field(
+        default_factory=dict
+    )  # longitude and latitude by key, where the file has them
     is_directed: bool = True
 
     def site(self, text: str, where: str) -> str:
@@ -53,13 +63,18 @@ class Network:
         if len(keys) == 1:
             return keys[0]
         if keys:
-            raise ToolError(f"{where}: {len(keys)} sites are called \"{text}\"; name one by its key, as {keys[0]}")
+            raise ToolError(
+                f"{where}: {len(keys)} sites are called \"{text}\"; name one by its key, as"
+                f" {keys[0]}"
+            )
         meant = hints.near(text, [*self.sites, *self.sites.values()])
         hint = f"; did you mean \"{meant}\"?" if meant else ""
         raise ToolError(f"{where}: there is no site \"{text}\" in the network{hint}")
 
     def length(self, line: Line) -> float | None:
-        """The length of a line in the file's own unit, else in kilometres over the ground where both ends have a place."""
+        """The length of a line in the file's own unit, else in kilometres over the ground where
+        both ends have a place.
+        """
         if line.length is not None:
             return line.length
         if line.source in self.places and line.target in self.places:
@@ -68,7 +83,9 @@ class Network:
 
 
 def kilometres(place, other) -> float:
-    """The great circle between two places of longitude and latitude in degrees, on a sphere of radius 6,371 km."""
+    """The great circle between two places of longitude and latitude in degrees, on a sphere of
+    radius 6,371 km.
+    """
     (east0, north0), (east1, north1) = (map(math.radians, degrees) for degrees in (place, other))
     half = (
         math.sin((north1 - north0) / 2) ** 2
@@ -81,15 +98,16 @@ class Namer:
     """Gives texts names of the format, one to one, and keeps the map of names to texts."""
 
     def __init__(self):
-        self.texts = {}
+        self.texts, self.numbers = {}, {}
 
     def name(self, text: str, original: str | None = None) -> str:
         """A name that no other text has: the text itself where it is free and a name."""
         plain = text if hints.NAME.match(text) else hints.plain_name(text)
-        name, number = plain, 1
+        name, number = plain, self.numbers.get(plain, 1)
         while name in self.texts:
             number += 1
             name = plain[: MOST_NAME - 1 - len(str(number))] + f"-{number}"
+        self.numbers[plain] = number
         self.texts[name] = original if original is not None else text
         return name
 

@@ -11,10 +11,14 @@ MOST_LOOKS = 64
 
 
 class Routes:
-    """Paths over directed links. A link is a node between its two sites, so parallel links give paths of their own."""
+    """Paths over directed links. A link is a node between its two sites, so parallel links give
+    paths of their own.
+    """
 
     def __init__(self, links, lengths=None):
-        """`links` are pairs of a name and its two ends; `lengths` the lengths by name, None for paths of fewest links."""
+        """`links` are pairs of a name and its two ends; `lengths` the lengths by name, None for
+        paths of fewest links.
+        """
         self.graph = networkx.DiGraph()
         for name, source, target in links:
             length = lengths[name] if lengths else 1
@@ -25,12 +29,15 @@ class Routes:
     def between(self, source, target, most: int) -> list:
         """At most `most` paths, the shortest first, each a list of link names of at most 32.
 
-        Where one link is on all of them, the last one is the shortest of those that meet the fewest such links.
+        Where one link is on all of them, the last one is the shortest of those that meet the fewest
+        such links.
         """
         ends = ("site", source), ("site", target)
         try:
-            ways = networkx.shortest_simple_paths(self.graph, *ends, self.length)
-            found = [way for way in islice(map(link_names, ways), MOST_LOOKS) if len(way) <= MOST_LINKS][:most]
+            ways = map(link_names, networkx.shortest_simple_paths(self.graph, *ends, self.length))
+            found = list(
+                islice((way for way in islice(ways, MOST_LOOKS) if len(way) <= MOST_LINKS), most)
+            )
         except (networkx.NetworkXNoPath, networkx.NodeNotFound):
             return []
         if most == 1 or not common_links(found):

@@ -1,4 +1,6 @@
-"""Rows of spreadsheets: tables of links and of demands with a header line, separated by commas, semicolons or tabs."""
+"""Rows of spreadsheets: tables of links and of demands with a header line, separated by commas,
+semicolons or tabs.
+"""
 
 from __future__ import annotations
 
@@ -10,15 +12,28 @@ from bwe_tools.document import ToolError, read_bytes
 from bwe_tools.network import Demand, Network, rate
 
 OTHER_NAMES = {
-    "source": "from", "src": "from", "origin": "from", "a": "from",
-    "target": "to", "dst": "to", "destination": "to", "b": "to",
-    "bandwidth": "capacity", "speed": "capacity", "rate": "demand", "traffic": "demand",
-    "link": "name", "distance": "length", "km": "length",
+    "source": "from",
+    "src": "from",
+    "origin": "from",
+    "a": "from",
+    "target": "to",
+    "dst": "to",
+    "destination": "to",
+    "b": "to",
+    "bandwidth": "capacity",
+    "speed": "capacity",
+    "rate": "demand",
+    "traffic": "demand",
+    "link": "name",
+    "distance": "length",
+    "km": "length",
 }
 
 
 def rows(path: str, needed: tuple, known: tuple):
-    """The rows of a file, each with what to call it in sentences, under the names of `known` columns."""
+    """The rows of a file, each with what to call it in sentences, under the names of `known`
+    columns.
+    """
     try:
         text = read_bytes(path).decode("utf-8-sig")
     except UnicodeDecodeError:
@@ -30,7 +45,9 @@ def rows(path: str, needed: tuple, known: tuple):
     try:
         for cells in reader:
             if any(cell.strip() for cell in cells):
-                yield f"{path} line {reader.line_num}", named_cells(path, reader.line_num, header, cells)
+                yield f"{path} line {reader.line_num}", named_cells(
+                    path, reader.line_num, header, cells
+                )
     except csv.Error as fault:
         raise ToolError(f"{path} line {reader.line_num}: {fault}") from None
 
@@ -53,7 +70,9 @@ def columns(path, names, needed, known):
 
 def named_cells(path, line, header, cells):
     if len(cells) > len(header):
-        raise ToolError(f"{path} line {line}: {len(cells)} cells are more than the header's {len(header)}")
+        raise ToolError(
+            f"{path} line {line}: {len(cells)} cells are more than the header's {len(header)}"
+        )
     return {name: cell.strip() for name, cell in zip(header, cells) if cell.strip()}
 
 
@@ -72,7 +91,9 @@ def read_demands(path: str, network: Network, plain: str) -> list:
         if source == target:
             raise ToolError(f"{where}: a demand goes from \"{row['from']}\" to itself")
         weight = row.get("weight", "1")
-        if not (weight.isascii() and weight.isdigit() and len(weight) < 5 and 1 <= int(weight) <= 1000):
+        if not (
+            weight.isascii() and weight.isdigit() and len(weight) < 5 and 1 <= int(weight) <= 1000
+        ):
             raise ToolError(f"{where}: the weight \"{weight}\" is no whole number from 1 to 1,000")
         amount = rate(cell(row, "demand", where), where, plain)
         names = (row.get("user", "all"), row.get("job", "all"), row.get("task"))

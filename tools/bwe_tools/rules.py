@@ -1,4 +1,6 @@
-"""The rules of a document beyond its shape ("Refusals", docs/FORMAT.md), in the order in which bwe looks at them."""
+"""The rules of a document beyond its shape ("Refusals", docs/FORMAT.md), in the order in which bwe
+looks at them.
+"""
 
 from __future__ import annotations
 
@@ -18,7 +20,9 @@ MOST_PATHS, MOST_PATH_LINKS, MOST_WEIGHT = 16, 32, 1_000
 
 @dataclass(frozen=True)
 class Value:
-    """A name or number that refusals 4 to 6 look at. `scope` is where a new name has to be new, `kind` what it names."""
+    """A name or number that refusals 4 to 6 look at. `scope` is where a new name has to be new,
+    `kind` what it names.
+    """
 
     place: tuple
     value: Any
@@ -104,7 +108,9 @@ def own_function(place, node):
 
 
 def hops(raw):
-    return sum(len(path["links"]) for group in raw["groups"] for paths in group["paths"] for path in paths)
+    return sum(
+        len(path["links"]) for group in raw["groups"] for paths in group["paths"] for path in paths
+    )
 
 
 def tasks(raw):
@@ -116,6 +122,7 @@ def tasks(raw):
 
 
 # ---- refusals 3 to 11, each the first of its number or None
+
 
 def limit(raw):
     long = next((found for found in functions(raw) if len(found[1]) > MOST_POINTS), None)
@@ -129,8 +136,14 @@ def limit(raw):
     ]
     for what, place, count, most in counts:
         if count > most:
-            noun = {"script": "reports", "hops": "links over all paths", "points": "points in one function"}.get(what, what)
-            return Fault(place, f"{count:,} {noun} are more than {most:,}").refused(f"3 limit {what} {count}")
+            noun = {
+                "script": "reports",
+                "hops": "links over all paths",
+                "points": "points in one function",
+            }.get(what, what)
+            return Fault(place, f"{count:,} {noun} are more than {most:,}").refused(
+                f"3 limit {what} {count}"
+            )
     return None
 
 
@@ -139,11 +152,19 @@ def out_of_range(raw):
         line = f"4 range at {pointer(found.place)}"
         if found.kind == "number":
             if not found.least <= found.value <= found.most:
-                sentence = f"\"{found.place[-1]}\" is {found.value}, and has to be from {found.least} to {found.most:,}"
+                sentence = (
+                    f"\"{found.place[-1]}\" is {found.value}, and has to be from {found.least} to"
+                    f" {found.most:,}"
+                )
                 return Fault(found.place, sentence).refused(line)
         elif not hints.NAME.match(found.value):
-            sentence = f"\"{shortened(found.value)}\" is no name: those are 1 to 64 of letters, digits, - _ and ."
-            return Fault(found.place, sentence, f"\"{hints.plain_name(found.value)}\"").refused(line)
+            sentence = (
+                f"\"{shortened(found.value)}\" is no name: those are 1 to 64 of letters, digits, -"
+                " _ and ."
+            )
+            return Fault(found.place, sentence, f"\"{hints.plain_name(found.value)}\"").refused(
+                line
+            )
     return None
 
 
@@ -155,7 +176,9 @@ def repeated_name(raw):
         first = seen.setdefault((found.scope, found.value), found.place)
         if first != found.place:
             sentence = f"{found.kind} \"{found.value}\" stands before, at {pointer(first)}"
-            return Fault(found.place, sentence).refused(f"5 repeated name at {pointer(found.place)}")
+            return Fault(found.place, sentence).refused(
+                f"5 repeated name at {pointer(found.place)}"
+            )
     return None
 
 
@@ -169,7 +192,9 @@ def unknown_name(raw):
         if found.scope is None and found.kind in known and found.value not in known[found.kind]:
             meant = hints.near(found.value, known[found.kind])
             sentence = f"there is no {found.kind} \"{found.value}\""
-            return Fault(found.place, sentence, meant and f"\"{meant}\"").refused(f"6 unknown name at {pointer(found.place)}")
+            return Fault(found.place, sentence, meant and f"\"{meant}\"").refused(
+                f"6 unknown name at {pointer(found.place)}"
+            )
     return None
 
 
@@ -179,7 +204,9 @@ def bad_function(raw):
         if found is not None:
             point, cause, sentence = found
             where = (*place, point) if points else place
-            return Fault(where, sentence).refused(f"7 function at {pointer(place)} cause {cause} point {point}")
+            return Fault(where, sentence).refused(
+                f"7 function at {pointer(place)} cause {cause} point {point}"
+            )
     return None
 
 
@@ -211,7 +238,9 @@ def bad_topology(raw):
             return Fault(("links", at, "to"), sentence).refused(f"8 topology cause 3 link {at}")
         if link["capacity"] > units.MOST:
             sentence = f"the capacity {link['capacity']} is above {units.MOST:,} kb/s"
-            return Fault(("links", at, "capacity"), sentence).refused(f"8 topology cause 4 link {at}")
+            return Fault(("links", at, "capacity"), sentence).refused(
+                f"8 topology cause 4 link {at}"
+            )
     return None
 
 
@@ -228,7 +257,8 @@ def bad_path(raw):
 
 
 def bad_path_of_group(group, ends):
-    """The first path at fault: cause, place, path, the steps from `paths`, a sentence and a hint."""
+    """The first path at fault: cause, place, path, the steps from `paths`, a sentence and a hint.
+    """
     if len(group["paths"]) > MOST_PATHS:
         return 1, 0, 0, (), f"{len(group['paths'])} path groups are more than {MOST_PATHS}", None
     if not group["paths"]:
@@ -237,7 +267,14 @@ def bad_path_of_group(group, ends):
         if not paths:
             return 2, at, 0, (at,), "this path group has no path", None
         if len(paths) > MOST_PATHS:
-            return 3, at, 0, (at,), f"{len(paths)} paths in one path group are more than {MOST_PATHS}", None
+            return (
+                3,
+                at,
+                0,
+                (at,),
+                f"{len(paths)} paths in one path group are more than {MOST_PATHS}",
+                None,
+            )
         for path_at, path in enumerate(paths):
             found = bad_links(group, path, ends)
             if found is not None:
@@ -264,14 +301,22 @@ def bad_links(group, path, ends):
         site = target
     if site != group["to"]:
         sentence = f"the path ends at {site}, and group \"{group['name']}\" goes to {group['to']}"
-        return 6, ("links", len(links) - 1), sentence, link_from(ends[links[-1]][0], group["to"], site, ends)
+        return (
+            6,
+            ("links", len(links) - 1),
+            sentence,
+            link_from(ends[links[-1]][0], group["to"], site, ends),
+        )
     twice = [link for link, count in Counter(links).items() if count > 1]
     return (7, ("links",), f"link \"{twice[0]}\" stands twice in a path", None) if twice else None
 
 
 def link_from(site, target, other, ends):
-    """A link that would go on from a site: to the target, or to the other site, where there is one."""
-    found = [name for wanted in (target, other) for name, of in ends.items() if of == (site, wanted)]
+    """A link that would go on from a site: to the target, or to the other site, where there is one.
+    """
+    found = [
+        name for wanted in (target, other) for name, of in ends.items() if of == (site, wanted)
+    ]
     return f"\"{found[0]}\"" if found else None
 
 
@@ -282,7 +327,9 @@ def bad_tree(raw):
         for user_at, user in enumerate(group["users"]):
             place = ("groups", at, "users", user_at, "jobs")
             nodes.append((place, user["jobs"]))
-            nodes += [((*place, job_at, "tasks"), job["tasks"]) for job_at, job in enumerate(user["jobs"])]
+            nodes += [
+                ((*place, job_at, "tasks"), job["tasks"]) for job_at, job in enumerate(user["jobs"])
+            ]
         for place, children in nodes:
             if not children:
                 sentence = f"the list \"{place[-1]}\" is empty, and has to have at least one entry"
@@ -290,7 +337,9 @@ def bad_tree(raw):
             number += 1
     count = sum(1 for _ in tasks(raw))
     if count > MOST_TASKS:
-        return Fault(("groups",), f"{count:,} tasks are more than {MOST_TASKS:,}").refused("10 tree cause 2 node 0")
+        return Fault(("groups",), f"{count:,} tasks are more than {MOST_TASKS:,}").refused(
+            "10 tree cause 2 node 0"
+        )
     return None
 
 
@@ -304,7 +353,10 @@ def not_owner(raw):
         owner = owners[thing][report[thing]]
         if owner != report["reporter"]:
             of = f"owned by \"{owner}\"" if owner else "without an owner"
-            sentence = f"{thing} \"{report[thing]}\" is {of}, and \"{report['reporter']}\" may not report it"
+            sentence = (
+                f"{thing} \"{report[thing]}\" is {of}, and \"{report['reporter']}\" may not"
+                " report it"
+            )
             fault = Fault(("script", at, "reporter"), sentence, owner and f"\"{owner}\"")
             return fault.refused(f"11 not owner at entry {at}")
     return None
@@ -312,5 +364,15 @@ def not_owner(raw):
 
 def first_fault(raw) -> Fault | None:
     """The first fault of a document that has its shape."""
-    passes = (limit, out_of_range, repeated_name, unknown_name, bad_function, bad_topology, bad_path, bad_tree, not_owner)
+    passes = (
+        limit,
+        out_of_range,
+        repeated_name,
+        unknown_name,
+        bad_function,
+        bad_topology,
+        bad_path,
+        bad_tree,
+        not_owner,
+    )
     return next((fault for fault in (look(raw) for look in passes) if fault is not None), None)

@@ -15,12 +15,19 @@ from bwe_tools.json_text import shortened
 SCHEMA = Path(__file__).resolve().parents[2] / "docs" / "bwe.schema.json"
 KINDS = {"integer": "a whole number", "string": "a text", "array": "a list", "object": "an object"}
 FUNCTION_KEYS = ("function", "task")
-NEWER = {"owner": "versions 2 and 3", "weight": "version 3", "link": "versions 2 and 3", "capacity": "versions 2 and 3"}
+NEWER = {
+    "owner": "versions 2 and 3",
+    "weight": "version 3",
+    "link": "versions 2 and 3",
+    "capacity": "versions 2 and 3",
+}
 
 
 @lru_cache(maxsize=None)
 def validator():
-    """The schema's validator, for which a whole number is what the format calls so: 1.0 and true are none."""
+    """The schema's validator, for which a whole number is what the format calls so: 1.0 and true
+    are none.
+    """
     kinds = jsonschema.Draft202012Validator.TYPE_CHECKER.redefine(
         "integer", lambda _, value: isinstance(value, int) and not isinstance(value, bool)
     )
@@ -30,12 +37,18 @@ def validator():
 
 
 def inlined(schema, definitions: dict):
-    """A schema with each reference replaced by what it names, for a long document much the quicker one to check."""
+    """A schema with each reference replaced by what it names, for a long document much the quicker
+    one to check.
+    """
     if isinstance(schema, list):
         return [inlined(part, definitions) for part in schema]
     if not isinstance(schema, dict):
         return schema
-    parts = {key: inlined(value, definitions) for key, value in schema.items() if key not in ("$ref", "description")}
+    parts = {
+        key: inlined(value, definitions)
+        for key, value in schema.items()
+        if key not in ("$ref", "description")
+    }
     if "$ref" in schema:
         return inlined(definitions[schema["$ref"].rsplit("/", 1)[1]], definitions) | parts
     return parts
@@ -51,23 +64,34 @@ def point_place(place: tuple) -> tuple | None:
 
 
 def fault_of(error) -> Fault | None:
-    """The fault of shape that an error of the schema is; None where it is of another rule, as a range."""
+    """The fault of shape that an error of the schema is; None where it is of another rule, as a
+    range.
+    """
     place, value = tuple(error.absolute_path), error.instance
     point = point_place(place)
-    if point is not None and (error.validator == "type" or (place == point and error.validator in ("minItems", "maxItems"))):
-        return Fault(point, "a point of a function is a list of two whole numbers, share and amount")
+    if point is not None and (
+        error.validator == "type"
+        or (place == point and error.validator in ("minItems", "maxItems"))
+    ):
+        return Fault(
+            point, "a point of a function is a list of two whole numbers, share and amount"
+        )
     if error.validator == "type":
         return kind_fault(place, value, error.validator_value)
     if error.validator == "required":
         missing = next(key for key in error.validator_value if key not in value)
-        return Fault(place, f"the key \"{missing}\" is missing", missing_hint(missing, value, error.schema))
+        return Fault(
+            place, f"the key \"{missing}\" is missing", missing_hint(missing, value, error.schema)
+        )
     if error.validator == "additionalProperties":
         known = error.schema["properties"]
         extra = next(key for key in value if key not in known)
         return Fault(place, unknown_key(extra, place), key_hint(extra, value, known), key=extra)
     if error.validator is None:
         sentence = f"the key \"{place[-1]}\" is of {NEWER[place[-1]]} alone"
-        return Fault(place[:-1], sentence, f"\"version\":{3 if place[-1] == 'weight' else 2}", key=place[-1])
+        return Fault(
+            place[:-1], sentence, f"\"version\":{3 if place[-1] == 'weight' else 2}", key=place[-1]
+        )
     return None
 
 
@@ -79,7 +103,11 @@ def kind_fault(place: tuple, value, kind: str) -> Fault:
         return Fault(place, sentence, hints.whole(value))
     if kind == "array" and isinstance(value, (dict, str)) and value:
         return Fault(place, sentence, f"[{shortened(written)}]")
-    return Fault(place, sentence, json.dumps(str(value)) if kind == "string" and isinstance(value, int) else None)
+    return Fault(
+        place,
+        sentence,
+        json.dumps(str(value)) if kind == "string" and isinstance(value, int) else None,
+    )
 
 
 def unknown_key(key: str, place: tuple) -> str:

@@ -1,4 +1,6 @@
-"""lint says what bwe refuses, at the same place and with the same line; and it warns of what bwe accepts."""
+"""lint says what bwe refuses, at the same place and with the same line; and it warns of what bwe
+accepts.
+"""
 
 import copy
 import json
@@ -20,7 +22,9 @@ REFUSED = re.compile(r"^\S*?(:(\d+):(\d+))?: fault: (.*) \(bwe: (refused .*)\)$"
 
 def solve_cases():
     """The folders of the whole cases of the line solve."""
-    return sorted(args.parent for args in CASES.rglob("args") if args.read_text().split() == ["solve"])
+    return sorted(
+        args.parent for args in CASES.rglob("args") if args.read_text().split() == ["solve"]
+    )
 
 
 def stream(folder, name):
@@ -63,14 +67,54 @@ def test_the_schema_refuses_no_document_that_bwe_accepts(folder):
 
 # ---- documents changed by chance, against the program
 
-VALUES = [0, 1, -1, 1.5, "x", "", "a b", True, None, [], {}, [[0, 0]], [[0, 1]], [[0, 0], [5, 5]], 10**12 + 1, 2**64,
-          1001, "fra", "fra-par", "noc", "batch", [["x"]], [1, 2], 3, 2]
-KEYS = ["weight", "owner", "function", "link", "capacity", "closings", "task", "demand", "name", "other"]
+VALUES = [
+    0,
+    1,
+    -1,
+    1.5,
+    "x",
+    "",
+    "a b",
+    True,
+    None,
+    [],
+    {},
+    [[0, 0]],
+    [[0, 1]],
+    [[0, 0], [5, 5]],
+    10**12 + 1,
+    2**64,
+    1001,
+    "fra",
+    "fra-par",
+    "noc",
+    "batch",
+    [["x"]],
+    [1, 2],
+    3,
+    2,
+]
+KEYS = [
+    "weight",
+    "owner",
+    "function",
+    "link",
+    "capacity",
+    "closings",
+    "task",
+    "demand",
+    "name",
+    "other",
+]
 
 
 def places(value, place=()):
     yield place
-    members = value.items() if isinstance(value, dict) else enumerate(value) if isinstance(value, list) else ()
+    members = (
+        value.items()
+        if isinstance(value, dict)
+        else enumerate(value) if isinstance(value, list) else ()
+    )
     for step, member in members:
         yield from places(member, (*place, step))
 
@@ -82,7 +126,8 @@ def at(value, place):
 
 
 def change(value, chance):
-    """Changes one place: it goes, is another value, stands twice, or its object has one key more."""
+    """Changes one place: it goes, is another value, stands twice, or its object has one key more.
+    """
     *before, step = chance.choice([place for place in places(value) if place])
     parent, kind = at(value, before), chance.random()
     if kind < 0.2:
@@ -126,32 +171,71 @@ def test_changed_documents_are_judged_as_bwe_does(seed):
 DOCUMENT = """{"version":3,"top":1000,
  "links":[{"name":"fra-ams","from":"fra","to":"ams","capacity":40000000,"owner":"noc"}],
  "groups":[{"name":"g","from":"fra","to":"ams","paths":[[{"weight":1,"links":["fra-ams"]}]],
-   "users":[{"name":"u","jobs":[{"name":"j","task":[[0,0],[1000,5000000]],"tasks":[{"name":"t","reporter":"hosts"}]}]}]}],
+   "users":[{"name":"u","jobs":[{"name":"j","task":[[0,0],[1000,5000000]],
+      "tasks":[{"name":"t","reporter":"hosts"}]}]}]}],
  "reporters":["hosts","noc"],
  "script":[{"reporter":"hosts","task":"t","demand":5000000}]}
 """
 
 
-@pytest.mark.parametrize("old, new, there, sentence", [
-    ("40000000", '"40G"', '"40G"', "did you mean 40000000?"),
-    ("40000000", "4e7", "4e7", "4e7, and has to be a whole number; did you mean 40000000?"),
-    ("40000000", "40000000.0", "40000000.0", "did you mean 40000000?"),
-    ('"demand":5000000', '"demand":"5 Gbit/s"', '"5 Gbit/s"', "did you mean 5000000?"),
-    ('"capacity"', '"capacty"', '{"name":"fra-ams"', 'the key "capacity" is missing; did you mean "capacity" for "capacty"?'),
-    ('"owner"', '"ownr"', '"ownr"', 'the key "ownr" is none of /links/0; did you mean "owner"?'),
-    ('["fra-ams"]', '["fra-asm"]', '"fra-asm"', 'there is no link "fra-asm"; did you mean "fra-ams"?'),
-    ('"reporter":"hosts","task"', '"reporter":"host","task"', '"host"', 'did you mean "hosts"?'),
-    ('"name":"fra-ams"', '"name":"fra ams"', '"fra ams"', 'is no name: those are 1 to 64 of letters, digits, - _ and .; did you mean "fra-ams"?'),
-    ('"version":3', '"version":1', '"owner"', 'the key "owner" is of versions 2 and 3 alone; did you mean "version":2?'),
-    ('"reporter":"hosts","task"', '"reporter":"noc","task"', '"noc"', 'owned by "hosts", and "noc" may not report it; did you mean "hosts"?'),
-    ("5000000}]}", "5000000},]}", "]}", "a comma stands before the closing ]; leave it out"),
-    ('"noc"],', '"noc"]', '"script"', "a comma is missing before this"),
-    ('"top":1000', "'top':1000", "'top'", "texts stand between double quotes"),
-    ('"top":1000', '"top":NaN', "NaN", "NaN is no number of JSON"),
-    ('"top":1000', '"top":1000 // share', "// share", "JSON has no comments"),
-    ('"top":1000', '"top":01000', "1000", "a number has no leading zero in JSON"),
-    ("5000000}]}", "5000000}]", "", "the text ends before the document does"),
-])
+@pytest.mark.parametrize(
+    "old, new, there, sentence",
+    [
+        ("40000000", '"40G"', '"40G"', "did you mean 40000000?"),
+        ("40000000", "4e7", "4e7", "4e7, and has to be a whole number; did you mean 40000000?"),
+        ("40000000", "40000000.0", "40000000.0", "did you mean 40000000?"),
+        ('"demand":5000000', '"demand":"5 Gbit/s"', '"5 Gbit/s"', "did you mean 5000000?"),
+        (
+            '"capacity"',
+            '"capacty"',
+            '{"name":"fra-ams"',
+            'the key "capacity" is missing; did you mean "capacity" for "capacty"?',
+        ),
+        (
+            '"owner"',
+            '"ownr"',
+            '"ownr"',
+            'the key "ownr" is none of /links/0; did you mean "owner"?',
+        ),
+        (
+            '["fra-ams"]',
+            '["fra-asm"]',
+            '"fra-asm"',
+            'there is no link "fra-asm"; did you mean "fra-ams"?',
+        ),
+        (
+            '"reporter":"hosts","task"',
+            '"reporter":"host","task"',
+            '"host"',
+            'did you mean "hosts"?',
+        ),
+        (
+            '"name":"fra-ams"',
+            '"name":"fra ams"',
+            '"fra ams"',
+            'is no name: those are 1 to 64 of letters, digits, - _ and .; did you mean "fra-ams"?',
+        ),
+        (
+            '"version":3',
+            '"version":1',
+            '"owner"',
+            'the key "owner" is of versions 2 and 3 alone; did you mean "version":2?',
+        ),
+        (
+            '"reporter":"hosts","task"',
+            '"reporter":"noc","task"',
+            '"noc"',
+            'owned by "hosts", and "noc" may not report it; did you mean "hosts"?',
+        ),
+        ("5000000}]}", "5000000},]}", "]}", "a comma stands before the closing ]; leave it out"),
+        ('"noc"],', '"noc"]', '"script"', "a comma is missing before this"),
+        ('"top":1000', "'top':1000", "'top'", "texts stand between double quotes"),
+        ('"top":1000', '"top":NaN', "NaN", "NaN is no number of JSON"),
+        ('"top":1000', '"top":1000 // share', "// share", "JSON has no comments"),
+        ('"top":1000', '"top":01000', "1000", "a number has no leading zero in JSON"),
+        ("5000000}]}", "5000000}]", "", "the text ends before the document does"),
+    ],
+)
 def test_a_fault_is_told_where_it_is_with_what_was_meant(old, new, there, sentence):
     assert DOCUMENT.count(old) == 1
     text = DOCUMENT.replace(old, new)
@@ -162,10 +246,17 @@ def test_a_fault_is_told_where_it_is_with_what_was_meant(old, new, there, senten
     assert text.split("\n")[line - 1][column - 1 :].startswith(there)
 
 
-@pytest.mark.parametrize("source, target, sentence", [
-    ("ams", "fra", 'link "back" begins at ams, and the path has come to fra; did you mean "fra-ams"?'),
-    ("fra", "par", 'the path ends at par, and group "g" goes to ams; did you mean "fra-ams"?'),
-])
+@pytest.mark.parametrize(
+    "source, target, sentence",
+    [
+        (
+            "ams",
+            "fra",
+            'link "back" begins at ams, and the path has come to fra; did you mean "fra-ams"?',
+        ),
+        ("fra", "par", 'the path ends at par, and group "g" goes to ams; did you mean "fra-ams"?'),
+    ],
+)
 def test_a_path_that_is_no_chain_is_told_where_it_breaks(source, target, sentence):
     back = f'"links":[{{"name":"back","from":"{source}","to":"{target}","capacity":1}},'
     text = DOCUMENT.replace('"links":[{"name"', back + '{"name"').replace('["fra-ams"]', '["back"]')
@@ -173,6 +264,7 @@ def test_a_path_that_is_no_chain_is_told_where_it_breaks(source, target, sentenc
 
 
 # ---- warnings
+
 
 def warned(text):
     answer = run("lint", given=text.encode())
@@ -186,73 +278,128 @@ def test_nothing_is_said_of_a_document_that_has_nothing():
 
 
 def test_a_group_with_one_path_group_is_warned_of():
-    assert warned(DOCUMENT) == ['group "g" has one path group: where a link of it closes, it gets no more']
+    assert warned(DOCUMENT) == [
+        'group "g" has one path group: where a link of it closes, it gets no more'
+    ]
 
 
 def test_tasks_without_a_report_and_links_without_a_path_are_warned_of():
     silent = DOCUMENT.replace('{"reporter":"hosts","task":"t","demand":5000000}', "")
     assert 'task "t" has no report, so its demand is 0 and it gets nothing' in warned(silent)
-    more = DOCUMENT.replace('"links":[{"name"', '"links":[{"name":"spare","from":"fra","to":"ams","capacity":1},{"name"')
+    more = DOCUMENT.replace(
+        '"links":[{"name"', '"links":[{"name":"spare","from":"fra","to":"ams","capacity":1},{"name"'
+    )
     assert 'link "spare" is in no path' in warned(more)
 
 
 def test_path_groups_that_fall_together_are_warned_of():
-    assert any("falls whole with any of its links" in line for line in warned(
-        (EXAMPLES / "maintenance-without-fallback.json").read_text()))
-    more = DOCUMENT.replace('"links":[{"name"', '"links":[{"name":"par-ams","from":"par","to":"ams","capacity":1},'
-                            '{"name":"fra-par","from":"fra","to":"par","capacity":1},'
-                            '{"name":"fra-par-2","from":"fra","to":"par","capacity":1},{"name"')
-    two = more.replace('[[{"weight":1,"links":["fra-ams"]}]]', '[[{"weight":1,"links":["fra-par","par-ams"]}],'
-                       '[{"weight":1,"links":["fra-par-2","par-ams"]}]]')
+    assert any(
+        "falls whole with any of its links" in line
+        for line in warned((EXAMPLES / "maintenance-without-fallback.json").read_text())
+    )
+    more = DOCUMENT.replace(
+        '"links":[{"name"',
+        (
+            '"links":[{"name":"par-ams","from":"par","to":"ams","capacity":1},'
+            '{"name":"fra-par","from":"fra","to":"par","capacity":1},'
+            '{"name":"fra-par-2","from":"fra","to":"par","capacity":1},{"name"'
+        ),
+    )
+    two = more.replace(
+        '[[{"weight":1,"links":["fra-ams"]}]]',
+        (
+            '[[{"weight":1,"links":["fra-par","par-ams"]}],'
+            '[{"weight":1,"links":["fra-par-2","par-ams"]}]]'
+        ),
+    )
     assert 'all path groups of group "g" fall together where link "par-ams" closes' in warned(two)
 
 
-@pytest.mark.parametrize("site, is_slip", [("Ams", True), ("AMS", True), ("a.ms", True), ("lon", False), ("ams2", False)])
+@pytest.mark.parametrize(
+    "site, is_slip", [("Ams", True), ("AMS", True), ("a.ms", True), ("lon", False), ("ams2", False)]
+)
 def test_sites_that_differ_in_case_or_separators_are_warned_of(site, is_slip):
-    more = DOCUMENT.replace('"links":[{"name"', f'"links":[{{"name":"more","from":"par","to":"{site}","capacity":1}},{{"name"')
+    more = DOCUMENT.replace(
+        '"links":[{"name"',
+        f'"links":[{{"name":"more","from":"par","to":"{site}","capacity":1}},{{"name"',
+    )
     assert any("looks like a misspelt" in line for line in warned(more)) == is_slip
 
 
-@pytest.mark.parametrize("site, is_slip", [
-    ("frankfrt", True), ("frankfurrt", True), ("franfkurt", True), ("frankfart", True), ("frankfurt2", False), ("frank", False)])
+@pytest.mark.parametrize(
+    "site, is_slip",
+    [
+        ("frankfrt", True),
+        ("frankfurrt", True),
+        ("franfkurt", True),
+        ("frankfart", True),
+        ("frankfurt2", False),
+        ("frank", False),
+    ],
+)
 def test_a_site_at_an_end_that_is_one_slip_from_another_is_warned_of(site, is_slip):
     text = DOCUMENT.replace('"fra"', '"frankfurt"')
-    more = text.replace('"links":[{"name"', '"links":[{"name":"a","from":"frankfurt","to":"par","capacity":1},'
-                        f'{{"name":"b","from":"par","to":"{site}","capacity":1}},{{"name"')
-    assert any(f'site "{site}" looks like a misspelt "frankfurt"' in line for line in warned(more)) == is_slip
+    more = text.replace(
+        '"links":[{"name"',
+        (
+            '"links":[{"name":"a","from":"frankfurt","to":"par","capacity":1},'
+            f'{{"name":"b","from":"par","to":"{site}","capacity":1}},{{"name"'
+        ),
+    )
+    assert (
+        any(f'site "{site}" looks like a misspelt "frankfurt"' in line for line in warned(more))
+        == is_slip
+    )
 
 
 def test_many_warnings_of_a_kind_are_cut_unless_all_are_wanted():
     tasks = ",".join(f'{{"name":"t{number}","reporter":"hosts"}}' for number in range(9))
-    text = DOCUMENT.replace('{"name":"t","reporter":"hosts"}', '{"name":"t","reporter":"hosts"},' + tasks)
+    text = DOCUMENT.replace(
+        '{"name":"t","reporter":"hosts"}', '{"name":"t","reporter":"hosts"},' + tasks
+    )
     assert warned(text)[5] == "and 4 more of this kind; --all prints them"
     assert run("lint", "--all", given=text.encode()).out.count("has no report") == 9
 
 
 # ---- input that cannot be read
 
-@pytest.mark.parametrize("data, sentence", [
-    (b"", "the file is empty"),
-    (b"<graphml/>", "this is XML and not JSON"),
-    (b'{"a":"\xff"}', "the byte 255 begins no character of UTF-8"),
-    (b'\xef\xbb\xbf{}', "byte order mark"),
-    (b'"\\ud800"', "half a pair of \\u escapes is no character"),
-    (b"[" * 100_000, "nested more than 127 deep"),
-    (b"9" * 10_000, "is too great for JSON"),
-])
+
+@pytest.mark.parametrize(
+    "data, sentence",
+    [
+        (b"", "the file is empty"),
+        (b"<graphml/>", "this is XML and not JSON"),
+        (b'{"a":"\xff"}', "the byte 255 begins no character of UTF-8"),
+        (b'\xef\xbb\xbf{}', "byte order mark"),
+        (b'"\\ud800"', "half a pair of \\u escapes is no character"),
+        (b"[" * 100_000, "nested more than 127 deep"),
+        (b"9" * 10_000, "is too great for JSON"),
+    ],
+)
 def test_what_is_no_json_is_refused_as_that(data, sentence):
     answer = run("lint", given=data)
-    assert answer.status == 2 and sentence in answer.out and answer.out.endswith("(bwe: refused 1 not json)\n")
+    assert (
+        answer.status == 2
+        and sentence in answer.out
+        and answer.out.endswith("(bwe: refused 1 not json)\n")
+    )
 
 
 def test_a_file_that_is_not_there_gets_a_sentence(tmp_path):
     answer = run("lint", tmp_path / "none.json")
-    assert answer.status == 2 and answer.err.startswith("bwe-tools: ") and "Traceback" not in answer.err
+    assert (
+        answer.status == 2
+        and answer.err.startswith("bwe-tools: ")
+        and "Traceback" not in answer.err
+    )
 
 
 def test_places_are_found_in_the_text():
     text = '{"a": [1, {"b" : "x", "b":\n  [2,  3]}]}'
-    assert [text[json_text.offset_of(text, place)] for place in ((), ("a",), ("a", 0), ("a", 1, "b"), ("a", 1, "b", 1))] == list("{[1[3")
+    assert [
+        text[json_text.offset_of(text, place)]
+        for place in ((), ("a",), ("a", 0), ("a", 1, "b"), ("a", 1, "b", 1))
+    ] == list("{[1[3")
     assert str(json_text.position(text, json_text.offset_of(text, ("a", 1, "b", 1)))) == "2:8"
     assert json_text.offset_of(text, ("a", 1, "b"), is_key=True) == text.rindex('"b"')
 
@@ -260,6 +407,17 @@ def test_places_are_found_in_the_text():
 def test_a_trace_of_python_is_never_shown():
     """The launcher itself, on words and files that are at fault."""
     tool = os.path.join(os.path.dirname(os.path.dirname(os.path.abspath(__file__))), "bwe-tools")
-    for words in (["lint", "/none"], ["lint", "a", "b"], ["lnt"], ["from-csv"], ["from-graphml", "/none"]):
+    for words in (
+        ["lint", "/none"],
+        ["lint", "a", "b"],
+        ["lnt"],
+        ["from-csv"],
+        ["from-graphml", "/none"],
+    ):
         told = subprocess.run([tool, *words], capture_output=True, text=True, check=False)
-        assert told.returncode == 2 and told.stdout == "" and told.stderr and "Traceback" not in told.stderr
+        assert (
+            told.returncode == 2
+            and told.stdout == ""
+            and told.stderr
+            and "Traceback" not in told.stderr
+        )

@@ -1,5 +1,4 @@
 pub mod Together
-pub mod Ranges
 pub mod RunReply
 pub mod Audits
 pub mod Behind

@@ -5,7 +5,9 @@ use Rattle.bwe_specs.specs.Allocation.{Plan, allocation}
 use Rattle.document_run.specs.Runs.{scripts_of}
 use Rattle.limit_table.specs.Tables.{total_of}
 use Rattle.one_run.specs.Endings.{Reply}
+use Rattle.plan_doc.specs.Document.{Accepted}
 use Rattle.plan_doc.specs.Names.{NameLists}
+use Rattle.plan_doc.specs.Plans.{plan_of}
 use Rattle.run_audit.specs.AuditText.{verdict_line}
 use Rattle.run_audit.specs.Forms.{LineNames}
 use Rattle.run_audit.specs.Verdict.{verdict_of}
@@ -35,3 +37,6 @@ abbrev pub audit_reply : NameLists → Plan → List Report → List ℕ → Rep
 audit_reply names plan script text =
     let judged = audit_verdict names plan script text in
     record { status = audit_status judged; text = verdict_line judged }
+
+abbrev pub audit_accepted : Accepted → List ℕ → Reply
+audit_accepted accepted part = audit_reply accepted.names (plan_of accepted) accepted.script part

@@ -8,7 +8,9 @@ use Rattle.event_lines.specs.declared.EventLine.{EventLine}
 use Rattle.event_lines.specs.EventLines.{events_of}
 use Rattle.event_lines.specs.RefusalLine.{event_refusal}
 use Rattle.one_run.specs.Endings.{Reply}
+use Rattle.plan_doc.specs.Document.{Accepted}
 use Rattle.plan_doc.specs.Names.{NameLists}
+use Rattle.plan_doc.specs.Plans.{plan_of}
 
 -- the text of the events on a world with a region for each reporter, with the allocations of the script's first reports
 abbrev pub enforced_reply : NameLists → Plan → List Report → List ℕ → List EventLine → Reply
@@ -28,3 +30,6 @@ enforced_by names plan script task_owners (Err line) = record { status = 3; text
 abbrev pub enforce_reply : NameLists → Plan → List Report → List ℕ → List ℕ → Reply
 enforce_reply names plan script task_owners part =
     enforced_by names plan script task_owners (events_of (length names.reporters) part)
+
+abbrev pub enforce_accepted : Accepted → List ℕ → Reply
+enforce_accepted accepted part = enforce_reply accepted.names (plan_of accepted) accepted.script accepted.task_owners part

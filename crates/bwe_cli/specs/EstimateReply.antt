@@ -25,6 +25,6 @@ estimate_reply names known plan script window headroom part =
 abbrev pub known_in : Accepted → Known
 known_in accepted = record { tasks = accepted.names.tasks; reporters = accepted.names.reporters; task_owners = accepted.task_owners }
 
-abbrev pub accepted_estimate_reply : ℕ → ℕ → Accepted → List ℕ → Reply
-accepted_estimate_reply window headroom accepted part =
+abbrev pub estimate_accepted : ℕ → ℕ → Accepted → List ℕ → Reply
+estimate_accepted window headroom accepted part =
     estimate_reply (printed accepted.names) (known_in accepted) (plan_of accepted) accepted.script window headroom part

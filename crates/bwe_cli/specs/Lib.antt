@@ -6,4 +6,4 @@ pub mod Parted
 pub mod EstimateReply
 pub mod TiersReply
 pub mod EnforceReply
-pub mod PartedLines
+pub mod TopCall

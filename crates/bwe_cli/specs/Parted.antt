@@ -36,17 +36,17 @@ parts_at input (Some parts) = with_part (drop parts.end input) (document (docume
 abbrev pub accepted_parts : List ℕ → Result AcceptedParts Reply
 accepted_parts input = parts_at input (parts_of input)
 
-abbrev pub reply_by : (Accepted → List ℕ → Reply) → Result AcceptedParts Reply → Reply
-reply_by line_reply (Ok parts) = line_reply parts.accepted parts.part
-reply_by line_reply (Err refused) = refused
+abbrev pub behind_reply : (Accepted → List ℕ → Reply) → Result AcceptedParts Reply → Reply
+behind_reply accepted_reply (Ok parts) = accepted_reply parts.accepted parts.part
+behind_reply accepted_reply (Err refused) = refused
 
--- what the input gets of a line, by what the line writes for two accepted parts
-abbrev pub parted_reply : (Accepted → List ℕ → Reply) → List ℕ → Reply
-parted_reply line_reply input = reply_by line_reply (accepted_parts input)
+-- what an input gets that is a document and a second part, by what an accepted document and the part behind it get
+abbrev pub parts_reply : (Accepted → List ℕ → Reply) → List ℕ → Reply
+parts_reply accepted_reply input = behind_reply accepted_reply (accepted_parts input)
 
 -- the code has the same parts, or what is written for a refused input
 abbrev pub AreRead : Result AcceptedParts Reply → read.Parted → Type 0
 AreRead parts (Read held bytes part) =
     (accepted : Accepted) × (parts ≡ Ok (record { accepted = accepted; part = part.now })) × (document bytes.now ≡ Ok accepted)
     × IsDocumentOf accepted held × IsUsable held
-AreRead parts (Refused answer) = parts ≡ Err (record { status = answer.status; text = answer.text.items })
+AreRead parts (Refused answer) = parts ≡ Err answer

@@ -8,8 +8,6 @@ use Rattle.bwe_specs.specs.Allocation.{Plan, allocation, wan_after}
 use Rattle.bwe_specs.specs.Reports.{demand_after}
 use Rattle.bwe_specs.specs.RightClosings.{verdict}
 use Rattle.bwe_specs.specs.Tree.{Cluster}
-use Rattle.command_line.specs.declared.Line.{Line}
-use Rattle.command_line.specs.declared.Line.TheVariants.{Solve, Check, Levels}
 use Rattle.one_run.specs.Endings.{Reply}
 use Rattle.table_text.specs.TableText.{NameTexts, text_of}
 use Rattle.table_text.specs.CheckText.{verdict_line}
@@ -50,20 +48,25 @@ levels_reply asked names top demand clusters =
     let share = min asked top in
     values_reply names share (levels top demand clusters share)
 
--- what an accepted document gets
-abbrev pub accepted_reply : Line → Accepted → Reply
-accepted_reply Solve accepted = table_reply (printed accepted.names) (plan_of accepted) accepted.script
-accepted_reply Check accepted = check_reply (printed accepted.names) (plan_of accepted) accepted.script accepted.closings
-accepted_reply (Levels share) accepted = levels_reply share (printed accepted.names) accepted.top (demand_after accepted.script) accepted.clusters
+-- `solve`, `check` and `levels` of an accepted document
+abbrev pub solve_accepted : Accepted → Reply
+solve_accepted accepted = table_reply (printed accepted.names) (plan_of accepted) accepted.script
+
+abbrev pub check_accepted : Accepted → Reply
+check_accepted accepted = check_reply (printed accepted.names) (plan_of accepted) accepted.script accepted.closings
+
+abbrev pub levels_accepted : ℕ → Accepted → Reply
+levels_accepted share accepted = levels_reply share (printed accepted.names) accepted.top (demand_after accepted.script) accepted.clusters
 
 -- a refused document gets the line of its refusal
 abbrev pub refused_reply : Refusal → Reply
 refused_reply refusal = record { status = 3; text = refusal_line refusal }
 
-abbrev pub document_reply : Line → Result Accepted Refusal → Reply
-document_reply line (Ok accepted) = accepted_reply line accepted
-document_reply line (Err refusal) = refused_reply refusal
+-- what is read as a document gets, by what an accepted one gets
+abbrev pub read_reply : (Accepted → Reply) → Result Accepted Refusal → Reply
+read_reply accepted_reply (Ok accepted) = accepted_reply accepted
+read_reply accepted_reply (Err refusal) = refused_reply refusal
 
--- what the input of a line gets
-abbrev pub reply : Line → List ℕ → Reply
-reply line input = document_reply line (document input)
+-- what an input gets that is one document
+abbrev pub document_reply : (Accepted → Reply) → List ℕ → Reply
+document_reply accepted_reply input = read_reply accepted_reply (document input)

@@ -4,10 +4,13 @@ use Rattle.bwe_specs.specs.declared.report.Report.{Report}
 use Rattle.bwe_specs.specs.Allocation.{Plan}
 use Rattle.bwe_specs.specs.Reports.{demand_after, capacities_after}
 use Rattle.one_run.specs.Endings.{Reply}
+use Rattle.plan_doc.specs.Document.{Accepted}
+use Rattle.plan_doc.specs.Plans.{plan_of}
 use Rattle.table_text.specs.TableText.{NameTexts}
 use Rattle.tier_text.specs.TierPart.{part_fault, tiers_in, tiers_line}
 use Rattle.tier_text.specs.TierText.{tier_text_of}
 use Rattle.tiers.specs.Tiered.{Tiered, tiered_under}
+use Rattle.bwe_cli.specs.Replies.{printed}
 
 -- the Tiered allocation of the demands and capacities after these reports
 abbrev pub tiered_after : Plan → List Report → List ℕ → Tiered
@@ -27,3 +30,6 @@ abbrev pub tiers_reply : NameTexts → Plan → List Report → List ℕ → Rep
 tiers_reply names plan script part =
     let groups = length plan.groups in
     unless_refused (part_fault groups part) (tiered_reply names plan script (tiers_in groups part))
+
+abbrev pub tiers_accepted : Accepted → List ℕ → Reply
+tiers_accepted accepted part = tiers_reply (printed accepted.names) (plan_of accepted) accepted.script part

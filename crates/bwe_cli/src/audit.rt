@@ -6,9 +6,12 @@ ghost use Rattle.plan_doc.specs.Accepted.{IsAccepted};
 ghost use Rattle.plan_doc.specs.Conditions.{IsUsable, tasks_in};
 ghost use Rattle.plan_doc.specs.Document.{document as document_of};
 ghost use Rattle.plan_doc.specs.Links.{names_view};
-ghost use Rattle.bwe_cli.specs.AuditReply.{audit_reply, audit_status};
+ghost use Rattle.bwe_cli.specs.AuditReply.{audit_accepted, audit_reply, audit_status};
+ghost use Rattle.bwe_cli.specs.Parted.{parts_reply};
 ghost use Rattle.plan_doc.specs.Plans.{plan_in};
 
+use crate::opened::open;
+use crate::parted::{Parted, read_parts};
 use crate::solve::table_of;
 use allocator::Allocator;
 use bwe_specs::OutOfMemory;
@@ -20,10 +23,24 @@ use run_audit::{AuditVerdict, audit_text};
 use std::alloc::Global;
 use table_text::table_text;
 
-/// The verdict on a text that is to be that of a run of the document, which `input` is read as.
-///
-/// The document is read a second time: one allocator makes the table at the text's end, the other follows its history.
-pub(crate) fn audit(
+/// What the line writes for its input.
+pub(crate) fn audit(alloc: Global, input: &[u8]) -> Result<Answer, OutOfMemory>
+    ensures { IfOk result (λ answer. answer ≡ parts_reply audit_accepted input.now) }
+{
+    match read_parts(alloc, input)? {
+        Parted::Read {
+            document,
+            bytes,
+            part,
+        } => audit_document(alloc, document, bytes, part),
+        Parted::Refused { answer } => Ok(answer),
+    }
+}
+
+// The verdict on a text that is to be that of a run of the document, which `input` is read as.
+//
+// The document is read a second time: one allocator makes the table at the text's end, the other follows its history.
+fn audit_document(
     alloc: Global,
     document: Document,
     input: &[u8],
@@ -31,29 +48,14 @@ pub(crate) fn audit(
 ) -> Result<Answer, OutOfMemory>
     requires usable { IsUsable document }
     requires accepted { IsAccepted (document_of input.now) document }
-    ensures { IfOk result (λ answer. record { status = answer.status; text = answer.text.items }
+    ensures { IfOk result (λ answer. answer
         ≡ audit_reply (names_view document.names) (plan_in document) document.script.items text.now) }
 {
     match read_document(alloc, input) {
-        Ok(again) => audit_by(alloc, document, allocator_of(again), text),
+        Ok(again) => audit_by(alloc, document, open(again).allocator, text),
         // It was accepted, so that only memory can be wanting.
         Err(_) => Err(OutOfMemory),
     }
-}
-
-// The allocator of a document, which has taken in nothing yet.
-fn allocator_of(document: Document) -> Allocator
-    requires { IsUsable document }
-    ensures plan { ⟦<Allocator as Maker>⟧.plan result ≡ plan_in document }
-    ensures first { ⟦<Allocator as Maker>⟧.absorbed result [] }
-{
-    let Document {
-        tree,
-        topology,
-        plan,
-        ..
-    } = document;
-    Allocator::new(tree, topology, plan)
 }
 
 // The verdict on the text, by a new allocator of the document's plan.
@@ -67,7 +69,7 @@ fn audit_by(
     requires tasks { task_count (plan_in document) ≡ tasks_in document }
     requires plan { ⟦<Allocator as Maker>⟧.plan allocator ≡ plan_in document }
     requires first { ⟦<Allocator as Maker>⟧.absorbed allocator [] }
-    ensures { IfOk result (λ answer. record { status = answer.status; text = answer.text.items }
+    ensures { IfOk result (λ answer. answer
         ≡ audit_reply (names_view document.names) (plan_in document) document.script.items text.now) }
 {
     let scripts = scripts_of_document(alloc, &document)?;

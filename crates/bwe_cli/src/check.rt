@@ -6,32 +6,41 @@ ghost use Rattle.bwe_specs.specs.RightClosings.{verdict as verdict_of};
 ghost use Rattle.table_text.specs.TableText.{texts_of};
 ghost use Rattle.plan_doc.specs.Conditions.{IsUsable};
 ghost use Rattle.plan_doc.specs.Plans.{plan_in};
-ghost use Rattle.bwe_cli.specs.Replies.{check_reply, verdict_status};
+ghost use Rattle.bwe_cli.specs.Replies.{check_accepted, check_reply, document_reply, verdict_status};
 
-use allocator::{Allocator, after_script};
+use crate::opened::{Opened, open};
+use crate::refused::refused;
+use allocator::after_script;
 use bottleneck_cert::Verdict;
 use bwe_specs::OutOfMemory;
 use one_run::Answer;
-use plan_doc::Document;
+use plan_doc::{Document, read_document};
 use std::alloc::Global;
 use table_text::check_text;
 
-/// The verdict on the document's closings, under the demands and capacities after its script.
-pub(crate) fn check(alloc: Global, document: Document) -> Result<Answer, OutOfMemory>
+/// What the line writes for its input.
+pub(crate) fn check(alloc: Global, input: &[u8]) -> Result<Answer, OutOfMemory>
+    ensures { IfOk result (λ answer. answer ≡ document_reply check_accepted input.now) }
+{
+    match read_document(alloc, input) {
+        Ok(document) => check_document(alloc, document),
+        Err(error) => refused(alloc, &error),
+    }
+}
+
+// The verdict on the document's closings, under the demands and capacities after its script.
+fn check_document(alloc: Global, document: Document) -> Result<Answer, OutOfMemory>
     requires { IsUsable document }
-    ensures { IfOk result (λ answer. record { status = answer.status; text = answer.text.items }
+    ensures { IfOk result (λ answer. answer
         ≡ check_reply (texts_of document.names) (plan_in document) document.script.items document.closings.items) }
 {
-    let Document {
-        tree,
-        topology,
-        plan,
+    let Opened {
+        allocator,
         script,
         closings,
         names,
         ..
-    } = document;
-    let allocator = Allocator::new(tree, topology, plan);
+    } = open(document);
     let allocator = after_script(alloc, allocator, &script)?;
     let (values, plan) = (allocator.values(), allocator.plan());
     let verdict = bottleneck_cert::check(alloc, &values, allocator.topology(), plan, &closings)?;

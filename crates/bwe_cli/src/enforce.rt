@@ -4,10 +4,12 @@ ghost use Rattle.std.specs.Prelude.{◌≡◌, [], IfOk};
 ghost use Rattle.event_lines.specs.EventLines.{AreThere};
 ghost use Rattle.plan_doc.specs.Conditions.{IsUsable, reporter_count};
 ghost use Rattle.plan_doc.specs.Links.{names_view};
-ghost use Rattle.bwe_cli.specs.EnforceReply.{enforce_reply, enforced_reply};
+ghost use Rattle.bwe_cli.specs.EnforceReply.{enforce_accepted, enforce_reply, enforced_reply};
+ghost use Rattle.bwe_cli.specs.Parted.{parts_reply};
 ghost use Rattle.plan_doc.specs.Plans.{plan_in};
 
-use allocator::Allocator;
+use crate::opened::{Opened, open};
+use crate::parted::{Parted, read_parts};
 use bwe_specs::OutOfMemory;
 use demand_book::Maker;
 use event_lines::{EventError, EventLine, event_refusal_line, read_events};
@@ -15,11 +17,21 @@ use one_run::Answer;
 use plan_doc::Document;
 use std::alloc::Global;
 
-/// What the events of the part do in a world with a region for each of the document's reporters, or the first line at
-/// fault.
-pub(crate) fn enforce(alloc: Global, document: Document, part: &[u8]) -> Result<Answer, OutOfMemory>
+/// What the line writes for its input.
+pub(crate) fn enforce(alloc: Global, input: &[u8]) -> Result<Answer, OutOfMemory>
+    ensures { IfOk result (λ answer. answer ≡ parts_reply enforce_accepted input.now) }
+{
+    match read_parts(alloc, input)? {
+        Parted::Read { document, part, .. } => enforce_document(alloc, document, part),
+        Parted::Refused { answer } => Ok(answer),
+    }
+}
+
+// What the events of the part do in a world with a region for each of the document's reporters, or the first line at
+// fault.
+fn enforce_document(alloc: Global, document: Document, part: &[u8]) -> Result<Answer, OutOfMemory>
     requires { IsUsable document }
-    ensures { IfOk result (λ answer. record { status = answer.status; text = answer.text.items }
+    ensures { IfOk result (λ answer. answer
         ≡ enforce_reply (names_view document.names) (plan_in document) document.script.items document.task_owners.items part.now) }
 {
     let reporters = document.names.reporters.len() as u32;
@@ -43,26 +55,23 @@ fn play(
     requires usable { IsUsable document }
     requires reporters { reporters ≡ reporter_count document }
     requires there { AreThere reporters [] events.now }
-    ensures { IfOk result (λ answer. record { status = answer.status; text = answer.text.items }
+    ensures { IfOk result (λ answer. answer
         ≡ enforced_reply (names_view document.names) (plan_in document) document.script.items document.task_owners.items events.now) }
 {
-    let Document {
-        tree,
-        topology,
-        plan,
+    let Opened {
+        allocator,
         script,
         names,
         task_owners,
         ..
-    } = document;
-    let maker = Allocator::new(tree, topology, plan);
+    } = open(document);
     // Who asks a maker for its number of tasks learns that they can be numbered.
-    let _tasks = maker.tasks();
+    let _tasks = allocator.tasks();
     Ok(Answer {
         status: 0,
         text: enforce_run::enforce(
             alloc,
-            maker,
+            allocator,
             &script,
             reporters,
             &task_owners,

@@ -8,19 +8,43 @@ ghost use Rattle.table_text.specs.TableText.{texts_of};
 ghost use Rattle.plan_doc.specs.Conditions.{IsUsable};
 ghost use Rattle.sample_lines.specs.Held.{IsByOwner};
 ghost use Rattle.sample_lines.specs.KnownView.{known_by};
-ghost use Rattle.bwe_cli.specs.EstimateReply.{estimate_reply};
+ghost use Rattle.bwe_cli.specs.EstimateReply.{estimate_accepted, estimate_reply};
+ghost use Rattle.bwe_cli.specs.Parted.{parts_reply};
 ghost use Rattle.plan_doc.specs.Plans.{plan_in};
 ghost use Rattle.bwe_cli.specs.Replies.{table_reply};
 
-use crate::solve::solve;
+use crate::parted::{Parted, read_parts};
+use crate::solve::solve_document;
 use bwe_specs::{OutOfMemory, Report};
 use one_run::Answer;
 use plan_doc::Document;
 use sample_lines::{SampleError, estimate_reports, sample_refusal_line};
 use std::alloc::Global;
 
-/// The table of the document's script with the reports of the estimates behind it, or the first sample at fault.
+/// What the line writes for its input.
 pub(crate) fn estimate(
+    alloc: Global,
+    window: u32,
+    headroom: u32,
+    input: &[u8],
+) -> Result<Answer, OutOfMemory>
+    requires some_window { 1 ≤ window }
+    requires window { window ≤ MAX_WINDOW }
+    requires least { MIN_HEADROOM ≤ headroom }
+    requires headroom { headroom ≤ MAX_HEADROOM }
+    ensures { IfOk result (λ answer. answer
+        ≡ parts_reply (estimate_accepted window headroom) input.now) }
+{
+    match read_parts(alloc, input)? {
+        Parted::Read { document, part, .. } => {
+            estimate_document(alloc, document, part, window, headroom)
+        }
+        Parted::Refused { answer } => Ok(answer),
+    }
+}
+
+// The table of the document's script with the reports of the estimates behind it, or the first sample at fault.
+fn estimate_document(
     alloc: Global,
     document: Document,
     part: &[u8],
@@ -32,7 +56,7 @@ pub(crate) fn estimate(
     requires window { window ≤ MAX_WINDOW }
     requires least { MIN_HEADROOM ≤ headroom }
     requires headroom { headroom ≤ MAX_HEADROOM }
-    ensures { IfOk result (λ answer. record { status = answer.status; text = answer.text.items }
+    ensures { IfOk result (λ answer. answer
         ≡ estimate_reply (texts_of document.names) (known_by document.names document.task_owners.items)
         (plan_in document) document.script.items window headroom part.now) }
 {
@@ -72,10 +96,10 @@ fn solve_behind(
     requires fit { (links : ℕ)
         → All (IsFit (length document.names.tasks.items) links) reports.now }
     requires owned { All (IsByOwner document.task_owners.items) reports.now }
-    ensures { IfOk result (λ answer. record { status = answer.status; text = answer.text.items }
+    ensures { IfOk result (λ answer. answer
         ≡ table_reply (texts_of document.names) (plan_in document) (document.script.items ++ reports.now)) }
 {
     let mut document = document;
     document.script.extend_from_slice(reports)?;
-    solve(alloc, document)
+    solve_document(alloc, document)
 }

@@ -4,7 +4,7 @@ ghost use Rattle.std.specs.Prelude.{◌≡◌, IfOk};
 ghost use Rattle.plan_doc.specs.RefusalLines.{error_line};
 ghost use Rattle.bwe_cli.specs.Parted.{AreRead, accepted_parts, no_parts_reply};
 
-use crate::documents::refused;
+use crate::refused::refused;
 use bwe_specs::OutOfMemory;
 use one_run::Answer;
 use plan_doc::{Document, read_document};
@@ -51,7 +51,7 @@ pub(crate) fn read_parts(alloc: Global, input: &[u8]) -> Result<Parted<'_>, OutO
 // The line for an input without parts, with status 3.
 fn no_parts(alloc: Global) -> Result<Answer, OutOfMemory>
     ensures { IfOk result (λ answer.
-        record { status = answer.status; text = answer.text.items } ≡ no_parts_reply) }
+        answer ≡ no_parts_reply) }
 {
     Ok(Answer {
         status: 3,

@@ -4,9 +4,12 @@ ghost use Rattle.std.specs.Prelude.{◌≡◌, IfOk, length};
 ghost use Rattle.table_text.specs.TableText.{texts_of};
 ghost use Rattle.plan_doc.specs.Conditions.{IsUsable};
 ghost use Rattle.plan_doc.specs.Plans.{plan_in};
-ghost use Rattle.bwe_cli.specs.TiersReply.{tiered_reply, tiers_reply};
+ghost use Rattle.bwe_cli.specs.Parted.{parts_reply};
+ghost use Rattle.bwe_cli.specs.TiersReply.{tiered_reply, tiers_accepted, tiers_reply};
 
-use allocator::{Allocator, after_script};
+use crate::opened::{Opened, open};
+use crate::parted::{Parted, read_parts};
+use allocator::after_script;
 use bwe_specs::OutOfMemory;
 use one_run::Answer;
 use plan_doc::Document;
@@ -14,10 +17,20 @@ use std::alloc::Global;
 use tier_text::{TiersError, read_tiers, refused_tiers, tier_text};
 use tiers::fill_tiers;
 
-/// The table of tiers of the document's script, or the first byte of the part at fault.
-pub(crate) fn tiers(alloc: Global, document: Document, part: &[u8]) -> Result<Answer, OutOfMemory>
+/// What the line writes for its input.
+pub(crate) fn tiers(alloc: Global, input: &[u8]) -> Result<Answer, OutOfMemory>
+    ensures { IfOk result (λ answer. answer ≡ parts_reply tiers_accepted input.now) }
+{
+    match read_parts(alloc, input)? {
+        Parted::Read { document, part, .. } => tiers_of_document(alloc, document, part),
+        Parted::Refused { answer } => Ok(answer),
+    }
+}
+
+// The table of tiers of the document's script, or the first byte of the part at fault.
+fn tiers_of_document(alloc: Global, document: Document, part: &[u8]) -> Result<Answer, OutOfMemory>
     requires { IsUsable document }
-    ensures { IfOk result (λ answer. record { status = answer.status; text = answer.text.items }
+    ensures { IfOk result (λ answer. answer
         ≡ tiers_reply (texts_of document.names) (plan_in document) document.script.items part.now) }
 {
     match read_tiers(alloc, part, document.plan.groups()) {
@@ -35,18 +48,15 @@ pub(crate) fn tiers(alloc: Global, document: Document, part: &[u8]) -> Result<An
 fn fill(alloc: Global, document: Document, tiers: &[u8]) -> Result<Answer, OutOfMemory>
     requires usable { IsUsable document }
     requires one_each { length tiers.now ≡ length document.plan }
-    ensures { IfOk result (λ answer. record { status = answer.status; text = answer.text.items }
+    ensures { IfOk result (λ answer. answer
         ≡ tiered_reply (texts_of document.names) (plan_in document) document.script.items tiers.now) }
 {
-    let Document {
-        tree,
-        topology,
-        plan,
+    let Opened {
+        allocator,
         script,
         names,
         ..
-    } = document;
-    let allocator = Allocator::new(tree, topology, plan);
+    } = open(document);
     let allocator = after_script(alloc, allocator, &script)?;
     let (tree, topology, plan) = allocator.into_parts();
     let prefix = script.len() as u64;

@@ -5,15 +5,18 @@ ghost use Rattle.function_sum.specs.Meaning.{IsMeaning};
 ghost use Rattle.capped_sum.specs.CappedSum.{tasks_value, task_at, with_demand, without_demand};
 
 use crate::index::{
-    IndexedSum, RankedTask, SumsBefore, add_sums, indexed_sum, per_weight_guess, per_weight_within,
-    plain_sum, rebuild,
+    IndexedSum, RankedTask, SumsBefore, add_sums, indexed_sum, per_weight_within, plain_sum,
+    rebuild,
 };
 use crate::task::Task;
-use bw_function::BwFunction;
+use bw_function::{BwFunction, Look};
 use bwe_specs::{MAX_AMOUNT, MAX_TASKS, MAX_WEIGHT, OutOfMemory};
-use function_sum::{Look, ShareFunction, last_share_guess};
+use function_sum::{Outline, ShareFunction, Stretch};
 use std::alloc::{AllocError, Global};
 use std::marker::Model;
+
+// At how many full tasks an outline has a point.
+const MAX_FULL_TASKS: usize = 8;
 
 /// Tasks of one function, and the sum of their values.
 #[derive(Drop)]
@@ -152,13 +155,12 @@ impl ShareFunction for CappedSum {
     }
 
     fn look(&self, share: u64) -> Look {
-        let per_weight = self.function.value(share);
-        let last = last_share_guess(&self.function, per_weight).max(share);
+        let per_weight = self.function.look(share);
         if !self.is_fresh {
-            let value = plain_sum(self.tasks.as_slice(), per_weight);
+            let value = plain_sum(self.tasks.as_slice(), per_weight.value);
             return Look {
                 value,
-                last,
+                last: per_weight.last,
                 next: value,
             };
         }
@@ -166,19 +168,9 @@ impl ShareFunction for CappedSum {
             self.tasks.as_slice(),
             self.ranked.as_slice(),
             self.before.as_slice(),
-            per_weight,
+            per_weight.value,
         );
-        look_by_index(&self.function, found, per_weight, last)
-    }
-
-    fn guess(&self, amount: u64) -> Option<u64> {
-        // The proof learns here that the tasks' function is one of a document.
-        let _ = self.function.top();
-        if !self.is_fresh {
-            return None;
-        }
-        let per_weight = per_weight_guess(self.ranked.as_slice(), self.before.as_slice(), amount);
-        Some(last_share_guess(&self.function, per_weight))
+        look_by_index(found, per_weight, self.function.top())
     }
 
     fn last_share_within(&self, amount: u64, top: u64) -> Option<u64> {
@@ -199,26 +191,42 @@ impl ShareFunction for CappedSum {
             Some(per_weight) => Some(self.function.last_share_within(per_weight, top)),
         }
     }
+
+    fn near(&self, share: u64) -> u64 {
+        self.value(share)
+    }
+
+    // The sum bends where the function does, and where a task is full.
+    fn add_bends(&self, outline: &mut Outline) {
+        outline.add_points(&self.function);
+        let step = self.ranked.len() / MAX_FULL_TASKS + 1;
+        for task in self.ranked.iter().step_by(step) {
+            let top = self.function.top();
+            outline.add(self.function.last_share_within(task.full_at, top));
+        }
+    }
+
+    fn stretch(&self, _amount: u64) -> Option<Stretch> {
+        None
+    }
 }
 
 // What an indexed sum says of the shares after it. Where all tasks are full it stays for good.
-fn look_by_index(function: &BwFunction, found: IndexedSum, per_weight: u64, last: u64) -> Look
+fn look_by_index(found: IndexedSum, per_weight: Look, top: u64) -> Look
     ensures { result.value ≡ found.sum }
 {
     if found.open_weights == 0 {
         return Look {
             value: found.sum,
-            last: last.max(function.top()),
+            last: per_weight.last.max(top),
             next: found.sum,
         };
     }
-    let rise = function
-        .value(last.saturating_add(1))
-        .saturating_sub(per_weight);
+    let rise = per_weight.next.saturating_sub(per_weight.value);
     let more = rise.saturating_mul(found.open_weights);
     Look {
         value: found.sum,
-        last,
+        last: per_weight.last,
         next: found.sum.saturating_add(more),
     }
 }

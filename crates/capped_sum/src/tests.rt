@@ -54,10 +54,7 @@ fn a_fresh_index_tells_where_the_sum_changes(rt: HostRuntime) -> Result<(), Fail
     let mut sum = CappedSum::new(alloc, function, &[1, 1])?;
     let _ = sum.set(0, 5)?;
     let _ = sum.set(1, 30)?;
-    assert_eq!(rt; sum.guess(8), None);
     sum.refresh();
-    assert_eq!(rt; (sum.guess(8), sum.guess(9)), (Some(9), Some(9)));
-    assert_eq!(rt; (sum.guess(12), sum.guess(35)), (Some(15), Some(100)));
     let look = sum.look(4);
     assert_eq!(rt; (look.value, look.last, look.next), (4, 5, 6));
     let look = sum.look(90);

@@ -2,6 +2,7 @@ pub mod Clear
 pub mod Turns
 pub mod Bare
 pub mod Texts
+pub mod Ranges
 pub mod RunWords
 pub mod Sizes
 pub mod Places

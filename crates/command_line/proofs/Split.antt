@@ -11,8 +11,7 @@ use Rattle.clap.specs.Simple.{Shape, built, names_of, subcommand_of}
 use Rattle.clap.specs.Walk.{Names, Text, Walk, idle, subcommand_met, walked}
 use Rattle.command_line.specs.declared.matches.Size.{Size}
 use Rattle.command_line.specs.declared.CommandLine.{CommandLine}
-use Rattle.command_line.specs.declared.Line.TheVariants.{Solve, Check}
-use Rattle.command_line.specs.declared.CommandLine.TheVariants.{Document, Make, Bulk, Audit, Tiers, Enforce}
+use Rattle.command_line.specs.declared.CommandLine.TheVariants.{Solve, Check, Make, Bulk, Audit, Tiers, Enforce}
 use Rattle.command_line.specs.Lines.{alone, estimate_of, is_hyphens, levels_of, line_named, line_of_texts, nothing_given, options_of, run_line, size_of}
 use Rattle.command_line.specs.Matches.{bwe_app, estimate_given, given_in, levels_given, line_met, size_given}
 use Rattle.command_line.proofs.Clear.{is_clear, or_else-none}
@@ -179,10 +178,10 @@ bare_agrees name line (word ∷ rest) plain fault is named = line_agrees name (w
     (λ e. absurd (true≢false (sym e ∙ bare_takes_no_word name word rest (first_plain word rest plain).0))) (λ e. refl)
 
 solve_agrees : (rest : List Text) → list_any is_hyphens rest ≡ false → AgreesAt (codes "solve") rest
-solve_agrees rest plain = bare_agrees (codes "solve") (Document Solve) rest plain (solve_fault rest) (ap line_met (solve_met rest)) refl
+solve_agrees rest plain = bare_agrees (codes "solve") Solve rest plain (solve_fault rest) (ap line_met (solve_met rest)) refl
 
 check_agrees : (rest : List Text) → list_any is_hyphens rest ≡ false → AgreesAt (codes "check") rest
-check_agrees rest plain = bare_agrees (codes "check") (Document Check) rest plain (check_fault rest) (ap line_met (check_met rest)) refl
+check_agrees rest plain = bare_agrees (codes "check") Check rest plain (check_fault rest) (ap line_met (check_met rest)) refl
 
 audit_agrees : (rest : List Text) → list_any is_hyphens rest ≡ false → AgreesAt (codes "audit") rest
 audit_agrees rest plain = bare_agrees (codes "audit") Audit rest plain (audit_fault rest) (ap line_met (audit_met rest)) refl

@@ -6,10 +6,8 @@ use Rattle.std.specs.Str.{all_ascii_digits, bytes_eq}
 use Rattle.std.specs.Str.Parse.{digits_value}
 use Rattle.std.specs.declared.alloc.Global.{Global}
 use Rattle.command_line.specs.declared.matches.Size.{Size}
-use Rattle.command_line.specs.declared.Line.{Line}
-use Rattle.command_line.specs.declared.Line.TheVariants.{Solve, Check, Levels}
 use Rattle.command_line.specs.declared.CommandLine.{CommandLine}
-use Rattle.command_line.specs.declared.CommandLine.TheVariants.{Document, Run, Make, Bulk, Audit, Tiers, Enforce, Estimate}
+use Rattle.command_line.specs.declared.CommandLine.TheVariants.{Solve, Check, Run, Make, Bulk, Audit, Tiers, Enforce, Estimate, Levels}
 
 abbrev pub Text : Type 0
 Text = List ℕ
@@ -118,7 +116,7 @@ estimate_of _ = None
 
 -- SHARE
 abbrev pub levels_in : Text → Option CommandLine
-levels_in share = option_map (λ s. Document (Levels s)) (number_in 0 1000000000 share)
+levels_in share = option_map (λ s. Levels s) (number_in 0 1000000000 share)
 
 abbrev pub levels_of : List Text → Option CommandLine
 levels_of (share ∷ []) = levels_in share
@@ -133,8 +131,8 @@ alone line (word ∷ more) = None
 
 abbrev pub line_named : Text → List Text → Option CommandLine
 line_named word rest =
-    if bytes_eq (codes "solve") word then alone (Document Solve) rest
-    else if bytes_eq (codes "check") word then alone (Document Check) rest
+    if bytes_eq (codes "solve") word then alone Solve rest
+    else if bytes_eq (codes "check") word then alone Check rest
     else if bytes_eq (codes "run") word then option_and_then run_line (options_of nothing_given None rest)
     else if bytes_eq (codes "make") word then option_map (λ size. Make size.seed size.groups size.tasks) (size_of rest)
     else if bytes_eq (codes "bulk") word then option_map (λ size. Bulk size.seed size.groups size.tasks) (size_of rest)
@@ -155,11 +153,3 @@ is_hyphens word = bytes_eq word (codes "--")
 -- the command line that the words are; the word `--` is in none
 abbrev pub command_line_of : List Text → Option CommandLine
 command_line_of words = if list_any is_hyphens words then None else line_of_texts words
-
-abbrev pub on_document : CommandLine → Option Line
-on_document (Document line) = Some line
-on_document _ = None
-
--- the line on one document that the words are
-abbrev pub line_of : List Text → Option Line
-line_of words = option_and_then on_document (command_line_of words)

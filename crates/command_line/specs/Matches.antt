@@ -7,8 +7,7 @@ use Rattle.clap.specs.declared.builder.action.ArgAction.TheVariants.{Append, Set
 use Rattle.command_line.specs.Lines.{Given, Text, estimate_in, levels_in, run_line, size_in}
 use Rattle.command_line.specs.declared.matches.Size.{Size}
 use Rattle.command_line.specs.declared.CommandLine.{CommandLine}
-use Rattle.command_line.specs.declared.Line.TheVariants.{Solve, Check}
-use Rattle.command_line.specs.declared.CommandLine.TheVariants.{Document, Make, Bulk, Audit, Tiers, Enforce}
+use Rattle.command_line.specs.declared.CommandLine.TheVariants.{Solve, Check, Make, Bulk, Audit, Tiers, Enforce}
 
 -- an option that may be given again
 abbrev pub option_rule : Text → Rule
@@ -75,8 +74,8 @@ levels_given rows = option_and_then (λ share. levels_in share) (first_of (codes
 
 abbrev pub line_entered : Text → List Row → Option CommandLine
 line_entered name rows =
-    if bytes_eq name (codes "solve") then Some (Document Solve)
-    else if bytes_eq name (codes "check") then Some (Document Check)
+    if bytes_eq name (codes "solve") then Some Solve
+    else if bytes_eq name (codes "check") then Some Check
     else if bytes_eq name (codes "run") then run_line (given_in rows)
     else if bytes_eq name (codes "make") then option_map (λ size. Make size.seed size.groups size.tasks) (size_given rows)
     else if bytes_eq name (codes "bulk") then option_map (λ size. Bulk size.seed size.groups size.tasks) (size_given rows)

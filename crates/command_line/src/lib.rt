@@ -1,13 +1,14 @@
 //! The words of a command line: which line they are, or the usage line.
 //!
-//! The top call asks `line_of_words` before it reads anything, and serves the line that it answers; `command_line_of_words`
-//! has all lines, those that the top call does not serve yet too. Words that are no line get `USAGE`. The definition Command line (`specs/Lines.antt`) alone decides:
-//! `clap` splits the words, and each text is read here.
+//! The top call asks `command_line_of_words` once, before it reads anything, and serves the line that it answers, whose
+//! numbers are in their ranges. Words that are no line get `USAGE`. The definition Command line (`specs/Lines.antt`) alone
+//! decides: `clap` splits the words, and each text is read here.
 #![tactic(auto)]
 
-ghost use Rattle.std.specs.Prelude.{◌≡◌, IfOk};
+ghost use Rattle.std.specs.Prelude.{◌≡◌, IfOk, IfSome};
 ghost use Rattle.std.specs.List.{list_any};
-ghost use Rattle.command_line.specs.Lines.{command_line_of, is_hyphens, line_of, texts_of};
+ghost use Rattle.command_line.specs.Lines.{command_line_of, is_hyphens, texts_of};
+ghost use Rattle.command_line.specs.Ranges.{IsInRange};
 
 use bwe_specs::OutOfMemory;
 use std::alloc::Global;
@@ -21,22 +22,13 @@ mod tests;
 pub const USAGE: &str =
     "usage: bwe solve | check | run [--readers N] [--reads N] | make SEED GROUPS TASKS | bulk SEED GROUPS TASKS | audit | tiers | enforce | estimate WINDOW HEADROOM | levels SHARE\n";
 
-/// A line that reads a document and answers it with one text.
-#[derive(Clone, Copy, Debug, PartialEq, Eq, Drop)]
-pub enum Line {
-    /// Writes the document's table of limits.
-    Solve,
-    /// Writes whether the document's closings are right.
-    Check,
-    /// Writes what each group may have at a share from 0 to 1,000,000,000.
-    Levels { share: u64 },
-}
-
-/// A command line.
+/// A command line ("Command lines", docs/FORMAT.md).
 #[derive(Clone, Copy, Debug, PartialEq, Eq, Drop)]
 pub enum CommandLine {
-    /// A line on one document.
-    Document { line: Line },
+    /// Reads a document, and writes its table of limits.
+    Solve,
+    /// Reads a document, and writes whether its closings are right.
+    Check,
     /// Reads a document and runs its scripts: from 1 to 64 readers, from 0 to 1,000 reads of each.
     Run { readers: u32, reads: u32 },
     /// Writes a made document: from 1 to 1,024 groups, and from as many to 20,000 tasks.
@@ -45,32 +37,27 @@ pub enum CommandLine {
     Bulk { seed: u64, groups: u32, tasks: u32 },
     /// Reads a document and the text of a run, and writes whether the text is lawful.
     Audit,
-    /// Reads a document and the tier of each group.
+    /// Reads a document and the tier of each group, and writes the table of tiers.
     Tiers,
-    /// Reads a document and events among regions.
+    /// Reads a document and events among regions, and writes what they do.
     Enforce,
-    /// Reads a document and samples of demands: a window of 1 to 1,000 samples, and a headroom of 100 to 1,000 hundredths.
+    /// Reads a document and samples of demands, and writes the table after their estimates: a
+    /// window of 1 to 1,000 samples, and a headroom of 100 to 1,000 hundredths.
     Estimate { window: u32, headroom: u32 },
-}
-
-/// The line on one document that the words are, `None` where they are none. `words` are those after the program's name.
-pub fn line_of_words(alloc: Global, words: &[String]) -> Result<Option<Line>, OutOfMemory>
-    ensures { IfOk result (λ line. line ≡ line_of (texts_of words.now)) }
-{
-    match command_line_of_words(alloc, words)? {
-        Some(CommandLine::Document { line }) => Ok(Some(line)),
-        _ => Ok(None),
-    }
+    /// Reads a document, and writes what each group may have at a share from 0 to 1,000,000,000.
+    Levels { share: u64 },
 }
 
 /// The command line that the words are, `None` where they are none.
 ///
-/// A word counts as it stands: abbreviations, blanks round a word and an empty word are in no line.
+/// `words` are those after the program's name. A word counts as it stands: abbreviations, blanks
+/// round a word and an empty word are in no line.
 pub fn command_line_of_words(
     alloc: Global,
     words: &[String],
 ) -> Result<Option<CommandLine>, OutOfMemory>
-    ensures { IfOk result (λ line. line ≡ command_line_of (texts_of words.now)) }
+    ensures line { IfOk result (λ line. line ≡ command_line_of (texts_of words.now)) }
+    ensures range { IfOk result (λ line. IfSome line IsInRange) }
 {
     if has_hyphens(words) {
         return Ok(None);

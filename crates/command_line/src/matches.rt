@@ -7,7 +7,7 @@ ghost use Rattle.command_line.specs.Lines.{estimate_in as estimate_in_texts, is_
 ghost use Rattle.command_line.specs.Matches.{bwe_app, estimate_app, estimate_given, first_lines, given_in, levels_app, levels_given, line_entered, line_met, option_rule, place_rule, run_app, size_given, sized_app, texts_in};
 
 use crate::number::{any_number, number_in};
-use crate::{CommandLine, Line};
+use crate::CommandLine;
 use bwe_specs::OutOfMemory;
 use clap::error::ErrorKind;
 use clap::{Arg, ArgAction, ArgMatches, Command};
@@ -126,8 +126,8 @@ fn line_of_subcommand(name: &str, given: &ArgMatches<'_>) -> Option<CommandLine>
     ensures { result ≡ line_entered name.now (rows_of (found_of given.now)) }
 {
     match name {
-        "solve" => Some(CommandLine::Document { line: Line::Solve }),
-        "check" => Some(CommandLine::Document { line: Line::Check }),
+        "solve" => Some(CommandLine::Solve),
+        "check" => Some(CommandLine::Check),
         "run" => run_line(given),
         "make" => {
             let Size {
@@ -247,7 +247,5 @@ fn levels_in(share: &str) -> Option<CommandLine>
     ensures { result ≡ levels_in_text share.now }
 {
     let share = u64::from(number_in(share, 0, 1_000_000_000)?);
-    Some(CommandLine::Document {
-        line: Line::Levels { share },
-    })
+    Some(CommandLine::Levels { share })
 }

@@ -1,4 +1,4 @@
-use super::{CommandLine, Line, USAGE, command_line_of_words, line_of_words};
+use super::{CommandLine, USAGE, command_line_of_words};
 use bwe_specs::OutOfMemory;
 
 fn words(rt: &HostRuntime, texts: &[&str]) -> Result<Vec<String>, OutOfMemory> {
@@ -15,17 +15,8 @@ fn line_of(rt: &HostRuntime, texts: &[&str]) -> Result<Option<CommandLine>, OutO
 
 #[test]
 fn each_line_is_read(rt: HostRuntime) -> Result<(), OutOfMemory> {
-    for (word, line) in [("solve", Line::Solve), ("check", Line::Check)] {
-        assert_eq!(rt;
-            line_of(&rt, &[word])?,
-            Some(CommandLine::Document { line })
-        );
-        assert_eq!(rt;
-            line_of_words(rt.alloc(), &words(&rt, &[word])?)?,
-            Some(line)
-        );
-    }
-    assert_eq!(rt; line_of_words(rt.alloc(), &words(&rt, &["run"])?)?, None);
+    assert_eq!(rt; line_of(&rt, &["solve"])?, Some(CommandLine::Solve));
+    assert_eq!(rt; line_of(&rt, &["check"])?, Some(CommandLine::Check));
     let run = |readers, reads| Some(CommandLine::Run { readers, reads });
     assert_eq!(rt; line_of(&rt, &["run"])?, run(2, 4));
     assert_eq!(rt;
@@ -68,7 +59,6 @@ fn lines_of_two_parts_are_read(rt: HostRuntime) -> Result<(), OutOfMemory> {
     ] {
         assert_eq!(rt; line_of(&rt, &[word])?, Some(line));
         assert_eq!(rt; line_of(&rt, &[word, "1"])?, None);
-        assert_eq!(rt; line_of_words(rt.alloc(), &words(&rt, &[word])?)?, None);
     }
     let (window, headroom) = (1_000, 100);
     assert_eq!(rt;
@@ -91,11 +81,7 @@ fn lines_of_two_parts_are_read(rt: HostRuntime) -> Result<(), OutOfMemory> {
 
 #[test]
 fn a_share_is_read(rt: HostRuntime) -> Result<(), OutOfMemory> {
-    let levels = |share| {
-        Some(CommandLine::Document {
-            line: Line::Levels { share },
-        })
-    };
+    let levels = |share| Some(CommandLine::Levels { share });
     assert_eq!(rt; line_of(&rt, &["levels", "0"])?, levels(0));
     assert_eq!(rt;
         line_of(&rt, &["levels", "00000000001000000000"])?,

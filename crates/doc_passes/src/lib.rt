@@ -17,6 +17,3 @@ pub use name_table::NameTable;
 pub use numbers::{DocumentNumbers, document_numbers};
 pub use range::check_ranges;
 pub use repeats::fill_tables;
-
-#[cfg(test)]
-mod tests;

@@ -41,13 +41,11 @@ fn a_look_tells_where_a_value_changes(rt: HostRuntime) -> Result<(), Fail> {
     let fast = BwFunction::new(alloc, &[(0, 0), (10, 50)], 10)?;
     let values = (slow.value(4), fast.value(4));
     let alone = slow.look(4);
-    let guesses = (slow.guess(2), slow.guess(4), slow.guess(5));
     let parts = [slow, fast];
     let sum = look_at(&parts, 4);
     let [_, _] = parts;
     assert_eq!(rt; values, (2, 20));
     assert_eq!(rt; alone, look(2, 5, 3));
-    assert_eq!(rt; guesses, (Some(5), Some(9), Some(10)));
     assert_eq!(rt; sum, look(22, 4, 27));
     Ok(())
 }

@@ -1,29 +1,69 @@
--- A text that was due, and the writing of it, end a run.
-use Rattle.std.proofs.Common.{◌≡◌, ◌∙◌, ap, refl, subst, sym, true≢false, is_some, ℕ, List, Option, Some, None}
-use Rattle.std.specs.Io.KnownBytes.{Keeps}
-use Rattle.one_run.specs.Endings.{Run, Reply, IsDue, Ending, UnreadEnding, Writes, done, write_fault, whole, partly, told}
-
-pub Ending-writes : {Line : Type 0} {run : Run Line} {limit : ℕ} {usage too_long : List ℕ} {status result : ℕ} {text : List ℕ}
-    → IsDue run limit usage too_long status text
-    → Writes status run.written run.written_after run.write_faults run.write_faults_after text result
-    → Ending run limit usage too_long result
-Ending-writes due (whole appended) = done due appended
-Ending-writes due (partly risen prefix) = write_fault due risen prefix
+-- What was read and what was written end a call.
+use Rattle.std.proofs.Common.{◌≡◌, ◌∙◌, ℕ, ◌+◌, ◌≤◌, Bool, true, false, ap, refl, subst, sym, true≢false, is_some, List, length, Option, Some, None, Result, Ok, Err, Vec, Global, IfOk, OnOk}
+use Rattle.std.specs.Prelude.{MatchResult, vec_len, IsErrOf}
+use Rattle.std.specs.Io.KnownBytes.{Consumes, IsAtEnd, Keeps}
+use Rattle.bwe_io.specs.Bytes.{Takes}
+use Rattle.bwe_io.specs.Faults.{HasRisen}
+use Rattle.bwe_io.specs.declared.source.ReadError.{ReadError}
+use Rattle.bwe_io.specs.declared.source.ReadError.TheVariants.{ReadFault, TooLong, OutOfMemory}
+use Rattle.one_run.specs.Endings.{Reply, Lines, Served, IsInput, whole, IsDue, answered, too_long, no_line, reads_input, Ending, done, read_fault, write_fault, out_of_memory, Writes, entirely, partly, IsSilent, max_input, too_long_line, usage_line}
 
 pub Keeps-same : (known : Option (List ℕ)) → Keeps known known
 Keeps-same None = tt
 Keeps-same (Some bytes) = refl
 
-abbrev pub reply_of : ℕ → List ℕ → Reply
-reply_of status text = record { status = status; text = text }
+-- all bytes to the end of input are an input
+pub read-whole : {S : Type 0} (left : S → Option (List ℕ)) (source source_after : S) (result : Result (Vec ℕ Global) ReadError)
+    → IfOk result (λ input. Consumes (left source) (left source_after) input.items) → OnOk result (IsAtEnd (left source_after)) → IfOk result (λ input. vec_len input ≤ max_input)
+    → IfOk result (λ input. IsInput left source source_after true input.items)
+read-whole left source source_after (Ok input) consumed end within = whole consumed end (rw input.ok.0 at within)
+read-whole left source source_after (Err error) consumed end within = tt
 
--- of a line there is nothing to say for words that are none
-pub is_no_line : {A : Type 0} {P : Type 0} (words : Option A) (line : A) → words ≡ Some line → words ≡ None → P
-is_no_line words line some none = absurd (true≢false (ap is_some (sym some ∙ none)))
+module _ {Line S K : Type 0} (lines : Lines Line) (line : Option Line) (served : Served S K) where
+  abbrev WritesAll : ℕ → List ℕ → ℕ → Type 0
+  WritesAll status text result =
+      Writes status text (served.written served.sink) (served.written served.sink_after) (served.write_faults served.sink) (served.write_faults served.sink_after) result
 
--- what was written is the reply
-pub UnreadEnding-writes : {reply : Reply} {written written_after : Option (List ℕ)} {faults faults_after status result : ℕ} {text : List ℕ}
-    → reply_of status text ≡ reply → Writes status written written_after faults faults_after text result
-    → UnreadEnding reply written written_after faults faults_after result
-UnreadEnding-writes {reply} {written} {written_after} {faults} {faults_after} {status} {result} {text} same writes =
-    subst (λ (due : Reply). UnreadEnding due written written_after faults faults_after result) same (told writes)
+  abbrev IsStill : ℕ → ℕ → Type 0
+  IsStill due result = IsSilent due (served.written served.sink) (served.written served.sink_after) result
+
+  -- a text that was due, and the writing of it
+  pub ending-writes : {status result : ℕ} {text : List ℕ} → IsDue lines line served status text → WritesAll status text result → Ending lines line served result
+  ending-writes due (entirely appended) = done due appended
+  ending-writes due (partly risen prefix) = write_fault due risen prefix
+
+  -- words that are no line
+  pub ending-usage : {result : ℕ} → line ≡ None → served.source_after ≡ served.source → WritesAll 2 usage_line result → Ending lines line served result
+  ending-usage none same writes = ending-writes (no_line none same) writes
+
+  -- want of memory before anything was read
+  pub ending-unparsed : served.source_after ≡ served.source → Keeps (served.written served.sink) (served.written served.sink_after) → Ending lines line served 6
+  ending-unparsed same keeps = out_of_memory (λ _. same) keeps
+
+  module _ (is : Line) (same : line ≡ Some is) where
+    unread : (lines.reads is ≡ false → served.source_after ≡ served.source) → reads_input lines line ≡ false → served.source_after ≡ served.source
+    unread untouched reads = untouched (sym (ap (reads_input lines) same) ∙ reads)
+
+    -- the answer for an input, or want of memory for it
+    pub ending-finished : {E : Type 0} {input : List ℕ} {result : ℕ} → (lines.reads is ≡ false → served.source_after ≡ served.source)
+        → IsInput served.left served.source served.source_after (lines.reads is) input
+        → (answer : Result Reply E) → IfOk answer (λ reply. lines.replies is input reply)
+        → MatchResult answer (λ reply. WritesAll reply.status reply.text result) (λ _. IsStill 6 result)
+        → Ending lines line served result
+    ending-finished untouched input (Ok reply) replied writes = ending-writes (answered same input replied) writes
+    ending-finished untouched input (Err error) replied still =
+        subst (λ status. Ending lines line served status) (sym still.status_is) (out_of_memory (unread untouched) still.keeps)
+
+    -- an input that could not be read
+    pub ending-refused : {result : ℕ} → (lines.reads is ≡ false → served.source_after ≡ served.source) → (error : ReadError)
+        → (error ≡ ReadFault → (lines.reads is ≡ true) × HasRisen (served.read_faults served.source) (served.read_faults served.source_after))
+        → (error ≡ TooLong → (lines.reads is ≡ true) × Takes (max_input + 1) (served.left served.source) (served.left served.source_after))
+        → (error ≡ ReadFault → IsStill 4 result) → (error ≡ TooLong → WritesAll 8 too_long_line result) → (error ≡ OutOfMemory → IsStill 6 result)
+        → Ending lines line served result
+    ending-refused untouched ReadFault risen taken fault long memory =
+        subst (λ status. Ending lines line served status) (sym (fault refl).status_is)
+        (read_fault same (risen refl).0 (risen refl).1 (fault refl).keeps)
+    ending-refused untouched TooLong risen taken fault long memory =
+        ending-writes (too_long same (taken refl).0 (taken refl).1) (long refl)
+    ending-refused untouched OutOfMemory risen taken fault long memory =
+        subst (λ status. Ending lines line served status) (sym (memory refl).status_is) (out_of_memory (unread untouched) (memory refl).keeps)

@@ -1,5 +1,5 @@
--- How a run may end: a row of the table of statuses for each way.
-use Rattle.std.specs.Prelude.{◌≡◌, ℕ, ◌+◌, ◌≤◌, List, length, Option, Some, None}
+-- How a call may end: a row of the table of statuses for each way.
+use Rattle.std.specs.Prelude.{◌≡◌, ℕ, ◌+◌, ◌≤◌, Bool, true, false, List, [], length, codes, Option, Some, None, Result, Ok, Err}
 use Rattle.std.specs.Io.KnownBytes.{Appends, Consumes, IsAtEnd, Keeps}
 use Rattle.bwe_io.specs.Faults.{HasRisen}
 use Rattle.bwe_io.specs.Bytes.{AppendsPrefix, Takes}
@@ -9,57 +9,81 @@ pub record Reply : Type 0 where
   pub status : ℕ
   pub text : List ℕ
 
--- a run as it is seen from outside: the line that the words are, what each input of a line may get, and the source and the
--- sink before and after. What they don't tell is None.
-pub record Run (Line : Type 0) : Type 1 where
-  pub line : Option Line
+-- the most bytes of an input
+abbrev pub max_input : ℕ
+max_input = 67_108_864
+
+-- the line for words that are no command line
+abbrev pub usage_line : List ℕ
+usage_line = codes "usage: bwe solve | check | run [--readers N] [--reads N] | make SEED GROUPS TASKS | bulk SEED GROUPS TASKS | audit | tiers | enforce | estimate WINDOW HEADROOM | levels SHARE\n"
+
+-- the line for an input that has more bytes
+abbrev pub too_long_line : List ℕ
+too_long_line = codes "refused input longer than 67108864 bytes\n"
+
+-- the lines of a program: which of them read an input, and what one may get for its input
+pub record Lines (Line : Type 0) : Type 1 where
+  pub reads : Line → Bool
   pub replies : Line → List ℕ → Reply → Type 0
-  pub left : Option (List ℕ)
-  pub left_after : Option (List ℕ)
-  pub read_faults : ℕ
-  pub read_faults_after : ℕ
-  pub written : Option (List ℕ)
-  pub written_after : Option (List ℕ)
-  pub write_faults : ℕ
-  pub write_faults_after : ℕ
 
--- the run was due to write this text, and to end with this status
-pub data IsDue {Line : Type 0} (run : Run Line) (limit : ℕ) (usage too_long : List ℕ) : ℕ → List ℕ → Type 0 where
+-- a call as it is seen from outside: its source and its sink before and after, and what they tell of themselves
+pub record Served (S K : Type 0) : Type 0 where
+  pub source : S
+  pub source_after : S
+  pub left : S → Option (List ℕ)
+  pub read_faults : S → ℕ
+  pub sink : K
+  pub sink_after : K
+  pub written : K → Option (List ℕ)
+  pub write_faults : K → ℕ
+
+-- what was taken in: the whole input of a line that reads one, and nothing for another
+pub data IsInput {S : Type 0} (left : S → Option (List ℕ)) (source source_after : S) : Bool → List ℕ → Type 0 where
+  nothing : source_after ≡ source → IsInput left source source_after false []
+  whole : {input : List ℕ} → Consumes (left source) (left source_after) input → IsAtEnd (left source_after)
+      → length input ≤ max_input → IsInput left source source_after true input
+
+-- a text and a status were due
+pub data IsDue {Line S K : Type 0} (lines : Lines Line) (line : Option Line) (served : Served S K) : ℕ → List ℕ → Type 0 where
   -- the words are no line: nothing is read
-  no_line : run.line ≡ None → run.left_after ≡ run.left → IsDue run limit usage too_long 2 usage
-  -- the input was read to its end: what the line gives for it
-  read_whole : {line : Line} {input : List ℕ} {reply : Reply} → run.line ≡ Some line → Consumes run.left run.left_after input
-      → IsAtEnd run.left_after → length input ≤ limit → run.replies line input reply
-      → IsDue run limit usage too_long reply.status reply.text
+  no_line : line ≡ None → served.source_after ≡ served.source → IsDue lines line served 2 usage_line
+  -- what the line may get for its input
+  answered : {is : Line} {input : List ℕ} {reply : Reply} → line ≡ Some is
+      → IsInput served.left served.source served.source_after (lines.reads is) input → lines.replies is input reply
+      → IsDue lines line served reply.status reply.text
   -- the source gave a byte more than an input may have, and that was all that was taken
-  read_too_much : {line : Line} → run.line ≡ Some line → Takes (limit + 1) run.left run.left_after
-      → IsDue run limit usage too_long 8 too_long
+  too_long : {is : Line} → line ≡ Some is → lines.reads is ≡ true
+      → Takes (max_input + 1) (served.left served.source) (served.left served.source_after)
+      → IsDue lines line served 8 too_long_line
 
--- the run ended with this status
-pub data Ending {Line : Type 0} (run : Run Line) (limit : ℕ) (usage too_long : List ℕ) : ℕ → Type 0 where
-  -- the text was written whole
-  done : {status : ℕ} {text : List ℕ} → IsDue run limit usage too_long status text → Appends run.written run.written_after text
-      → Ending run limit usage too_long status
+-- whether there is an input to read
+abbrev pub reads_input : {Line : Type 0} → Lines Line → Option Line → Bool
+reads_input lines None = false
+reads_input lines (Some line) = lines.reads line
+
+-- the call ended with this status
+pub data Ending {Line S K : Type 0} (lines : Lines Line) (line : Option Line) (served : Served S K) : ℕ → Type 0 where
+  -- the text that was due was written whole
+  done : {status : ℕ} {text : List ℕ} → IsDue lines line served status text
+      → Appends (served.written served.sink) (served.written served.sink_after) text → Ending lines line served status
   -- the source failed, and nothing was written
-  read_fault : {line : Line} → run.line ≡ Some line → HasRisen run.read_faults run.read_faults_after
-      → Keeps run.written run.written_after → Ending run limit usage too_long 4
-  -- the sink failed, and a prefix of the text was written
-  write_fault : {status : ℕ} {text : List ℕ} → IsDue run limit usage too_long status text
-      → HasRisen run.write_faults run.write_faults_after → AppendsPrefix run.written run.written_after text
-      → Ending run limit usage too_long 5
-  -- memory was wanting, and nothing was written; where the words are no line, nothing was read either
-  out_of_memory : (run.line ≡ None → run.left_after ≡ run.left) → Keeps run.written run.written_after
-      → Ending run limit usage too_long 6
+  read_fault : {is : Line} → line ≡ Some is → lines.reads is ≡ true
+      → HasRisen (served.read_faults served.source) (served.read_faults served.source_after)
+      → Keeps (served.written served.sink) (served.written served.sink_after) → Ending lines line served 4
+  -- the sink failed, and a prefix of the text that was due was written
+  write_fault : {status : ℕ} {text : List ℕ} → IsDue lines line served status text
+      → HasRisen (served.write_faults served.sink) (served.write_faults served.sink_after)
+      → AppendsPrefix (served.written served.sink) (served.written served.sink_after) text → Ending lines line served 5
+  -- memory was wanting, and nothing was written; where there is no input to read, nothing was read either
+  out_of_memory : (reads_input lines line ≡ false → served.source_after ≡ served.source)
+      → Keeps (served.written served.sink) (served.written served.sink_after) → Ending lines line served 6
 
 -- the text was written whole, with the status that it was due with; or the sink failed, with status 5
-pub data Writes (status : ℕ) (written written_after : Option (List ℕ)) (faults faults_after : ℕ) (text : List ℕ) : ℕ → Type 0 where
-  whole : Appends written written_after text → Writes status written written_after faults faults_after text status
-  partly : HasRisen faults faults_after → AppendsPrefix written written_after text
-      → Writes status written written_after faults faults_after text 5
+pub data Writes (status : ℕ) (text : List ℕ) (written written_after : Option (List ℕ)) (faults faults_after : ℕ) : ℕ → Type 0 where
+  entirely : Appends written written_after text → Writes status text written written_after faults faults_after status
+  partly : HasRisen faults faults_after → AppendsPrefix written written_after text → Writes status text written written_after faults faults_after 5
 
--- the run of a line that reads nothing ended with this status: its reply was written, or its text in part; or memory was
--- wanting, and nothing was written
-pub data UnreadEnding (reply : Reply) (written written_after : Option (List ℕ)) (faults faults_after : ℕ) : ℕ → Type 0 where
-  told : {status : ℕ} → Writes reply.status written written_after faults faults_after reply.text status
-      → UnreadEnding reply written written_after faults faults_after status
-  untold : Keeps written written_after → UnreadEnding reply written written_after faults faults_after 6
+-- nothing was written
+pub record IsSilent (due : ℕ) (written written_after : Option (List ℕ)) (status : ℕ) : Type 0 where
+  pub status_is : status ≡ due
+  pub keeps : Keeps written written_after

@@ -29,6 +29,3 @@ pub use doc_passes::What;
 pub use document::{Document, read_document};
 pub use raw_document::{DocKey, DocPath, PathStep};
 pub use refusal_text::refusal_line;
-
-#[cfg(test)]
-mod tests;

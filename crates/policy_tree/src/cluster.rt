@@ -12,9 +12,9 @@ use crate::job::transform_of;
 use crate::siblings::Siblings;
 use crate::spec::{ClusterSpec, UserSpec};
 use crate::user::UserNode;
-use crate::value::{guess_at, last_share_at, look_at, rebuild, value_at};
+use crate::value::{add_bends_of, last_share_at, look_at, near_at, stretch_of, value_at};
 use bwe_specs::{MAX_AMOUNT, MAX_TASKS, OutOfMemory};
-use function_sum::{Look, ShareFunction};
+use function_sum::{Look, Outline, ShareFunction, Stretch};
 use share_transform::Transform;
 use std::alloc::Global;
 use std::marker::Model;
@@ -24,6 +24,7 @@ use std::marker::Model;
 pub struct ClusterNode {
     transform: Option<Transform>,
     users: Vec<UserNode>,
+    outline: Outline,
 }
 
 impl Model for ClusterNode {
@@ -50,7 +51,12 @@ impl ClusterNode {
         let ClusterSpec { function, users } = spec;
         let transform = transform_of(alloc, function)?;
         let users = user_nodes(alloc, users)?;
-        Ok(ClusterNode { transform, users })
+        let outline = Outline::new(alloc, users.len() > 1)?;
+        Ok(ClusterNode {
+            transform,
+            users,
+            outline,
+        })
     }
 
     /// The users, in the order of their numbers.
@@ -101,15 +107,22 @@ impl ClusterNode {
         self.users[user].task_value(job, task, share)
     }
 
-    /// Makes the value cheap again.
-    pub(crate) fn rematch(&mut self)
+    /// Makes the value cheap again: searches begin along a new outline of the users.
+    pub(crate) fn rematch(&mut self, top: u64)
         ensures { self.new ≡ self.old }
     {
-        rematch_users(self.users.as_mut_slice());
-        let users = Siblings {
+        rematch_users(self.users.as_mut_slice(), top);
+        self.outline.redraw(self.users.as_slice(), top);
+    }
+
+    /// The users as a share function.
+    pub fn siblings(&self) -> Siblings<'_, UserNode>
+        ensures { result.nodes.now ≡ self.now.users }
+    {
+        Siblings {
             nodes: self.users.as_slice(),
-        };
-        rebuild(&mut self.transform, &users);
+            outline: &self.outline,
+        }
     }
 }
 
@@ -117,31 +130,27 @@ impl ShareFunction for ClusterNode {
     ghost meaning = { cluster_meaning };
 
     fn value(&self, share: u64) -> u64 {
-        let users = Siblings {
-            nodes: self.users.as_slice(),
-        };
-        value_at(&self.transform, &users, share)
+        value_at(&self.transform, &self.siblings(), share)
     }
 
     fn look(&self, share: u64) -> Look {
-        let users = Siblings {
-            nodes: self.users.as_slice(),
-        };
-        look_at(&self.transform, &users, share)
-    }
-
-    fn guess(&self, amount: u64) -> Option<u64> {
-        let users = Siblings {
-            nodes: self.users.as_slice(),
-        };
-        guess_at(&self.transform, &users, amount)
+        look_at(&self.transform, &self.siblings(), share)
     }
 
     fn last_share_within(&self, amount: u64, top: u64) -> Option<u64> {
-        let users = Siblings {
-            nodes: self.users.as_slice(),
-        };
-        last_share_at(&self.transform, &users, amount, top)
+        last_share_at(&self.transform, &self.siblings(), amount, top)
+    }
+
+    fn near(&self, share: u64) -> u64 {
+        near_at(&self.transform, &self.siblings(), share)
+    }
+
+    fn add_bends(&self, outline: &mut Outline) {
+        add_bends_of(&self.transform, &self.siblings(), outline);
+    }
+
+    fn stretch(&self, amount: u64) -> Option<Stretch> {
+        stretch_of(&self.transform, &self.siblings(), amount)
     }
 }
 
@@ -179,19 +188,19 @@ pub(crate) fn cluster_nodes(
 }
 
 /// Makes the value of each cluster cheap again.
-pub(crate) fn rematch_all(clusters: &mut [ClusterNode])
+pub(crate) fn rematch_all(clusters: &mut [ClusterNode], top: u64)
     ensures { clusters.new ≡ clusters.old }
 {
     for cluster in clusters.iter_mut() {
-        cluster.rematch();
+        cluster.rematch(top);
     }
 }
 
 // Makes the value of each user cheap again.
-fn rematch_users(users: &mut [UserNode])
+fn rematch_users(users: &mut [UserNode], top: u64)
     ensures { users.new ≡ users.old }
 {
     for user in users.iter_mut() {
-        user.rematch();
+        user.rematch(top);
     }
 }

@@ -9,11 +9,11 @@ ghost use Rattle.policy_tree.specs.Changes.{job_with};
 ghost use Rattle.policy_tree.specs.Seen.{value_at};
 
 use crate::spec::JobSpec;
-use crate::value::{guess_at, last_share_at, look_at, value_at};
+use crate::value::{add_bends_of, last_share_at, look_at, near_at, stretch_of, value_at};
 use bw_function::BwFunction;
 use bwe_specs::{MAX_AMOUNT, MAX_TASKS, OutOfMemory};
 use capped_sum::CappedSum;
-use function_sum::{Look, ShareFunction};
+use function_sum::{Look, Outline, ShareFunction, Stretch};
 use share_transform::Transform;
 use std::alloc::Global;
 use std::marker::Model;
@@ -120,12 +120,20 @@ impl ShareFunction for JobNode {
         look_at(&self.transform, &self.sum, share)
     }
 
-    fn guess(&self, amount: u64) -> Option<u64> {
-        guess_at(&self.transform, &self.sum, amount)
-    }
-
     fn last_share_within(&self, amount: u64, top: u64) -> Option<u64> {
         last_share_at(&self.transform, &self.sum, amount, top)
+    }
+
+    fn near(&self, share: u64) -> u64 {
+        near_at(&self.transform, &self.sum, share)
+    }
+
+    fn add_bends(&self, outline: &mut Outline) {
+        add_bends_of(&self.transform, &self.sum, outline);
+    }
+
+    fn stretch(&self, amount: u64) -> Option<Stretch> {
+        stretch_of(&self.transform, &self.sum, amount)
     }
 }
 

@@ -7,31 +7,32 @@
 //! most `MAX_TOTAL` at the top.
 //!
 //! What a value costs: without configured functions one sum a job, each a search in the job's order of demands. A node
-//! with a configured function looks its inner share up, and each look is a value of each of its children. So with
-//! functions on all three levels the looks of the levels multiply. They are few, since a value comes with guesses
-//! (`function_sum::Look`) of the last share at which it stays the same and of what it is after that: a job's order of
-//! demands is turned round, so that its own look-up takes two sums; and a user or a cluster that sees a value below what
-//! it may give looks next where that value ends, and not at halves of the way there. Each search begins at the share that
-//! the matched pairs beside it say, or its only child. It never takes more than 62 looks, and takes two at a matched share
-//! where nothing changed since `rematch`. Measured with one cluster of one user with three jobs, functions of four points
-//! on all three levels, weights from 1 to 10, demands set and then `rematch`, at 200 shares of ten made trees for each row:
+//! with a configured function looks its inner share up. A job tells it without a search, by its order of demands turned
+//! round, and so does a chain of single children over one job. Another node searches, and each look is a look at each of
+//! its children, so with functions on all three levels the looks of the levels multiply. They are few: `rematch` draws of
+//! each node's children an outline (`function_sum::Outline`), whose points are at the shares where the children's
+//! functions have theirs and where a child has all that it may have. A search begins where the outline meets the amount,
+//! and a look comes with guesses of the last share at which the value stays the same and of what it is after that. It
+//! never takes more than 62 looks. A `rematch` itself takes no search: some values of functions for each point, at most 64
+//! points a node, and a sort of the demands of each job that was told a new one.
+//! Measured by a plain model that looks as this code does, with one cluster of one user with three jobs, functions of four
+//! points on all three levels, weights from 1 to 10, at 200 shares of ten made trees for each row:
 //!
 //! | top | amounts up to some | tasks a job | sums of each job for one group value | at most |
 //! |---|---|---|---|---|
-//! | 1,000 | 10,000,000 | 20 | 16 | 62 |
-//! | 1,000,000 | 10,000,000 | 20 | 33 | 124 |
-//! | 1,000,000 | 10,000,000 | 1,000 | 37 | 118 |
-//! | 1,000,000,000 | 1,000,000,000 | 20 | 36 | 156 |
-//! | 1,000,000,000 | 10,000,000 | 20 | 33 | 118 |
-//! | 1,000,000,000 | 10,000,000 | 1,000 | 35 | 128 |
-//! | 1,000,000,000 | 100,000 | 20 | 31 | 128 |
+//! | 1,000 | 10,000,000 | 20 | 11 | 36 |
+//! | 1,000,000 | 10,000,000 | 20 | 14 | 45 |
+//! | 1,000,000 | 10,000,000 | 1,000 | 19 | 77 |
+//! | 1,000,000,000 | 1,000,000,000 | 20 | 13 | 38 |
+//! | 1,000,000,000 | 10,000,000 | 20 | 15 | 45 |
+//! | 1,000,000,000 | 10,000,000 | 1,000 | 17 | 40 |
+//! | 1,000,000,000 | 100,000 | 20 | 15 | 48 |
 //!
-//! With weights of 1 they are fewer, with weights up to 1,000 up to 51 on average and 214 at most. With five users the
-//! fifth row has 36 and 264 at most. Where the nodes' functions go up to as much as their tasks may have together, the
-//! averages are from 5 to 38, and at most 142, or 285 with five users. A `rematch` after which nothing changed takes up to
-//! 940 sums of a job in such trees.
-//! A changed demand makes the sum of its own job slow until the next `rematch`, and no other; that job has no guess until
-//! then. A node is looked up by its number in the order of the numbers.
+//! With weights up to 1,000 the fifth row has 18 and 90 at most, with five users 36 and 141. With four users, and nodes'
+//! functions that go up to as much as their tasks may have together, the second and the fifth row have 18 and 33, and at
+//! most 57 and 87.
+//! A changed demand makes the sum of its own job slow until the next `rematch`, and no other. A node is looked up by its
+//! number in the order of the numbers.
 //! Nothing is promised of that cost in a contract, nor of how values are kept.
 #![tactic(auto)]
 
@@ -54,6 +55,7 @@ pub use cluster::ClusterNode;
 pub use fault::{TreeError, TreeFault};
 pub use job::JobNode;
 pub use kind::Kind;
+pub use siblings::Siblings;
 pub use spec::{ClusterSpec, JobSpec, TreeSpec, UserSpec};
 pub use tree::PolicyTree;
 pub use user::UserNode;

@@ -102,7 +102,7 @@ impl PolicyTree {
     pub fn rematch(&mut self)
         ensures { self.new ≡ self.old }
     {
-        rematch_all(self.clusters.as_mut_slice());
+        rematch_all(self.clusters.as_mut_slice(), self.top);
     }
 
     /// What a task asks for, in kilobits per second. At first it is 0.

@@ -11,9 +11,9 @@ ghost use Rattle.policy_tree.specs.Changes.{job_at, user_with};
 use crate::job::{JobNode, transform_of};
 use crate::siblings::Siblings;
 use crate::spec::{JobSpec, UserSpec};
-use crate::value::{guess_at, last_share_at, look_at, rebuild, value_at};
+use crate::value::{add_bends_of, last_share_at, look_at, near_at, stretch_of, value_at};
 use bwe_specs::{MAX_AMOUNT, MAX_TASKS, OutOfMemory};
-use function_sum::{Look, ShareFunction};
+use function_sum::{Look, Outline, ShareFunction, Stretch};
 use share_transform::Transform;
 use std::alloc::Global;
 use std::marker::Model;
@@ -23,6 +23,7 @@ use std::marker::Model;
 pub struct UserNode {
     transform: Option<Transform>,
     jobs: Vec<JobNode>,
+    outline: Outline,
 }
 
 impl Model for UserNode {
@@ -48,7 +49,12 @@ impl UserNode {
         let UserSpec { function, jobs } = spec;
         let transform = transform_of(alloc, function)?;
         let jobs = job_nodes(alloc, jobs)?;
-        Ok(UserNode { transform, jobs })
+        let outline = Outline::new(alloc, jobs.len() > 1)?;
+        Ok(UserNode {
+            transform,
+            jobs,
+            outline,
+        })
     }
 
     /// The jobs, in the order of their numbers.
@@ -89,15 +95,22 @@ impl UserNode {
         self.jobs[job].task_value(task, share)
     }
 
-    /// Makes the value cheap again.
-    pub(crate) fn rematch(&mut self)
+    /// Makes the value cheap again: searches begin along a new outline of the jobs.
+    pub(crate) fn rematch(&mut self, top: u64)
         ensures { self.new ≡ self.old }
     {
         rematch_jobs(self.jobs.as_mut_slice());
-        let jobs = Siblings {
+        self.outline.redraw(self.jobs.as_slice(), top);
+    }
+
+    /// The jobs as a share function.
+    pub fn siblings(&self) -> Siblings<'_, JobNode>
+        ensures { result.nodes.now ≡ self.now.jobs }
+    {
+        Siblings {
             nodes: self.jobs.as_slice(),
-        };
-        rebuild(&mut self.transform, &jobs);
+            outline: &self.outline,
+        }
     }
 }
 
@@ -105,31 +118,27 @@ impl ShareFunction for UserNode {
     ghost meaning = { user_meaning };
 
     fn value(&self, share: u64) -> u64 {
-        let jobs = Siblings {
-            nodes: self.jobs.as_slice(),
-        };
-        value_at(&self.transform, &jobs, share)
+        value_at(&self.transform, &self.siblings(), share)
     }
 
     fn look(&self, share: u64) -> Look {
-        let jobs = Siblings {
-            nodes: self.jobs.as_slice(),
-        };
-        look_at(&self.transform, &jobs, share)
-    }
-
-    fn guess(&self, amount: u64) -> Option<u64> {
-        let jobs = Siblings {
-            nodes: self.jobs.as_slice(),
-        };
-        guess_at(&self.transform, &jobs, amount)
+        look_at(&self.transform, &self.siblings(), share)
     }
 
     fn last_share_within(&self, amount: u64, top: u64) -> Option<u64> {
-        let jobs = Siblings {
-            nodes: self.jobs.as_slice(),
-        };
-        last_share_at(&self.transform, &jobs, amount, top)
+        last_share_at(&self.transform, &self.siblings(), amount, top)
+    }
+
+    fn near(&self, share: u64) -> u64 {
+        near_at(&self.transform, &self.siblings(), share)
+    }
+
+    fn add_bends(&self, outline: &mut Outline) {
+        add_bends_of(&self.transform, &self.siblings(), outline);
+    }
+
+    fn stretch(&self, amount: u64) -> Option<Stretch> {
+        stretch_of(&self.transform, &self.siblings(), amount)
     }
 }
 

@@ -7,9 +7,9 @@ ghost use Rattle.function_sum.specs.Meaning.{IsMeaning};
 ghost use Rattle.policy_tree.specs.States.{transformed, configured_by, IsKeptFunction};
 
 use bw_function::BwFunction;
-use function_sum::{Look, ShareFunction, last_share_guess};
+use function_sum::{Look, Outline, ShareFunction, Stretch};
 use mono_search::Steps;
-use share_transform::Transform;
+use share_transform::{Transform, meeting_of};
 use std::marker::Brand;
 use std::sync::ledger::{Blank, Ledger};
 
@@ -22,8 +22,19 @@ pub(crate) fn value_at<P: ShareFunction>(transform: &Option<Transform>, sum: &P,
 {
     match transform {
         None => sum.value(share),
-        Some(transform) => transformed_look::<P, Brand>(transform, sum, share, Blank::new(1)).value,
+        Some(transform) => value_by_parent(transform.parent(), sum, share),
     }
+}
+
+// The sum at the inner share.
+fn value_by_parent<P: ShareFunction>(parent: &BwFunction, sum: &P, share: u64) -> u64
+    ensures value { result ≡ P.meaning sum.now
+        (inner_share parent.now.top parent.now.points (P.meaning sum.now) share) }
+    ensures meaning { IsMeaning (P.meaning sum.now) }
+{
+    let top = parent.top();
+    let met = meeting_of(sum, parent.value(share), top);
+    met.value
 }
 
 /// The same with guesses of what comes after.
@@ -39,20 +50,53 @@ pub(crate) fn look_at<P: ShareFunction>(transform: &Option<Transform>, sum: &P, 
     }
 }
 
-/// A guess of the last share at which the value is at most so much: where the configured function
-/// is, or without one the children's sum.
-pub(crate) fn guess_at<P: ShareFunction>(
+/// About the value at a share: what the configured function gives, and at most about the
+/// children's sum at the top.
+pub(crate) fn near_at<P: ShareFunction>(transform: &Option<Transform>, sum: &P, share: u64) -> u64 {
+    match transform {
+        None => sum.near(share),
+        Some(transform) => {
+            let parent = transform.parent();
+            parent.value(share).min(sum.near(parent.top()))
+        }
+    }
+}
+
+/// Adds the shares at which the value bends: where the configured function does, and where it gets
+/// past about the children's sum at the top.
+pub(crate) fn add_bends_of<P: ShareFunction>(
+    transform: &Option<Transform>,
+    sum: &P,
+    outline: &mut Outline,
+) {
+    match transform {
+        None => sum.add_bends(outline),
+        Some(transform) => {
+            let parent = transform.parent();
+            outline.add_points(parent);
+            let most = sum.near(parent.top());
+            outline.add(parent.last_share_within(most, parent.top()));
+        }
+    }
+}
+
+/// Where the value is about to be above an amount: where the configured function is, or without one
+/// the children's sum.
+pub(crate) fn stretch_of<P: ShareFunction>(
     transform: &Option<Transform>,
     sum: &P,
     amount: u64,
-) -> Option<u64>
-    requires { IsKeptFunction (configured_by transform.now) }
-    ensures meaning { IsMeaning (transformed (configured_by transform.now) (P.meaning sum.now)) }
-{
-    let of_sum = sum.guess(amount);
+) -> Option<Stretch> {
     match transform {
-        None => of_sum,
-        Some(transform) => Some(last_share_guess(transform.parent(), amount)),
+        None => sum.stretch(amount),
+        Some(transform) => {
+            let parent = transform.parent();
+            let share = parent.last_share_within(amount, parent.top());
+            Some(Stretch {
+                before: (share, amount),
+                after: (share.saturating_add(1), amount.saturating_add(1)),
+            })
+        }
     }
 }
 
@@ -98,15 +142,6 @@ fn last_by_parent<P: ShareFunction>(
             let next = sum.value(inner + 1);
             Some(parent.last_share_within(next - 1, top))
         }
-    }
-}
-
-/// Finds the inner shares anew, for the children as they are now.
-pub(crate) fn rebuild<P: ShareFunction>(transform: &mut Option<Transform>, sum: &P)
-    ensures { configured_by transform.new ≡ configured_by transform.old }
-{
-    if let Some(transform) = transform {
-        transform.rebuild(sum);
     }
 }
 

@@ -1,15 +1,17 @@
 //! The children of a node, each with its value at a share.
 
-ghost use Rattle.std.specs.Prelude.{◌≡◌, ℕ, ◌<◌, ◌≤◌, List, length, map, nat_le, IfSome, slice_index_or};
+ghost use Rattle.std.specs.Prelude.{◌≡◌, ℕ, ◌<◌, ◌≤◌, List, length, map, nat_le, slice_index_or};
 ghost use Rattle.bwe_specs.specs.Bounded.{greatest_upto};
 ghost use Rattle.bwe_specs.specs.Distribution.{children_sum};
 ghost use Rattle.capped_sum.specs.Index.{AreInRange};
 ghost use Rattle.function_sum.specs.Meaning.{IsMeaning};
 ghost use Rattle.push_down.specs.Limits.{tasks_values};
 
-use bwe_specs::MAX_TOTAL;
+use bwe_specs::{MAX_SHARE, MAX_TOTAL};
 use capped_sum::CappedSum;
 use function_sum::{ShareFunction, sum_at};
+use policy_tree::Siblings;
+use share_transform::meeting_of;
 
 /// The children of a node, in their order.
 pub(crate) trait Children {
@@ -24,11 +26,11 @@ pub(crate) trait Children {
         ensures sum { result ≡ children_sum (values self.now) share }
         ensures meaning { IsMeaning (children_sum (values self.now)) };
 
-    /// The greatest share up to `top` at which they may have together at most so much, or `None`
-    /// where only a search tells.
-    fn last_share_within(&self, amount: u64, top: u64) -> Option<u64>
-        ensures last { IfSome result (λ last. last ≡ greatest_upto top (λ share.
-            nat_le (children_sum (values self.now) share) amount)) }
+    /// The greatest share up to `top` at which they may have together at most so much.
+    fn last_share_within(&self, amount: u64, top: u64) -> u64
+        requires { top ≤ MAX_SHARE }
+        ensures last { result ≡ greatest_upto top (λ share.
+            nat_le (children_sum (values self.now) share) amount) }
         ensures meaning { IsMeaning (children_sum (values self.now)) };
 
     /// What one of them may have at a share.
@@ -38,14 +40,7 @@ pub(crate) trait Children {
         ensures bound { result ≤ MAX_TOTAL };
 }
 
-/// Nodes under one node.
-#[derive(Drop)]
-pub(crate) struct Nodes<'a, C: ShareFunction> {
-    pub(crate) nodes: &'a [C],
-    ghost is: { IsMeaning (children_sum (map C.meaning nodes.now)) },
-}
-
-impl<C: ShareFunction> Children for Nodes<'_, C> {
+impl<C: ShareFunction> Children for Siblings<'_, C> {
     ghost values = { λ children. map C.meaning children.nodes.now };
 
     fn count(&self) -> usize {
@@ -56,12 +51,8 @@ impl<C: ShareFunction> Children for Nodes<'_, C> {
         sum_at(self.nodes, share)
     }
 
-    fn last_share_within(&self, amount: u64, top: u64) -> Option<u64> {
-        if self.nodes.len() == 1 {
-            self.nodes[0].last_share_within(amount, top)
-        } else {
-            None
-        }
+    fn last_share_within(&self, amount: u64, top: u64) -> u64 {
+        meeting_of(self, amount, top).share
     }
 
     fn value(&self, place: usize, share: u64) -> u64 {
@@ -87,8 +78,8 @@ impl Children for Tasks<'_> {
         self.sum.value(share)
     }
 
-    fn last_share_within(&self, amount: u64, top: u64) -> Option<u64> {
-        self.sum.last_share_within(amount, top)
+    fn last_share_within(&self, amount: u64, top: u64) -> u64 {
+        meeting_of(self.sum, amount, top).share
     }
 
     fn value(&self, place: usize, share: u64) -> u64 {

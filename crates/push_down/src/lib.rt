@@ -1,10 +1,12 @@
 //! A group's amount, handed down to its tasks.
 //!
-//! `limit_table` and `tiers` call `distribute` for each group. It goes down the tree level by level: a node's amount is
+//! The allocator and `tiers` call `distribute` for each group. It goes down the tree level by level: a node's amount is
 //! given to its children by the Distribution rule, and what is left over goes to them in their order.
-//! The limits add up to the amount (the Conservation law). It looks the common share of each node's children up with at
-//! most 62 sums of them, and takes memory for the limits alone.
-//! Nothing is promised of which amounts groups get: that is `mpfa_solver`.
+//! The limits add up to the amount (the Conservation law). Of a job the common share of its tasks is told by the index of
+//! their demands, without a search; of another node it is looked for along the outline of its children, with at most 62
+//! looks at them. Then each child is asked for its value there, and at the next share while something is left.
+//! It takes memory for the limits alone.
+//! Nothing is promised of which amounts groups get: that is the solvers' promise.
 #![tactic(auto)]
 
 ghost use Rattle.std.specs.Prelude.{◌≡◌, ℕ, ◌+◌, ◌*◌, ◌<◌, ◌≤◌, length, map, sum, IfOk};
@@ -21,7 +23,7 @@ mod share;
 mod tests;
 
 use bwe_specs::{MAX_SHARE, MAX_TASKS, MAX_TOTAL, OutOfMemory};
-use children::{Nodes, Tasks};
+use children::Tasks;
 use policy_tree::{ClusterNode, JobNode, PolicyTree, UserNode};
 use share::shared_out;
 use std::alloc::Global;
@@ -70,12 +72,10 @@ fn cluster_limits_of(
     requires amount { amount ≤ MAX_TOTAL }
     ensures { IfOk result (λ limits. limits.items ≡ limits_of_cluster top cluster.now amount) }
 {
-    let users = Nodes {
-        nodes: cluster.users(),
-    };
-    let amounts = shared_out(alloc, &users, top, amount)?;
+    let users = cluster.users();
+    let amounts = shared_out(alloc, &cluster.siblings(), top, amount)?;
     let mut limits = Vec::new(alloc);
-    for (place, user) in users.nodes.iter().enumerate() {
+    for (place, user) in users.iter().enumerate() {
         let below = user_limits_of(alloc, user, top, amounts[place])?;
         limits.extend_from_slice(below.as_slice())?;
     }
@@ -93,10 +93,10 @@ fn user_limits_of(
     requires amount { amount ≤ 2 * MAX_TOTAL }
     ensures { IfOk result (λ limits. limits.items ≡ limits_of_user top user.now amount) }
 {
-    let jobs = Nodes { nodes: user.jobs() };
-    let amounts = shared_out(alloc, &jobs, top, amount)?;
+    let jobs = user.jobs();
+    let amounts = shared_out(alloc, &user.siblings(), top, amount)?;
     let mut limits = Vec::new(alloc);
-    for (place, job) in jobs.nodes.iter().enumerate() {
+    for (place, job) in jobs.iter().enumerate() {
         let below = job_limits_of(alloc, job, top, amounts[place])?;
         limits.extend_from_slice(below.as_slice())?;
     }

@@ -1,15 +1,11 @@
 //! An amount, shared out to the children of a node.
 
-ghost use Rattle.std.specs.Prelude.{◌≡◌, ℕ, ◌+◌, ◌-◌, ◌*◌, ◌<◌, ◌≤◌, nat_le, length, All, IfOk, true, false};
+ghost use Rattle.std.specs.Prelude.{◌≡◌, ℕ, ◌+◌, ◌-◌, ◌*◌, ◌<◌, ◌≤◌, length, min, All, IfOk, slice_index_or};
 ghost use Rattle.bwe_specs.specs.Distribution.{children_sum, common_share, distribution};
-ghost use Rattle.mono_search.specs.Level.{Falls};
 
 use crate::children::Children;
 use bwe_specs::{MAX_SHARE, MAX_TOTAL, OutOfMemory};
-use mono_search::{Level, Steps, greatest_fit};
 use std::alloc::Global;
-use std::marker::Brand;
-use std::sync::ledger::{Blank, Ledger};
 
 /// What each child gets of an amount: its value at the common share, and of the rest at most its growth to the next
 /// share.
@@ -25,52 +21,39 @@ pub(crate) fn shared_out<F: Children>(
         amounts.items ≡ distribution top (F.values children.now) amount) }
     ensures bound { IfOk result (λ amounts. All (λ given. given ≤ amount + MAX_TOTAL) amounts.items) }
 {
-    let share = share_for::<F, Brand>(children, top, amount, Blank::new(1));
+    let share = share_for(children, top, amount);
     let mut rest = amount - children.sum(share);
     let mut amounts = Vec::new(alloc);
     for place in 0..children.count() {
         let value = children.value(place, share);
-        let growth = children.value(place, share + 1).saturating_sub(value);
-        let more = rest.min(growth);
+        let more = more_for(children, place, share, value, rest);
         amounts.push(value + more)?;
         rest -= more;
     }
     Ok(amounts)
 }
 
-/// The shares at which children have together at most an amount.
-#[derive(Drop)]
-struct Fitting<'a, F: Children> {
-    children: &'a F,
-    amount: u64,
-}
-
-impl<F: Children> Level for Fitting<'_, F> {
-    ghost meaning = { λ fitting share.
-        nat_le (children_sum (F.values fitting.children.now) share) fitting.amount };
-
-    fn fits<L: Ledger>(&mut self, share: u64, steps: &mut Steps<L>) -> bool {
-        steps.tick();
-        self.children.sum(share) <= self.amount
-    }
-}
-
 // The greatest share at which the children have together at most the amount.
-fn share_for<F: Children, L: Ledger>(children: &F, top: u64, amount: u64, blank: Blank) -> u64
+fn share_for<F: Children>(children: &F, top: u64, amount: u64) -> u64
     requires top { top ≤ MAX_SHARE }
-    requires name { blank.name ≡ L.name }
-    requires parts { blank.parts ≡ L.parts }
-    requires some { 0 < L.parts }
     ensures share { result ≡ common_share top (F.values children.now) amount }
     ensures upto { result ≤ top }
     ensures fits { children_sum (F.values children.now) result ≤ amount }
 {
-    if let Some(share) = children.last_share_within(amount, top) {
-        return share;
+    let share = children.last_share_within(amount, top);
+    share
+}
+
+// What a child gets of the rest: at most its growth to the next share, which is asked for only where something is left.
+fn more_for<F: Children>(children: &F, place: usize, share: u64, value: u64, rest: u64) -> u64
+    requires place { place < length (F.values children.now) }
+    requires share { share ≤ MAX_SHARE }
+    ensures { result
+        ≡ min rest (slice_index_or (F.values children.now) place (λ share. 0) (share + 1) - value) }
+{
+    if rest == 0 {
+        return 0;
     }
-    let mut steps: Steps<L> = Steps::new(blank);
-    let mut fitting = Fitting { children, amount };
-    let at_start = children.sum(0);
-    prove!(at_start <= amount);
-    greatest_fit(&mut fitting, 0, top, top, &mut steps)
+    let growth = children.value(place, share + 1).saturating_sub(value);
+    rest.min(growth)
 }

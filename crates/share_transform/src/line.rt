@@ -2,7 +2,7 @@
 //!
 //! Nothing is promised of it: `Ends` alone say where the answer is.
 
-use function_sum::Look;
+use function_sum::{Look, Stretch};
 
 /// Which mark moved last.
 #[derive(Clone, Copy, Debug, PartialEq, Eq, Drop)]
@@ -57,13 +57,15 @@ pub(crate) struct Line {
 }
 
 impl Line {
-    /// The line through two marks. Its next share is the guess, if there is one.
-    pub(crate) fn new(low: Mark, high: Mark, guess: Option<u64>) -> Line {
+    /// The line along a stretch.
+    pub(crate) fn along(stretch: Stretch, amount: u64) -> Line {
+        let low = Mark::below(stretch.before.0, stretch.before.1, amount);
+        let high = Mark::above(stretch.after.0, stretch.after.1, amount);
         Line {
             low,
             high,
             moved: Moved::Neither,
-            next: guess.unwrap_or(crossing(low, high)),
+            next: crossing(low, high),
         }
     }
 

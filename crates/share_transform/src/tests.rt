@@ -6,7 +6,7 @@ ghost use Rattle.std.specs.Prelude.{◌≡◌, ◌<◌};
 
 use crate::Transform;
 use bw_function::BwFunction;
-use function_sum::{Look, ShareFunction};
+use function_sum::{Look, Outline, ShareFunction, Stretch};
 use mono_search::Steps;
 use std::cell::Cell;
 use std::marker::Brand;
@@ -99,14 +99,22 @@ impl<P: ShareFunction> ShareFunction for Counted<'_, P> {
         self.sum.look(share)
     }
 
-    fn guess(&self, amount: u64) -> Option<u64> {
-        self.sum.guess(amount)
-    }
-
     // Only a search tells, so that looks are counted.
     fn last_share_within(&self, amount: u64, _top: u64) -> Option<u64> {
-        let _ = self.sum.guess(amount);
+        let _ = self.sum.last_share_within(amount, 0);
         None
+    }
+
+    fn near(&self, share: u64) -> u64 {
+        self.sum.near(share)
+    }
+
+    fn add_bends(&self, outline: &mut Outline) {
+        self.sum.add_bends(outline);
+    }
+
+    fn stretch(&self, amount: u64) -> Option<Stretch> {
+        self.sum.stretch(amount)
     }
 }
 

@@ -13,16 +13,21 @@ from bwe_tools.rows import cell, read_demands, rows
 @click.command()
 @click.argument("links")
 @click.argument("demands", required=False)
-@click.option("--unit", type=click.Choice(["k", "M", "G", "T"]), default="k", show_default=True,
-              help="What a number without a unit counts: kbit/s, Mbit/s, Gbit/s or Tbit/s.")
+@click.option(
+    "--unit",
+    type=click.Choice(["k", "M", "G", "T"]),
+    default="k",
+    show_default=True,
+    help="What a number without a unit counts: kbit/s, Mbit/s, Gbit/s or Tbit/s.",
+)
 @convert.options
 def command(links, demands, unit, choices, map_file):
     """Make a document of two spreadsheets, saved as CSV, and write it to standard output.
 
     LINKS has the columns from, to and capacity, and may have name and length. DEMANDS has from, to
     and demand, and may have user, job, task and weight. Separators are commas, semicolons or tabs.
-    Rates are numbers, or have units, as 10G or 400 Mbit/s. A link gets its reverse, unless the sheet
-    has one that way back. Without DEMANDS each pair of sites gets the demand of --demand.
+    Rates are numbers, or have units, as 10G or 400 Mbit/s. A link gets its reverse, unless the
+    sheet has one that way back. Without DEMANDS each pair of sites gets the demand of --demand.
 
     Example: bwe-tools from-csv links.csv demands.csv > network.json
     """
@@ -38,7 +43,9 @@ def read_links(path: str, plain: str) -> Network:
         ends = [cell(row, end, where) for end in ("from", "to")]
         network.sites.update(zip(ends, ends))
         capacity = rate(row["capacity"], where, plain) if "capacity" in row else None
-        network.lines.append(Line(*ends, capacity, row.get("name"), length(row.get("length"), where)))
+        network.lines.append(
+            Line(*ends, capacity, row.get("name"), length(row.get("length"), where))
+        )
     return network
 
 

@@ -3,6 +3,7 @@
 from __future__ import annotations
 
 import io
+from math import isfinite
 from xml.etree.ElementTree import ParseError
 
 import click
@@ -18,9 +19,19 @@ PLAIN_KEYS = ("capacity", "bandwidth", "speed")
 
 @click.command()
 @click.argument("file")
-@click.option("--demands", metavar="CSV", help="A spreadsheet of demands with the columns of from-csv.")
-@click.option("--unit", type=click.Choice(["b", "k", "M", "G", "T"]), default="k", show_default=True,
-              help="What a number without a unit counts, in CSV and in edges that are not the Zoo's: bit/s to Tbit/s.")
+@click.option(
+    "--demands", metavar="CSV", help="A spreadsheet of demands with the columns of from-csv."
+)
+@click.option(
+    "--unit",
+    type=click.Choice(["b", "k", "M", "G", "T"]),
+    default="k",
+    show_default=True,
+    help=(
+        "What a number without a unit counts, in CSV and in edges that are not the Zoo's: bit/s to"
+        " Tbit/s."
+    ),
+)
 @convert.options
 def command(file, demands, unit, choices, map_file):
     """Make a document of a GraphML file and write it to standard output.
@@ -45,7 +56,7 @@ def read_graph(path: str, plain: str) -> Network:
         graph = networkx.read_graphml(io.BytesIO(data), force_multigraph=True)
     except ParseError as fault:
         raise ToolError(f"{path} is not XML: {fault}") from None
-    except (networkx.NetworkXError, KeyError, ValueError, TypeError, StopIteration) as fault:
+    except (networkx.NetworkXError, LookupError, ValueError, TypeError, StopIteration) as fault:
         raise ToolError(f"{path} is no GraphML that networkx reads: {fault}") from None
     network = Network(is_directed=graph.is_directed())
     for key, node in graph.nodes(data=True):
@@ -60,9 +71,10 @@ def read_graph(path: str, plain: str) -> Network:
 
 def place_of(node: dict):
     try:
-        return float(node["Longitude"]), float(node["Latitude"])
+        east, north = float(node["Longitude"]), float(node["Latitude"])
     except (KeyError, TypeError, ValueError):
         return None
+    return (east, north) if isfinite(east) and isfinite(north) else None
 
 
 def capacity_of(edge: dict, where: str, plain: str) -> int | None:

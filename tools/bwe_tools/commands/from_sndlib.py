@@ -4,6 +4,7 @@ from __future__ import annotations
 
 import re
 from decimal import Decimal, InvalidOperation
+from math import isfinite
 from xml.etree import ElementTree
 
 import click
@@ -18,8 +19,11 @@ SECTION = re.compile(r"^([A-Z_]+)\s*\(\s*$(.*?)^\)\s*$", re.MULTILINE | re.DOTAL
 
 @click.command()
 @click.argument("file")
-@click.option("--unit", type=click.Choice(["k", "M", "G", "T"]),
-              help="What its numbers count: kbit/s to Tbit/s.  [default: what the file says, else M]")
+@click.option(
+    "--unit",
+    type=click.Choice(["k", "M", "G", "T"]),
+    help="What its numbers count: kbit/s to Tbit/s.  [default: what the file says, else M]",
+)
 @convert.options
 def command(file, unit, choices, map_file):
     """Make a document of a network of SNDlib and write it to standard output.
@@ -37,7 +41,9 @@ def command(file, unit, choices, map_file):
     except UnicodeDecodeError:
         text = data.decode("iso-8859-1")
     is_xml = text.lstrip("\ufeff \r\n\t").startswith("<")
-    network = (read_xml if is_xml else read_native)(text.lstrip("\ufeff"), file, unit and unit.lower())
+    network = (read_xml if is_xml else read_native)(
+        text.lstrip("\ufeff"), file, unit and unit.lower()
+    )
     convert.write_document(network, choices, map_file)
 
 
@@ -52,21 +58,28 @@ class Reader:
             found = Decimal(text)
         except InvalidOperation:
             found = Decimal(-1)
-        if not 0 <= found < Decimal(10) ** 18:
+        if not (found.is_finite() and 0 <= found < Decimal(10) ** 18):
             raise ToolError(f"{self.path}: {where}: \"{text}\" is no number from 0 on")
         return found
 
     def amount(self, number: Decimal, where: str) -> int:
         amount = units.whole(number * self.size)
         if amount > units.MOST:
-            raise ToolError(f"{self.path}: {where}: {number} is above {units.MOST:,} kb/s, the most of a document")
+            raise ToolError(
+                f"{self.path}: {where}: {number} is above {units.MOST:,} kb/s, the most of a"
+                " document"
+            )
         return amount
 
     def place(self, key: str, east: str, north: str):
         try:
             self.network.places[key] = float(east), float(north)
+            if not all(map(isfinite, self.network.places[key])):
+                raise ValueError
         except ValueError:
-            raise ToolError(f"{self.path}: node \"{key}\": its coordinates are no numbers") from None
+            raise ToolError(
+                f"{self.path}: node \"{key}\": its coordinates are no numbers"
+            ) from None
 
     def link(self, key: str, source: str, target: str, installed: str | None, modules: list):
         where = f"link \"{key}\""
@@ -98,12 +111,19 @@ def read_xml(text: str, path: str, unit: str | None) -> Network:
         key = attribute(node, "id", path)
         reader.network.sites[key] = key
         if node.find("coordinates") is not None:
-            reader.place(key, node.findtext("coordinates/x", ""), node.findtext("coordinates/y", ""))
+            reader.place(
+                key, node.findtext("coordinates/x", ""), node.findtext("coordinates/y", "")
+            )
     for link in root.iterfind("networkStructure/links/link"):
         key = attribute(link, "id", path)
-        modules = [module.findtext("capacity", "").strip() for module in link.iterfind("additionalModules/addModule")]
+        modules = [
+            module.findtext("capacity", "").strip()
+            for module in link.iterfind("additionalModules/addModule")
+        ]
         installed = link.findtext("preInstalledModule/capacity", "").strip()
-        reader.link(key, child(link, "source", path), child(link, "target", path), installed, modules)
+        reader.link(
+            key, child(link, "source", path), child(link, "target", path), installed, modules
+        )
     for demand in root.iterfind("demands/demand"):
         key, routed = attribute(demand, "id", path), demand.findtext("routingUnit", "1").strip()
         ends = child(demand, "source", path), child(demand, "target", path)
@@ -154,5 +174,7 @@ def lines(section: str):
 def fields(words: list, path: str, kind: str, least: int):
     """Key, source, target, first number and the rest of `KEY ( SOURCE TARGET ) NUMBER ..`."""
     if len(words) < least or words[1] != "(" or words[4] != ")":
-        raise ToolError(f"{path}: the {kind} line \"{' '.join(words[:8])}\" is not as SNDlib has them")
+        raise ToolError(
+            f"{path}: the {kind} line \"{' '.join(words[:8])}\" is not as SNDlib has them"
+        )
     return words[0], words[2], words[3], words[5], words[6:]

@@ -14,7 +14,12 @@ MOST_OF_A_KIND = 5
 
 @click.command()
 @click.argument("file", default="-")
-@click.option("--all", "is_all", is_flag=True, help=f"Print all warnings of a kind, and not the first {MOST_OF_A_KIND}.")
+@click.option(
+    "--all",
+    "is_all",
+    is_flag=True,
+    help=f"Print all warnings of a kind, and not the first {MOST_OF_A_KIND}.",
+)
 def command(file, is_all):
     """Say why bwe refuses a document: the first fault with its line and column, what was likely
     meant, and the line that bwe itself prints. Of a document that bwe accepts, warn: tasks that
@@ -29,7 +34,13 @@ def command(file, is_all):
     """
     data = read_bytes(file)
     if len(data) > MOST_BYTES:
-        fault_line(file, "", f"longer than {MOST_BYTES:,} bytes", None, f"refused input longer than {MOST_BYTES} bytes")
+        fault_line(
+            file,
+            "",
+            f"longer than {MOST_BYTES:,} bytes",
+            None,
+            f"refused input longer than {MOST_BYTES} bytes",
+        )
     try:
         text, raw = json_text.parse(data)
     except json_text.NotJson as fault:

@@ -1,25 +1,20 @@
-use Rattle.std.proofs.Common.{Some, ap, refl, sym, ◌∙◌}
-use Rattle.std.specs.Prelude.{option_and_then}
-use Rattle.command_line.specs.Lines.{texts_of}
-use Rattle.one_run.specs.Endings.{out_of_memory, untold}
-use Rattle.one_run.proofs.Ends.{Keeps-same}
-use Rattle.bwe_cli.specs.RunLine.{asked_by}
-use Rattle.bwe_cli.proofs.Ranges.{words-in_range}
+use Rattle.std.proofs.Common.{refl, sym, ap, ◌∙◌, Err}
+use Rattle.one_run.proofs.Ends.{Keeps-same, ending-usage, ending-unparsed, ending-finished, ending-refused}
 use Rattle.bwe_cli.proofs.bwe.Goals as goal
 
-pub serve_run-requires-after_bounds : goal.serve_run-requires-after_bounds
-serve_run-requires-after_bounds g c κs within =
-    let is = sym c.in-Ok-Some-Run.ensures ∙ c.in-Ok-Some-Run.field-0-is ∙ ap Some c.in-Ok-Some-Run.field-0-0-is in
-    words-in_range (texts_of c.args.words.now) _ (ap (option_and_then asked_by) is)
+pub returns-in-Ok-None : goal.returns-in-Ok-None
+returns-in-Ok-None g c = ending-usage _ _ _ (sym c.in-Ok-None.ensures.line ∙ c.in-Ok-None.field-0-is) refl c.write_usage.ensures
 
-pub returns-in-Err-clause-other : goal.returns-in-Err-clause-other
-returns-in-Err-clause-other g c = λ other reads whole. out_of_memory (λ none. refl) (Keeps-same _)
+pub returns-in-Err : goal.returns-in-Err
+returns-in-Err g c = ending-unparsed _ _ _ refl (Keeps-same _)
 
-pub returns-in-Err-clause-run : goal.returns-in-Err-clause-run
-returns-in-Err-clause-run g c = λ asked is. out_of_memory (λ none. refl) (Keeps-same _)
+pub returns-in-Ok : goal.returns-in-Ok
+returns-in-Ok g c =
+    ending-finished _ _ _ c.in-Ok-Some.line (sym c.in-Ok-Some.ensures.line ∙ c.in-Ok-Some.field-0-is) c.in-Ok.ensures.untouched c.in-Ok.ensures.input
+    c.answer.result (rw c.deref.ensures.value at c.answer.ensures) c.finish.ensures
 
-pub returns-in-Err-clause-made : goal.returns-in-Err-clause-made
-returns-in-Err-clause-made g c = λ line is. untold (Keeps-same _)
-
-pub returns-in-Err-clause-parted : goal.returns-in-Err-clause-parted
-returns-in-Err-clause-parted g c = λ line is. out_of_memory (λ none. refl) (Keeps-same _)
+pub returns-in-Err-read_input_of : goal.returns-in-Err-read_input_of
+returns-in-Err-read_input_of g c =
+    ending-refused _ _ _ c.in-Ok-Some.line (sym c.in-Ok-Some.ensures.line ∙ c.in-Ok-Some.field-0-is) c.in-Err-read_input_of.ensures.untouched
+    c.in-Err-read_input_of.error (λ is. c.in-Err-read_input_of.ensures.fault (ap Err is)) (λ is. c.in-Err-read_input_of.ensures.too_long (ap Err is))
+    c.refuse_input.ensures.fault c.refuse_input.ensures.too_long c.refuse_input.ensures.memory

@@ -1,23 +1,23 @@
-use Rattle.std.proofs.Common.{refl, sym, ◌∙◌}
-use Rattle.command_line.specs.Lines.{command_line_of, texts_of}
-use Rattle.one_run.specs.Endings.{out_of_memory, untold}
-use Rattle.one_run.proofs.Ends.{Keeps-same}
-use Rattle.bwe_cli.proofs.Ranges.{made_words-in_range, not-both}
+use Rattle.std.proofs.Common.{refl, sym, ap, ◌∙◌, Err}
+use Rattle.one_run.proofs.Ends.{Keeps-same, ending-usage, ending-unparsed, ending-finished, ending-refused}
+use Rattle.bwe_cli.specs.TopCall.{of_one_thread}
 use Rattle.bwe_cli.proofs.bwe_once.Goals as goal
 
-pub serve_made-requires : goal.serve_made-requires
-serve_made-requires g c =
-    made_words-in_range (texts_of c.args.words.now) c.in-Ok-Some.line (sym c.in-Ok-Some.ensures ∙ c.in-Ok-Some.field-0-is)
+pub returns-in-Err : goal.returns-in-Err
+returns-in-Err g c = ending-unparsed _ _ _ refl (Keeps-same _)
 
-pub returns-in-Err-clause-other : goal.returns-in-Err-clause-other
-returns-in-Err-clause-other g c = λ reads whole. out_of_memory (λ none. refl) (Keeps-same _)
+pub returns-in_default : goal.returns-in_default
+returns-in_default g c =
+    ending-usage _ _ _ (ap of_one_thread (sym c.in-Ok.ensures.line) ∙ sym c.in_one_thread-line.ensures.line ∙ c.in_default.is) refl c.write_usage.ensures
 
-pub returns-in-Err-clause-made : goal.returns-in-Err-clause-made
-returns-in-Err-clause-made g c = λ line is. untold (Keeps-same _)
+pub returns-in-Ok-read_input_of : goal.returns-in-Ok-read_input_of
+returns-in-Ok-read_input_of g c =
+    ending-finished _ _ _ c.in-Some.line (ap of_one_thread (sym c.in-Ok.ensures.line) ∙ sym c.in-Some.ensures.line)
+    c.in-Ok-read_input_of.ensures.untouched c.in-Ok-read_input_of.ensures.input
+    c.answer_in_turn.result (rw c.deref.ensures.value at c.answer_in_turn.ensures) c.finish.ensures
 
-pub returns-in-Err-clause-parted : goal.returns-in-Err-clause-parted
-returns-in-Err-clause-parted g c = λ line is. out_of_memory (λ none. refl) (Keeps-same _)
-
-pub returns-in-Ok-Some-clause-parted : goal.returns-in-Ok-Some-clause-parted
-returns-in-Ok-Some-clause-parted g c = λ line is.
-    not-both (command_line_of (texts_of c.args.words.now)) c.in-Ok-Some.line line (sym c.in-Ok-Some.ensures ∙ c.in-Ok-Some.field-0-is) is
+pub returns-in-Err-read_input_of : goal.returns-in-Err-read_input_of
+returns-in-Err-read_input_of g c =
+    ending-refused _ _ _ c.in-Some.line (ap of_one_thread (sym c.in-Ok.ensures.line) ∙ sym c.in-Some.ensures.line) c.in-Err-read_input_of.ensures.untouched
+    c.in-Err-read_input_of.error (λ is. c.in-Err-read_input_of.ensures.fault (ap Err is)) (λ is. c.in-Err-read_input_of.ensures.too_long (ap Err is))
+    c.refuse_input.ensures.fault c.refuse_input.ensures.too_long c.refuse_input.ensures.memory

@@ -10,11 +10,16 @@ use Rattle.push_down.proofs.Agreement.{length-distribution}
 use Rattle.push_down.proofs.user_limits_of.Goals as goal
 use Rattle.push_down.proofs.user_limits_of.Goals.{In_ok-amounts}
 
-size : (c : In_ok-amounts) → length c.in_ok-amounts.amounts.items ≡ length c.jobs.result.now
+-- the children as a share function are those that are listed
+same_nodes : (c : In_ok-amounts) → c.siblings.result.nodes.now ≡ c.jobs-jobs.result.now
+same_nodes c = c.siblings.ensures ∙ sym c.jobs-jobs.ensures.jobs
+
+size : (c : In_ok-amounts) → length c.in_ok-amounts.amounts.items ≡ length c.jobs-jobs.result.now
 size c =
     ap (λ (amounts : List ℕ). length amounts) c.in_ok-amounts.ensures.amounts
-    ∙ length-distribution c.args.top (map job_meaning c.jobs.result.now) c.args.amount
-    ∙ length-map c.jobs.result.now job_meaning
+    ∙ length-distribution c.args.top (map job_meaning c.siblings.result.nodes.now) c.args.amount
+    ∙ length-map c.siblings.result.nodes.now job_meaning
+    ∙ ap (λ (list : List JobState). length list) (same_nodes c)
 
 pub index-requires : goal.index-requires
 index-requires c = omega (arith, size (goal.at.index-requires c).In_ok-amounts, c.loop-place-test.true, c.in_ok-amounts.amounts.ok.0)
@@ -28,10 +33,10 @@ job_limits_of-requires-clause-amount c =
 
 pub loop-place-preserved : goal.loop-place-preserved
 loop-place-preserved c =
-    let nodes = c.jobs.result.now in
+    let nodes = c.jobs-jobs.result.now in
     let amounts = c.in_ok-amounts.amounts.items in
     let place = c.loop-place.place in
-    let node = c.job-item.result in
+    let node = c.index-jobs-place.result in
     let amount = c.index.result.now in
     let same = size (goal.at.loop-place-preserved c).In_ok-amounts in
     let lt : place < length nodes = c.loop-place-test.true in
@@ -39,7 +44,7 @@ loop-place-preserved c =
     let pair : JobState × ℕ = (node, amount) in
     let limits : JobState × ℕ → List ℕ = λ given. limits_of_job c.args.top given.0 given.1 in
     let read : pair ≡ get_or (zip nodes amounts) place pair =
-    ap₂ (λ (n : JobState) (a : ℕ). (n, a)) c.job-item.is c.index.ensures ∙ sym (get_or-zip nodes amounts place pair lt lt_amounts) in
+    ap₂ (λ (n : JobState) (a : ℕ). (n, a)) c.index-jobs-place.is c.index.ensures ∙ sym (get_or-zip nodes amounts place pair lt lt_amounts) in
     let within : place < length (zip nodes amounts) = omega (arith, length-zip nodes amounts, lt, lt_amounts) in
     c.in_ok-extend_from_slice.ensures.items
     ∙ ap₂ (λ (before here : List ℕ). before ++ here) c.loop-place.invariant (c.as_slice.ensures.value ∙ c.in_ok-below.ensures)
@@ -48,10 +53,10 @@ loop-place-preserved c =
 pub returns : goal.returns
 returns c =
     let amounts = c.in_ok-amounts.amounts.items in
-    let nodes = c.jobs.result.now in
+    let nodes = c.jobs-jobs.result.now in
     let all : take c.loop-place.place (zip nodes amounts) ≡ zip nodes amounts =
     take_all c.loop-place.place (zip nodes amounts) (omega (arith, length-zip nodes amounts, c.loop-place-test.false)) in
     c.loop-place.invariant
     ∙ ap (λ (given : List (JobState × ℕ)). flat_map (λ pair. limits_of_job c.args.top pair.0 pair.1) given) all
-    ∙ ap₂ (λ (list : List JobState) (shared : List ℕ). flat_map (λ pair. limits_of_job c.args.top pair.0 pair.1) (zip list shared)) c.jobs.ensures.jobs
-    (c.in_ok-amounts.ensures.amounts ∙ ap (λ (list : List JobState). distribution c.args.top (map job_meaning list) c.args.amount) c.jobs.ensures.jobs)
+    ∙ ap₂ (λ (list : List JobState) (shared : List ℕ). flat_map (λ pair. limits_of_job c.args.top pair.0 pair.1) (zip list shared)) c.jobs-jobs.ensures.jobs
+    (c.in_ok-amounts.ensures.amounts ∙ ap (λ (list : List JobState). distribution c.args.top (map job_meaning list) c.args.amount) c.siblings.ensures)

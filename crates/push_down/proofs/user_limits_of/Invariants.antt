@@ -3,4 +3,4 @@ use Rattle.push_down.specs.Limits.{limits_of_job}
 use Rattle.push_down.proofs.user_limits_of.Given as goal
 
 abbrev pub invariant-loop-place : goal.invariant-loop-place
-invariant-loop-place l = l.limits.items ≡ flat_map (λ given. limits_of_job l.fn.top given.0 given.1) (take l.place (zip l.job-items l.amounts.items))
+invariant-loop-place l = l.limits.items ≡ flat_map (λ given. limits_of_job l.fn.top given.0 given.1) (take l.place (zip l.jobs l.amounts.items))

@@ -1,7 +1,9 @@
 use Rattle.std.proofs.Common.{◌∙◌, ap, sym, Option}
+use Rattle.bwe_specs.specs.Tree.{inner_share}
+use Rattle.bw_function.specs.BwFunction.{Function}
 use Rattle.share_transform.specs.Transform.{Transformation}
 use Rattle.policy_tree.specs.States.{transformed, configured_by}
-use Rattle.policy_tree.proofs.Transforms.{transformed-meaning, transformed-none}
+use Rattle.policy_tree.proofs.Transforms.{transformed-meaning, transformed-none, transformed-some}
 use Rattle.policy_tree.proofs.value.value_at.Goals as goal
 
 pub returns-in-None-clause-value : goal.returns-in-None-clause-value
@@ -17,7 +19,10 @@ returns-in-None-clause-meaning g c = transformed-meaning _ _ c.requires c.value.
 pub returns-in-Some-clause-value : goal.returns-in-Some-clause-value
 returns-in-Some-clause-value g c =
     let meaning = g.P.ShareFunction.meaning c.args.sum.now in
-    c.transformed_look.ensures.value ∙ ap (λ (t : Option Transformation). transformed (configured_by t) meaning c.args.share) (sym c.in-Some.is)
+    c.value_by_parent.ensures.value
+    ∙ ap (λ (function : Function). meaning (inner_share function.top function.points meaning c.args.share)) c.parent.ensures
+    ∙ sym (transformed-some c.in-Some.transform.parent meaning c.args.share)
+    ∙ ap (λ (t : Option Transformation). transformed (configured_by t) meaning c.args.share) (sym c.in-Some.is)
 
 pub returns-in-Some-clause-meaning : goal.returns-in-Some-clause-meaning
-returns-in-Some-clause-meaning g c = transformed-meaning _ _ c.requires c.transformed_look.ensures.meaning
+returns-in-Some-clause-meaning g c = transformed-meaning _ _ c.requires c.value_by_parent.ensures.meaning

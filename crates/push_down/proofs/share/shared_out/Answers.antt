@@ -12,12 +12,11 @@ loop-place-preserved g c =
     let place = c.loop-place.place in
     let rest = c.loop-place.rest in
     let value = c.value-value.result in
-    let more = c.min-more.result in
+    let more = c.more_for-more.result in
     let items = c.loop-place.amounts.items in
     let kept = c.loop-place.invariant in
     let lt : place < length values = omega (arith, c.loop-place-test.true, c.count-place-end.ensures) in
-    let is_more : more ≡ min rest (get_or values place (λ s. 0) (share + 1) - value) =
-    c.min-more.ensures ∙ ap (min rest) (c.saturating_sub-growth.ensures ∙ ap (λ (next : ℕ). next - value) c.value.ensures.value) in
+    let is_more : more ≡ min rest (get_or values place (λ s. 0) (share + 1) - value) = c.more_for-more.ensures in
     let bound : value + more ≤ c.args.amount + 20_000_000_000_000_000 = omega (arith, c.value-value.ensures.bound, is_more, kept.rest) in
     record {
       handed =

@@ -2,9 +2,6 @@ use Rattle.std.proofs.Common.{◌≡◌, ◌+◌, ◌-◌, ◌≤◌, ◌++◌, 
 use Rattle.bwe_specs.specs.Distribution.{children_sum, handed_out}
 use Rattle.push_down.proofs.share.shared_out.Given as goal
 
-abbrev pub ghosts-share_for : goal.ghosts-share_for
-ghosts-share_for g a = record { name = a.blank.name; parts = a.blank.parts }
-
 abbrev pub invariant-loop-place : goal.invariant-loop-place
 invariant-loop-place g l = record {
   handed : l.amounts.items ++ handed_out (drop l.place (g.F.Children.values l.children)) l.share l.rest

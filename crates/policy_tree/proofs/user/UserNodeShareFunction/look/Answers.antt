@@ -1,9 +1,0 @@
-use Rattle.std.proofs.Common.{sym, subst, List}
-use Rattle.function_sum.specs.Meaning.{IsMeaning}
-use Rattle.policy_tree.specs.States.{JobState, jobs_meaning}
-use Rattle.policy_tree.proofs.Meanings.{jobs-meaning}
-use Rattle.policy_tree.proofs.user.UserNodeShareFunction.look.Goals as goal
-
-pub invariant_of-jobs : goal.invariant_of-jobs
-invariant_of-jobs c =
-    record { is = subst (λ (jobs : List JobState). IsMeaning (jobs_meaning jobs)) (sym c.as_slice.ensures.value) (jobs-meaning _ c.self.invariant) }

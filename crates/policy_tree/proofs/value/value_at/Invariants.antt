@@ -1,4 +1,0 @@
-use Rattle.policy_tree.proofs.value.value_at.Given as goal
-
-abbrev pub ghosts-transformed_look : goal.ghosts-transformed_look
-ghosts-transformed_look g a = record { name = a.blank.name; parts = a.blank.parts }
