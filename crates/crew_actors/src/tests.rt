@@ -17,6 +17,7 @@ use std::sync::{Mutex, Wait};
 use std::test::Fail;
 
 /// A gate that counts the calls of each kind of actor that were answered.
+#[derive(Drop)]
 struct CountingGate {
     reporter: AtomicU64,
     allocator: AtomicU64,
