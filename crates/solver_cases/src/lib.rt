@@ -1,4 +1,4 @@
-//! The solver on made networks, and on the cases that ask how often it tests.
+//! Both solvers on made networks, and the one by jumps on the cases that ask how often it tests.
 //!
 //! No other crate stands on this one. A made network follows from one number, so that each run makes the same.
 #![tactic(auto)]

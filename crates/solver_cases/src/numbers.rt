@@ -14,7 +14,7 @@ impl Numbers {
         Numbers { state: seed }
     }
 
-    /// The next number, below the bound.
+    /// The next number, below the bound and below 2 to the power of 44.
     pub fn below(&mut self, bound: u64) -> u64
         requires { 0 < bound }
         ensures { result < bound }
@@ -23,6 +23,6 @@ impl Numbers {
             .state
             .wrapping_mul(6_364_136_223_846_793_005)
             .wrapping_add(1_442_695_040_888_963_407);
-        (self.state >> 33) % bound
+        (self.state >> 20) % bound
     }
 }

@@ -1,4 +1,4 @@
-//! The solver against the filling by steps, and how often it tests.
+//! Both solvers against the filling by steps, and how often the one by jumps tests.
 
 ghost use Rattle.std.specs.Prelude.{◌≡◌, ◌<◌, ◌≤◌, length};
 ghost use Rattle.path_groups.specs.Plan.{IsBuiltOn};
@@ -8,6 +8,7 @@ use super::*;
 use bottleneck_cert::{Verdict, check};
 use bwe_specs::OutOfMemory;
 use fill_cases::{Line, Slope, Slopes, path, plan_over, topology_of};
+use link_solver::solve_by_links;
 use mono_search::Steps;
 use mpfa_fill::{Closing, Filling, GroupValues, fill_by_steps};
 use mpfa_solver::solve;
@@ -88,10 +89,10 @@ fn are_right_alone<V: GroupValues>(
     Ok(check(alloc, values, topology, plan, closings)? == Verdict::Right)
 }
 
-// Small networks made by the numbers from 0 on, each solved without hints, from the hints of the network before, and
-// from its own closings. The check says Right of the solver's closings alone.
+// Small networks made by the numbers from 0 on, each solved by links, and by jumps without hints, from the hints of the
+// network before, and from its own closings. The check says Right of the solver's closings alone.
 #[test]
-fn both_fillings_agree(rt: HostRuntime) -> Result<(), Fail> {
+fn all_fillings_agree(rt: HostRuntime) -> Result<(), Fail> {
     let alloc = rt.alloc();
     let size = Size {
         side: 3,
@@ -109,6 +110,8 @@ fn both_fillings_agree(rt: HostRuntime) -> Result<(), Fail> {
         let plan = plan_over(alloc, &topology, groups).expect(&rt, "in range")?;
         assert!(rt; values.groups() == plan.groups());
         let stepped = fill_by_steps(alloc, &values, &topology, &plan)?;
+        let linked = solve_by_links(alloc, &values, &topology, &plan)?;
+        assert!(rt; are_equal(&linked, &stepped), "at {seed}");
         let right = stepped.closings.as_slice();
         for hints in [[].as_slice(), before.as_slice(), right] {
             let filling = solved(&rt, alloc, &values, &topology, &plan, hints)?;
@@ -117,6 +120,32 @@ fn both_fillings_agree(rt: HostRuntime) -> Result<(), Fail> {
             assert!(rt; are_right_alone(alloc, &values, &topology, &plan, &filling.closings)?);
         }
         before = stepped.closings;
+    }
+    Ok(())
+}
+
+// Networks with links of up to 10^12 and a top share of 10^9, which no stepping reaches.
+#[test]
+fn both_solvers_agree_on_wide_links(rt: HostRuntime) -> Result<(), Fail> {
+    let alloc = rt.alloc();
+    let size = Size {
+        side: 3,
+        groups: 900,
+        capacity: 1_000_000_000_000,
+        demand: 4_000_000_000,
+        top: 1_000_000_000,
+    };
+    for seed in 0..3 {
+        let mut numbers = Numbers::following(seed);
+        let topology = made_topology(alloc, size, &mut numbers)?;
+        let groups = made_groups(alloc, size, &mut numbers)?;
+        let values = made_slopes(alloc, size, &mut numbers)?;
+        let plan = plan_over(alloc, &topology, groups).expect(&rt, "in range")?;
+        assert!(rt; values.groups() == plan.groups());
+        let linked = solve_by_links(alloc, &values, &topology, &plan)?;
+        let filling = solved(&rt, alloc, &values, &topology, &plan, &[])?;
+        assert!(rt; are_equal(&linked, &filling), "at {seed}");
+        assert!(rt; !linked.closings.is_empty(), "at {seed}");
     }
     Ok(())
 }
