@@ -44,19 +44,26 @@ fn written(alloc: Global, line: &[&str], input: &str) -> Result<(u8, Vec<u8>), F
     Ok((status, Vec::from_slice(alloc, sink.bytes())?))
 }
 
+// Whether `bwe_once` writes this text for the word and the input, and answers this status.
+fn is_answered(
+    alloc: Global,
+    word: &str,
+    input: &str,
+    status: u8,
+    text: &str,
+) -> Result<bool, Fail> {
+    let (got, bytes) = written(alloc, &[word], input)?;
+    Ok(got == status && bytes.as_slice() == text.as_bytes())
+}
+
 // The lines on one document, and words that are none.
 #[test]
 fn a_document_has_its_text_and_status(rt: HostRuntime) -> Result<(), Fail> {
     let alloc = rt.alloc();
-    for (line, input, wanted, text) in [
-        ("solve", DOCUMENT, 0, TABLE),
-        ("check", DOCUMENT, 0, "right\n"),
-        ("solve", "{", 3, "refused 1 not json\n"),
-        ("run", DOCUMENT, 2, USAGE),
-    ] {
-        let (got, bytes) = written(alloc, &[line], input)?;
-        assert_eq!(rt; (got, bytes.as_slice()), (wanted, text.as_bytes()));
-    }
+    assert!(rt; is_answered(alloc, "solve", DOCUMENT, 0, TABLE)?);
+    assert!(rt; is_answered(alloc, "check", DOCUMENT, 0, "right\n")?);
+    assert!(rt; is_answered(alloc, "solve", "{", 3, "refused 1 not json\n")?);
+    assert!(rt; is_answered(alloc, "run", DOCUMENT, 2, USAGE)?);
     Ok(())
 }
 
@@ -64,15 +71,18 @@ fn a_document_has_its_text_and_status(rt: HostRuntime) -> Result<(), Fail> {
 #[test]
 fn two_parts_have_their_text_and_status(rt: HostRuntime) -> Result<(), Fail> {
     let alloc = rt.alloc();
-    for (line, input, wanted, text) in [
-        ("tiers", TWO_PARTS, 0, "tiers 0\ntotal 0\n"),
-        ("enforce", TWO_PARTS, 3, "refused 16 events at line 0\n"),
-        ("audit", TWO_PARTS, 1, "wrong at line 0: form\n"),
-        ("audit", DOCUMENT, 3, "refused 14 parts\n"),
-    ] {
-        let (got, bytes) = written(alloc, &[line], input)?;
-        assert_eq!(rt; (got, bytes.as_slice()), (wanted, text.as_bytes()));
-    }
+    assert!(rt; is_answered(alloc, "tiers", TWO_PARTS, 0, "tiers 0\ntotal 0\n")?);
+    assert!(rt;
+        is_answered(
+            alloc,
+            "enforce",
+            TWO_PARTS,
+            3,
+            "refused 16 events at line 0\n"
+        )?
+    );
+    assert!(rt; is_answered(alloc, "audit", TWO_PARTS, 1, "wrong at line 0: form\n")?);
+    assert!(rt; is_answered(alloc, "audit", DOCUMENT, 3, "refused 14 parts\n")?);
     Ok(())
 }
 
