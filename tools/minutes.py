@@ -11,16 +11,20 @@ Markdown, to standard output. The status is the command's.
     tools/minutes.py rt ci --anew      all, from nothing
     tools/minutes.py --process 4711    a command that runs already, by its number, till it ends
     tools/minutes.py rt ci board       a crate and those below it, without what is kept of them
+    tools/minutes.py --made            what the last proof of each crate by `make` took, by the
+                                       crates' prove.log: after one `make` from nothing, all of it
 """
 
 import datetime
 import os
+import re
 import subprocess
 import sys
 import time
 from collections import Counter
 from pathlib import Path
 
+TOP = Path(__file__).resolve().parent.parent
 PARTS = ["own proof", "tests", "edits"]
 SECONDS = 0.5
 TICKS = os.sysconf("SC_CLK_TCK")
@@ -85,6 +89,25 @@ def row(name, numbers):
     )
 
 
+def made(crates):
+    """A row for each crate that make has proved, the dearest first, and one for all."""
+    rows = []
+    for log in sorted(Path(crates).glob("*/out/prove.log")):
+        text = log.read_text(errors="replace")
+        took = re.search(r"^bwe: ([0-9]+) s, ([0-9]+) s of processors$", text, re.MULTILINE)
+        proved = re.search(r"^logic=proved functions=([0-9]+)", text, re.MULTILINE)
+        if took and proved:
+            seconds = [int(number) for number in took.groups()]
+            rows.append((log.parent.parent.name, int(proved[1]), *seconds))
+    rows.sort(key=lambda row: -row[3])
+    rows.append(("all", *(sum(row[at] for row in rows) for at in (1, 2, 3))))
+    lines = ["| crate | functions | minutes | of processors |", "|---|---:|---:|---:|"]
+    for name, functions, clock, spent in rows:
+        shown = name if name == "all" else f"`{name}`"
+        lines.append(f"| {shown} | {functions} | {clock / 60:.1f} | {spent / 60:.1f} |")
+    return lines
+
+
 def processor():
     lines = Path("/proc/cpuinfo").read_text().splitlines()
     return next(
@@ -105,6 +128,9 @@ def watched(number, ends):
 
 
 def main(words):
+    if words[:1] == ["--made"]:
+        print("\n".join(made(words[1] if len(words) > 1 else TOP / "crates")))
+        return 0
     if not words or words[0].startswith("-") and words[0] != "--process":
         print(__doc__)
         return 0 if words == ["--help"] else 2

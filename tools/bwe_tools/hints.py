@@ -9,11 +9,16 @@ import unicodedata
 from bwe_tools.units import kilobits
 
 NAME = re.compile(r"[A-Za-z0-9_.-]{1,64}\Z")
+# Letters that are easily taken for digits, in words whose capitals are small letters.
+LOOK_ALIKE = str.maketrans("oil", "011")
 
 
 def near(word: str, words) -> str | None:
     """The word among others that is most like it, where one is like enough."""
     others = {other.lower(): other for other in words}
+    alike = {other.translate(LOOK_ALIKE): other for other in others}
+    if word.lower().translate(LOOK_ALIKE) in alike:
+        return others[alike[word.lower().translate(LOOK_ALIKE)]]
     found = difflib.get_close_matches(word.lower(), list(others), n=1, cutoff=0.6)
     return others[found[0]] if found else None
 

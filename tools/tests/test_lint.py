@@ -13,7 +13,7 @@ import sys
 import jsonschema
 import pytest
 
-from bwe_tools import document, json_text, shape
+from bwe_tools import document, hints, json_text, shape
 from bwe_tools.program import find_program
 from tool_runs import CASES, EXAMPLES, needs_program, run
 
@@ -245,6 +245,11 @@ def test_a_fault_is_told_where_it_is_with_what_was_meant(old, new, there, senten
     assert answer.status == 2 and sentence in found[4], answer.out
     line, column = int(found[2]), int(found[3])
     assert text.split("\n")[line - 1][column - 1 :].startswith(there)
+
+
+def test_letters_that_look_like_digits_are_likely_meant_as_those():
+    assert hints.near("lO", ["l1", "l0", "x0"]) == "l0"
+    assert hints.near("lO", ["a", "b"]) is None
 
 
 @pytest.mark.parametrize(
