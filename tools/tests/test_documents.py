@@ -49,3 +49,46 @@ def test_each_link_between_documents_leads_somewhere():
     for page in pages:
         for target in re.findall(r"\]\(([^)#:]+)(?:#[^)]*)?\)", page.read_text()):
             assert (page.parent / target).exists(), f"{page.name}: {target}"
+
+
+def test_the_readme_names_each_crate_of_the_kit_that_is_trusted():
+    readme = (TOP / "README.md").read_text()
+    trusted = readme.split("the statements of the kit's crates that are used (")[1].split(")")[0]
+    own = {name for crates in layers().values() for name in crates}
+    used = {name for crates in layers().values() for below in crates.values() for name in below}
+    assert set(re.findall("`([a-z_]+)`", trusted)) == used - own
+
+
+def test_the_page_of_choices_names_the_crates_without_an_edit():
+    crates = {path.parent.name for path in (TOP / "crates").glob("*/src")}
+    without = {name for name in crates if not list((TOP / "crates" / name).glob("must-fail/*.edit"))}
+    page = (TOP / "docs/DECISIONS.md").read_text()
+    paragraph = page.split("have no edit that has to be refused**")[1].split("\n\n")[0]
+    assert set(re.findall("`([a-z_]+)`", paragraph)) & crates == without
+
+
+def words_of_sources():
+    """All names in the sources of the crates, and the names of the crates."""
+    files = [
+        file
+        for pattern in ("src/**/*.rt", "specs/**/*.antt", "proofs/**/*.antt")
+        for file in TOP.glob(f"crates/*/{pattern}")
+    ]
+    names = {path.parent.name for path in TOP.glob("crates/*/src")}
+    for file in files:
+        names.update(re.findall(r"[A-Za-z_][A-Za-z0-9_]*", file.read_text()))
+    return names
+
+
+def test_each_name_of_code_in_a_document_is_one_of_the_sources():
+    known = words_of_sources() | {"w_l", "is_reading", "WHAT_IS_WRONG", "with_change"}
+    for page in [TOP / "README.md", TOP / "CONTRIBUTING.md", *TOP.glob("docs/*.md")]:
+        text = re.sub("```.*?```", "", page.read_text(), flags=re.DOTALL)
+        found = {
+            word
+            for code in re.findall("`([^`\n]+)`", text)
+            for word in re.findall(
+                r"[A-Za-z][A-Za-z]*_[A-Za-z0-9_]+|[A-Z][a-z]+(?:[A-Z][a-z]+)+", code
+            )
+        }
+        assert found <= known, (page.name, found - known)
