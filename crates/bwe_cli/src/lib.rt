@@ -24,7 +24,10 @@ mod reading;
 mod refused;
 mod run;
 mod solve;
+mod statuses;
 mod tiers_line;
+
+pub use statuses::{accepted_is_answered, an_answer_is_whole, nothing_is_written};
 
 use answers::{answer, answer_in_turn};
 use bwe_io::{Sink, Source};
