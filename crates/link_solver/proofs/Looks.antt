@@ -1,15 +1,12 @@
 -- How many looks are still to come, and what a look, a closing and a move make of it.
-use Rattle.std.proofs.Common.{◌≡◌, ℕ, zero, suc, ◌+◌, ◌-◌, ◌*◌, ◌/◌, ◌^◌, ◌<◌, ◌≤◌, ◌≢◌, Bool, true, false, List, [], ◌∷◌, length, set, Option, Some, None, refl, sym, ◌∙◌, ap, arith, subst, inl, inr, if◌then◌else◌, nat_lt, nat_eq, slice_index_or, pow-suc, lt-ltb, le-ltb, ltb-true, ltb-false, le_refl, add-one}
-use Rattle.std.proofs.lemmas.Bool.{cases_eq, cases_lt}
+use Rattle.std.proofs.Common.{◌≡◌, ℕ, zero, suc, ◌+◌, ◌-◌, ◌*◌, ◌/◌, ◌^◌, ◌<◌, ◌≤◌, Bool, true, false, List, length, set, refl, sym, ap, arith, if◌then◌else◌, nat_lt, pow-suc, lt-ltb, le-ltb, ltb-true, ltb-false}
 use Rattle.std.proofs.lemmas.List.{get_or-set_same, get_or-set_other, length-set}
-use Rattle.bwe_specs.specs.declared.network.Closing.{Closing}
 use Rattle.bwe_specs.specs.Bounded.{sum_below}
-use Rattle.bwe_specs.specs.Paths.{PathGroup, PathGroups, path_group_at, path_group_count, uses}
-use Rattle.bwe_specs.specs.Filling.{Wan, current_path_group_of}
-use Rattle.bwe_specs.proofs.Bounds.{sum_below-mono, sum_below-add, sum_below-one, sum_below-same, sum_below-more}
+use Rattle.bwe_specs.specs.Paths.{PathGroup, uses}
+use Rattle.bwe_specs.proofs.Bounds.{sum_below-mono, sum_below-add, sum_below-one}
 use Rattle.link_solver.specs.declared.due.Due.{Due}
 use Rattle.link_solver.specs.Dues.{due_at, Moves}
-use Rattle.link_solver.specs.Looks.{links_of, links_over_all, halvings, looks_at, looks_in, moves_at, moves_of, looks_ahead}
+use Rattle.link_solver.specs.Looks.{links_of, halvings, looks_at, looks_in}
 
 -- a width is halved at most so often
 halvings-le : (most width : ℕ) → halvings most width ≤ most

@@ -1,4 +1,4 @@
-use Rattle.std.proofs.Common.{◌≡◌, ℕ, ◌+◌, ◌-◌, ◌/◌, ◌≤◌, sym, ◌∙◌, arith}
+use Rattle.std.proofs.Common.{◌+◌, ◌-◌, ◌/◌, ◌≤◌, sym, ◌∙◌, arith}
 use Rattle.link_solver.proofs.Looks.{one-less}
 use Rattle.link_solver.proofs.front.Front.halved.Goals as goal
 
