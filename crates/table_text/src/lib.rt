@@ -21,6 +21,6 @@ pub use check::check_text;
 pub use levels::levels_text;
 pub use line::{name_of, push_line, push_word_and_name, push_word_and_number};
 pub use table::{
-    push_closings, push_group, push_groups, push_link, push_links, push_task, push_tasks, table_text,
-    total,
+    push_closings, push_group, push_groups, push_link, push_links, push_task, push_tasks,
+    table_text, total,
 };
