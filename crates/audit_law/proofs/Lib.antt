@@ -11,4 +11,5 @@ pub mod Texts
 pub mod Ends
 pub mod Whole
 pub mod Logs
+pub mod SameFaults
 pub mod AuditLaw
