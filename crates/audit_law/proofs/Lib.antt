@@ -12,4 +12,6 @@ pub mod Ends
 pub mod Whole
 pub mod Logs
 pub mod SameFaults
+pub mod Laters
+pub mod Completions
 pub mod AuditLaw

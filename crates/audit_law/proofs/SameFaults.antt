@@ -59,7 +59,7 @@ module _ (names : LineNames) (scripts : List (List Report)) where
   -- ---- the history
 
   -- a line of the history that is not at fault is that of one report more, one that is is itself the line at fault
-  abbrev IsTakenOr : Printed → Result Printed Fault → Type 0
+  abbrev pub IsTakenOr : Printed → Result Printed Fault → Type 0
   IsTakenOr printed (Ok next) = length next.reports ≡ length printed.reports + 1
   IsTakenOr printed (Err fault) = fault.line ≡ length printed.reports + 1
 
@@ -78,10 +78,10 @@ module _ (names : LineNames) (scripts : List (List Report)) where
 
   module _ (total : List Report → ℕ) (table : List (List ℕ)) where
     -- the verdict behind a history, or on its fault
-    abbrev judged : List ℕ → Result Reported Fault → AuditVerdict
+    abbrev pub judged : List ℕ → Result Reported Fault → AuditVerdict
     judged left answer = judge_rest names scripts total table left answer
 
-    abbrev first_walk : Walk
+    abbrev pub first_walk : Walk
     first_walk = record { due = due_from scripts 0; table = table }
 
     pub history_least : (left : List ℕ) (lines : List (List ℕ)) (printed : Printed) (line : ℕ) (cause : AuditCause) → judged left (take_lines names scripts printed lines) ≡ Wrong line cause → length printed.reports + 1 ≤ line
