@@ -51,9 +51,9 @@ fn a_held_reader_is_told_what_was_settled(rt: HostRuntime) -> Result<(), Fail> {
         for reader in &log.readers {
             assert_eq!(rt;
                 reader.reads.as_slice(),
-                &[line_of(0, 0), line_of(2, 40)][..]
+                &[line_of(0, 0), line_of(2, 120)][..]
             );
-            assert_eq!(rt; (reader.last, reader.length), (line_of(2, 40), 2));
+            assert_eq!(rt; (reader.last, reader.length), (line_of(2, 120), 2));
         }
         assert_eq!(rt; (log.readers.len(), log.history.len()), (1, 2));
         // Two reports and the settle, a round more than reads, and two reads and the last.
