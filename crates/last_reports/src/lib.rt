@@ -7,8 +7,6 @@
 
 mod kept;
 mod laws;
-#[cfg(test)]
-mod tests;
 
 pub use kept::LastReports;
 pub use laws::{compaction_law, snapshot_law};

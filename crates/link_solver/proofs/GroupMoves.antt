@@ -116,32 +116,32 @@ module _ (wan : Wan) (group : ℕ) where
       (λ k kl. times-le (if nat_eq k place then 1 else moves_at (Some next) k) (moves_at (Some place) k) (links_at k) (mid_high k))
       (omega (arith, ap (λ n. n * links_at next) (mid-next), ap (λ n. n * links_at next) (moves-after place next lt))) in
       omega (arith, first, second) where
-    mid-same : (k : ℕ) → k ≡ place → (if nat_eq k place then 1 else moves_at (Some next) k) ≡ 1
-    mid-same k e = rw (eq-eqb k place e) refl
+        mid-same : (k : ℕ) → k ≡ place → (if nat_eq k place then 1 else moves_at (Some next) k) ≡ 1
+        mid-same k e = rw (eq-eqb k place e) refl
 
-    mid-other : (k : ℕ) → k ≢ place → (if nat_eq k place then 1 else moves_at (Some next) k) ≡ moves_at (Some next) k
-    mid-other k other = rw (ne_eqb k place other) refl
+        mid-other : (k : ℕ) → k ≢ place → (if nat_eq k place then 1 else moves_at (Some next) k) ≡ moves_at (Some next) k
+        mid-other k other = rw (ne_eqb k place other) refl
 
-    mid-here : (if nat_eq place place then 1 else moves_at (Some next) place) ≡ 1
-    mid-here = mid-same place refl
+        mid-here : (if nat_eq place place then 1 else moves_at (Some next) place) ≡ 1
+        mid-here = mid-same place refl
 
-    mid-next : (if nat_eq next place then 1 else moves_at (Some next) next) ≡ 1
-    mid-next = mid-other next (λ e. absurd (omega (arith, lt, e))) ∙ moves-here next next refl
+        mid-next : (if nat_eq next place then 1 else moves_at (Some next) next) ≡ 1
+        mid-next = mid-other next (λ e. absurd (omega (arith, lt, e))) ∙ moves-here next next refl
 
-    low_mid : (k : ℕ) → moves_at (Some next) k ≤ (if nat_eq k place then 1 else moves_at (Some next) k)
-    low_mid k = elim (cases_eq k place) [
-      | inl e ↦ omega (arith, moves-before next k (omega (arith, e, lt)))
-      | inr other ↦ omega (arith, mid-other k other)
-    ]
+        low_mid : (k : ℕ) → moves_at (Some next) k ≤ (if nat_eq k place then 1 else moves_at (Some next) k)
+        low_mid k = elim (cases_eq k place) [
+          | inl e ↦ omega (arith, moves-before next k (omega (arith, e, lt)))
+          | inr other ↦ omega (arith, mid-other k other)
+        ]
 
-    mid_high : (k : ℕ) → (if nat_eq k place then 1 else moves_at (Some next) k) ≤ moves_at (Some place) k
-    mid_high k = elim (cases_eq k place) [
-      | inl e ↦ omega (arith, mid-same k e, moves-here place k e)
-      | inr other ↦ elim (cases_lt k place) [
-        | inl below ↦ omega (arith, mid-other k other, moves-before next k (omega (arith, below, lt)))
-        | inr above ↦ omega (arith, mid-other k other, moves-most (Some next) k, moves-after place k (omega (arith, above, other)))
-      ]
-    ]
+        mid_high : (k : ℕ) → (if nat_eq k place then 1 else moves_at (Some next) k) ≤ moves_at (Some place) k
+        mid_high k = elim (cases_eq k place) [
+          | inl e ↦ omega (arith, mid-same k e, moves-here place k e)
+          | inr other ↦ elim (cases_lt k place) [
+            | inl below ↦ omega (arith, mid-other k other, moves-before next k (omega (arith, below, lt)))
+            | inr above ↦ omega (arith, mid-other k other, moves-most (Some next) k, moves-after place k (omega (arith, above, other)))
+          ]
+        ]
 
   -- at most twice each
   pub to_come-most : (o : Option ℕ) → to_come o ≤ 2 * sum_below (path_group_count wan.groups group) links_at

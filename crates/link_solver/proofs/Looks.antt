@@ -89,7 +89,7 @@ looks-set top dues link new lt =
       ap (λ n. sum_below n (λ k. looks_at top (due_at (set dues link new) k))) (length-set dues link new),
       ap (looks_at top) (get_or-set_same dues link new none lt),
       sum_below-one (length dues) link (λ k. looks_at top (due_at dues k)) (λ k. looks_at top (due_at (set dues link new) k)) lt
-      (λ k kl other. ap (looks_at top) (sym (get_or-set_other dues link k new none other))),
+          (λ k kl other. ap (looks_at top) (sym (get_or-set_other dues link k new none other))),
     )
 
 -- a sum of 31 times as much
@@ -111,13 +111,13 @@ looks-moved top left came share never old new moved =
       sum_below-times (length old) 31 (λ link. one left link + one came link),
       sum_below-add (length old) (one left) (one came),
     ) where
-  each : (link : ℕ) → looks_at top (due_at new link) ≤ looks_at top (due_at old link) + 31 * ((if uses left link then 1 else 0) + (if uses came link then 1 else 0))
-  each link = go (uses left link) (uses came link) (moved.share link) (moved.over link) where
-    go : (leaves comes : Bool) → (due_at new link).share ≡ (if comes then share else (due_at old link).share) → (due_at new link).over ≡ (if leaves then never else (due_at old link).over)
-        → looks_at top (due_at new link) ≤ looks_at top (due_at old link) + 31 * ((if leaves then 1 else 0) + (if comes then 1 else 0))
-    go false false e f = omega (arith, looks-same top (due_at old link) (due_at new link) e f)
-    go true comes e f = omega (arith, looks-few top (due_at new link))
-    go false true e f = omega (arith, looks-few top (due_at new link))
+      each : (link : ℕ) → looks_at top (due_at new link) ≤ looks_at top (due_at old link) + 31 * ((if uses left link then 1 else 0) + (if uses came link then 1 else 0))
+      each link = go (uses left link) (uses came link) (moved.share link) (moved.over link) where
+        go : (leaves comes : Bool) → (due_at new link).share ≡ (if comes then share else (due_at old link).share) → (due_at new link).over ≡ (if leaves then never else (due_at old link).over)
+            → looks_at top (due_at new link) ≤ looks_at top (due_at old link) + 31 * ((if leaves then 1 else 0) + (if comes then 1 else 0))
+        go false false e f = omega (arith, looks-same top (due_at old link) (due_at new link) e f)
+        go true comes e f = omega (arith, looks-few top (due_at new link))
+        go false true e f = omega (arith, looks-few top (due_at new link))
 
 -- all links need at most 31 looks each
 pub looks-all : (top : ℕ) (dues : List Due) (count : ℕ) → sum_below count (λ link. looks_at top (due_at dues link)) ≤ 31 * count

@@ -15,13 +15,13 @@ links_of links path_group = sum_below links (λ link. if uses path_group link th
 abbrev pub links_over_all : ℕ → List PathGroups → ℕ
 links_over_all links groups = sum_below (length groups) (λ group. sum_below (path_group_count groups group) (λ place. links_of links (path_group_at groups group place)))
 
--- so often, but at most so often, is a width halved, rounding up, until it is 1
+-- how often a width is halved, rounding up, until it is 1, and at most so often
 unfoldable pub halvings : ℕ → ℕ → ℕ
 halvings zero width = 0
 halvings (suc most) width = if nat_lt 1 width then suc (halvings most ((width + 1) / 2)) else 0
 
--- so many looks a link still needs, if no group comes to it or leaves it: none where it fits at the top, one at the top where it
--- is not known to be over, and one for each halving of its interval
+-- so many looks a link still needs, if no group comes to it or leaves it: none where it fits at the top, one at the top where
+-- it is not known to be over, and one for each halving of its interval
 abbrev pub looks_at : ℕ → Due → ℕ
 looks_at top due =
     if nat_lt due.share top
@@ -37,7 +37,7 @@ abbrev pub moves_at : Option ℕ → ℕ → ℕ
 moves_at None place = 0
 moves_at (Some current) place = if nat_lt place current then 0 else if nat_eq place current then 1 else 2
 
--- so many links are still to be looked at anew as a group comes to path groups and leaves them
+-- so many intervals of links are still opened anew as the group comes to path groups and leaves them
 abbrev pub moves_of : Wan → List Closing → ℕ → ℕ
 moves_of wan closings group = sum_below (path_group_count wan.groups group)
     (λ place. moves_at (current_path_group_of wan closings group) place * links_of (length wan.capacities) (path_group_at wan.groups group place))
