@@ -23,11 +23,12 @@ mod opened;
 mod parted;
 mod reading;
 mod refused;
+mod rewound;
 mod run;
 mod solve;
 mod tiers_line;
 
-pub use laws::{accepted_is_answered, an_answer_is_whole, nothing_is_written};
+pub use laws::{accepted_is_answered, an_answer_is_whole, nothing_is_written, runs_are_legal};
 
 use answers::{answer, answer_in_turn};
 use bwe_io::{Sink, Source};

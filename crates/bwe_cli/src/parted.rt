@@ -16,8 +16,6 @@ use two_part::find_parts;
 pub(crate) enum Parted<'a> {
     Read {
         document: Document,
-        /// The bytes that the document was read from.
-        bytes: &'a [u8],
         part: &'a [u8],
     },
     Refused {
@@ -34,13 +32,8 @@ pub(crate) fn read_parts(alloc: Global, input: &[u8]) -> Result<Parted<'_>, OutO
         return Ok(Parted::Refused { answer });
     };
     let (front, part) = (&input[..parts.end as usize], &input[parts.end as usize..]);
-    let bytes = &front[parts.start as usize..];
-    match read_document(alloc, bytes) {
-        Ok(document) => Ok(Parted::Read {
-            document,
-            bytes,
-            part,
-        }),
+    match read_document(alloc, &front[parts.start as usize..]) {
+        Ok(document) => Ok(Parted::Read { document, part }),
         Err(error) => {
             let answer = refused(alloc, &error)?;
             Ok(Parted::Refused { answer })
