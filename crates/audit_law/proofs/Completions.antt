@@ -250,9 +250,12 @@ module _ (names : LineNames) (scripts : List (List Report)) where
               let well : IsSound walked.walk.due walked.walk.table = subst LeadsSoundly after (sound_after walk.due walk.table first sound) in
               let more : number + 1 ≤ line = fault_least names scripts total_at left lines walked.walk (number + 1) line cause e in
               let ended : Ends walked.walk (number + 1) line lines = later walked.walk well e in
-              let count : suc (line - (number + 1)) ≡ line - number = omega (arith, more) in
-              (ended.0, omega (arith, ended.1), subst (λ (n : ℕ). IsLegalFrom names scripts total_at [] walk (take n (first ∷ lines) ++ ended.0)) count
-              (step_on names scripts total_at [] walk first (take (line - (number + 1)) lines ++ ended.0) walked after right ended.2))
+              let count : suc (line - (number + 1)) ≡ line - number = omega (arith, more) in (
+                ended.0,
+                omega (arith, ended.1),
+                subst (λ (n : ℕ). IsLegalFrom names scripts total_at [] walk (take n (first ∷ lines) ++ ended.0)) count
+                    (step_on names scripts total_at [] walk first (take (line - (number + 1)) lines ++ ended.0) walked after right ended.2),
+              )
 
   -- ---- the history
 
@@ -347,8 +350,7 @@ module _ (names : LineNames) (scripts : List (List Report)) where
             let ended : HistoryEnds (done ++ report ∷ []) (set taken report.reporter (get_or taken report.reporter 0 + 1)) line lines =
             later (done ++ report ∷ []) (set taken report.reporter (get_or taken report.reporter 0 + 1)) more (begin_more names tasks links scripts given done taken report has begin here.there here.place) wrong in
             let longer : length (done ++ report ∷ []) ≡ length done + 1 = omega (arith, length_push done report) in
-            let count : suc (line - (length (done ++ report ∷ []) + 1)) ≡ line - (length done + 1) = omega (arith, least, longer) in
-            (
+            let count : suc (line - (length (done ++ report ∷ []) + 1)) ≡ line - (length done + 1) = omega (arith, least, longer) in (
               ended.0,
               omega (arith, ended.1, longer),
               subst (λ (n : ℕ). judged names scripts total table [] (take_lines names scripts printed (take n (first ∷ lines) ++ ended.0)) ≡ Legal) count
@@ -411,8 +413,7 @@ module _ (names : LineNames) (scripts : List (List Report)) where
         test true right e =
             let least : 1 ≤ line = history_least names scripts total table left lines (none_printed scripts) line cause e in
             let ended : HistoryEnds [] (replicate (length scripts) 0) line lines = history_ends left lines [] (replicate (length scripts) 0) line cause kind (taken_none tasks links scripts) (begin_none scripts) e in
-            let count : suc (line - 1) ≡ line = omega (arith, least) in
-            (
+            let count : suc (line - 1) ≡ line = omega (arith, least) in (
               ended.0,
               omega (arith, ended.1),
               subst (λ (n : ℕ). judged names scripts total table [] (history_in names scripts (take n (first ∷ lines) ++ ended.0)) ≡ Legal) count

@@ -176,8 +176,7 @@ module _ (names : RunNames) (tasks links : ℕ) (scripts : List (List Report)) (
           ∙ ap (λ (rest : List (List ℕ)). spaced (history_line (length reported.reports)) ∷ report_lines (line_names names) 0 reported.reports ++ rest) (sent.lines_so ∙ ap (λ (rest : List (List ℕ)). sent_lines (line_names names) 0 scripts ++ rest) (all.lines_so ∙ ap (λ (n : ℕ). all_seen n 0 (all.first ∷ all.later) ++ tabled) (sym is.all)))
           ∙ sym (front_is reported.reports (all.first ∷ all.later) tabled) in
           let seen : All (IsSeen (λ prefix. total (take prefix reported.reports)) (length reported.reports) all.reads) (all.first ∷ all.later) =
-          subst (λ (n : ℕ). All (IsSeen (λ prefix. total (take prefix reported.reports)) n all.reads) (all.first ∷ all.later)) (sym is.all) all.seen in
-          (
+          subst (λ (n : ℕ). All (IsSeen (λ prefix. total (take prefix reported.reports)) n all.reads) (all.first ∷ all.later)) (sym is.all) all.seen in (
             printed front ++ text_of names.table table,
             record {
               history = reported.reports;

@@ -14,13 +14,8 @@ use two_part::find_parts;
 /// The parts of an input, or what is written for a refused one.
 #[derive(Drop)]
 pub(crate) enum Parted<'a> {
-    Read {
-        document: Document,
-        part: &'a [u8],
-    },
-    Refused {
-        answer: Answer,
-    },
+    Read { document: Document, part: &'a [u8] },
+    Refused { answer: Answer },
 }
 
 /// The document of the input and the bytes behind it. An input without parts is refused before a document is read.
