@@ -34,5 +34,5 @@ Goes-append (Some a) (Some b) None xs ys first second = absurd second
 Goes-append (Some a) (Some b) (Some c) xs ys first second = (
   second.0 ∙ ap (λ events. events ++ ys) first.0 ∙ append_assoc a.events xs ys,
   first.1 ∙ ap (λ left. taken xs ++ left) second.1 ∙ sym (append_assoc (taken xs) (taken ys) c.left)
-  ∙ ap (λ both. both ++ c.left) (sym (taken-append xs ys)),
+      ∙ ap (λ both. both ++ c.left) (sym (taken-append xs ys)),
 )
