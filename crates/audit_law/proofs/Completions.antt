@@ -1,20 +1,19 @@
 -- What was read without a fault is the beginning of a legal text, where the reading has not stopped among the reads of a reader.
-use Rattle.std.proofs.Common.{◌≡◌, ◌<◌, ◌≤◌, ◌+◌, ◌-◌, ◌^◌, ◌++◌, ◌==◌, ◌&&◌, ℕ, zero, suc, Bool, true, false, cond, not, List, [], ◌∷◌, length, get_or, set, take, drop, nat_lt, codes, Option, Some, None, Result, Ok, Err, refl, sym, ap, ◌∙◌, subst, arith, All, append_assoc, append-nil, replicate, take-append-drop}
+use Rattle.std.proofs.Common.{◌≡◌, ◌<◌, ◌≤◌, ◌+◌, ◌-◌, ◌^◌, ◌++◌, ◌==◌, ◌&&◌, ℕ, suc, Bool, true, false, cond, not, List, [], ◌∷◌, length, get_or, set, take, drop, nat_lt, codes, Option, Some, None, Result, Ok, Err, refl, sym, ap, ◌∙◌, subst, arith, All, replicate, take-append-drop}
 use Rattle.std.specs.Prelude.{nat_le, slice_index_or}
 use Rattle.std.specs.Str.{bytes_eq}
-use Rattle.std.proofs.lemmas.Bool.{eq-eqb, eqb-true, ltb-false, ltb-true, ne_eqb}
+use Rattle.std.proofs.lemmas.Bool.{ltb-false, ltb-true}
 use Rattle.std.proofs.lemmas.List.{length-take-le, length_push}
-use Rattle.std.proofs.lemmas.List.Elements.{All-append, All-cons, All-drop, All-head, All-nil, All-tail, All-take, All-weaker, filter-append}
+use Rattle.std.proofs.lemmas.List.Elements.{All-cons, All-nil, All-take, All-weaker}
 use Rattle.std.proofs.lemmas.Option.{slice_get_within}
 use Rattle.bwe_specs.specs.declared.report.Report.{Report}
-use Rattle.bwe_specs.specs.Reports.{reports_of}
 use Rattle.demand_book.specs.Fit.{IsFit}
 use Rattle.crew_log.specs.declared.log.ReadLine.{ReadLine}
 use Rattle.run_audit.specs.Words.{word_at, words_of}
 use Rattle.run_audit.specs.Forms.{LineNames, history_of, reader_of, sent_of, shown_of}
 use Rattle.run_audit.specs.History.{Printed, Reported, begins, continue_with, fault, history_in, line_after, none_printed, take_line, take_lines, total_of}
-use Rattle.run_audit.specs.Walk.{Walk, Walked, after_final, after_line, after_read, after_reader, after_reporter, after_shown, after_table, due_from, goes_on, is_over, is_reader, is_table_line, is_wanted, leads_to, new_block, reader_leads, sent_leads, shown_leads, step_from, with_table}
-use Rattle.run_audit.specs.Verdict.{at_end, go_on, is_total, judge, judge_rest}
+use Rattle.run_audit.specs.Walk.{Walk, Walked, after_final, after_line, after_read, after_reader, after_reporter, after_shown, after_table, due_from, goes_on, is_over, is_reader, is_wanted, leads_to, new_block, reader_leads, sent_leads, shown_leads, step_from, with_table}
+use Rattle.run_audit.specs.Verdict.{at_end, go_on, is_total, judge}
 use Rattle.run_audit.specs.declared.forms.ReaderWords.{ReaderWords}
 use Rattle.run_audit.specs.declared.forms.Shown.{Shown}
 use Rattle.run_audit.specs.declared.due.Block.{Block}

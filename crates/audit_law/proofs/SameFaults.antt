@@ -1,5 +1,5 @@
 -- A fault is named by the lines up to it: a text with the same first lines has the same first fault.
-use Rattle.std.proofs.Common.{◌≡◌, ◌<◌, ◌≤◌, ◌+◌, ◌++◌, ◌==◌, ℕ, suc, Bool, true, false, cond, List, [], ◌∷◌, length, take, drop, nat_lt, Option, Some, None, Result, Ok, Err, refl, sym, ap, ◌∙◌, subst, arith}
+use Rattle.std.proofs.Common.{◌≡◌, ◌<◌, ◌≤◌, ◌+◌, ◌++◌, ◌==◌, ℕ, Bool, true, false, cond, List, [], ◌∷◌, length, take, drop, nat_lt, Option, Some, None, Result, Ok, Err, refl, sym, ap, ◌∙◌, arith}
 use Rattle.std.proofs.lemmas.List.{length_push, length-take-le, take-append-drop}
 use Rattle.bwe_specs.specs.declared.report.Report.{Report}
 use Rattle.run_audit.specs.Words.{left_of, lines_of, words_of}
@@ -11,7 +11,7 @@ use Rattle.run_audit.specs.declared.forms.ReportWords.{ReportWords}
 use Rattle.run_audit.specs.declared.verdict.AuditCause.{AuditCause}
 use Rattle.run_audit.specs.declared.verdict.AuditCause.TheVariants as causes
 use Rattle.run_audit.specs.declared.verdict.AuditVerdict.{AuditVerdict}
-use Rattle.run_audit.specs.declared.verdict.AuditVerdict.TheVariants.{Legal, Wrong}
+use Rattle.run_audit.specs.declared.verdict.AuditVerdict.TheVariants.{Wrong}
 use Rattle.run_audit.specs.declared.verdict.Fault.{Fault}
 
 module _ (names : LineNames) (scripts : List (List Report)) where

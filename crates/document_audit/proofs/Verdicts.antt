@@ -1,5 +1,5 @@
 -- The verdict on a text for a document, by scripts that are its script split by reporter.
-use Rattle.std.proofs.Common.{◌≡◌, ◌∙◌, ℕ, List, Vec, Global, length, ap, ap₂, sym, subst}
+use Rattle.std.proofs.Common.{◌≡◌, ◌∙◌, ℕ, List, Vec, Global, length, ap, ap₂, subst}
 use Rattle.std.proofs.lemmas.List.{length-replicate}
 use Rattle.bwe_specs.specs.declared.report.Report.{Report}
 use Rattle.bwe_specs.specs.Allocation.{Plan, allocation}
@@ -15,7 +15,7 @@ use Rattle.plan_doc.specs.Document.{Accepted}
 use Rattle.plan_doc.specs.Plans.{plan_in, plan_of}
 use Rattle.policy_tree.specs.Trees.{task_numbers}
 use Rattle.run_audit.specs.Verdict.{verdict_of}
-use Rattle.run_text.specs.RunText.{RunNames, run_names_of}
+use Rattle.run_text.specs.RunText.{run_names_of}
 use Rattle.table_text.specs.TableText.{text_of}
 use Rattle.audit_law.specs.ClosedRun.{IsClosedRun, line_names}
 use Rattle.audit_law.specs.Laws.{verdict_on}
