@@ -1,5 +1,5 @@
 #!/usr/bin/python3
-"""tools/minutes.py COMMAND..: runs a command, as `rt ci --anew`, and prints what it took by
+"""tools/minutes.py COMMAND..: runs a command, as `rt ci`, and prints what it took by
 crate, in processor minutes.
 
 The gate's log names no times. So each half second this looks at the prover's processes below the
@@ -8,7 +8,7 @@ its processor time so far. What a process did in its last half second is lost, s
 little less than the truth. The command's own output goes to standard error, the table, as
 Markdown, to standard output. The status is the command's.
 
-    tools/minutes.py rt ci --anew      all, from nothing
+    tools/minutes.py rt ci             all, from nothing
     tools/minutes.py --process 4711    a command that runs already, by its number, till it ends
     tools/minutes.py rt ci board       a crate and those below it, without what is kept of them
     tools/minutes.py --made            what the last proof of each crate by `make` took, by the
