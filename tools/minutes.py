@@ -10,7 +10,6 @@ Markdown, to standard output. The status is the command's.
 
     tools/minutes.py rt ci             all, from nothing
     tools/minutes.py --process 4711    a command that runs already, by its number, till it ends
-    tools/minutes.py rt ci board       a crate and those below it, without what is kept of them
     tools/minutes.py --made            what the last proof of each crate by `make` took, by the
                                        crates' prove.log: after one `make` from nothing, all of it
 """
