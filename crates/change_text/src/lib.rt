@@ -1,6 +1,6 @@
 //! The texts that `bwe-live` answers with: what a post has changed, the reports that count, and a refused line.
 //!
-//! The session uses `change_text`, `state_text` and `refused_text`, whose clauses are the whole texts ("Change text",
+//! The session uses `change_text`, `state_text` and `refused_text`, whose clauses are the whole texts ("What it writes",
 //! docs/FORMAT.md). The lines of a change are those of the table text, put by the same calls.
 //! `kept_tables_are_made_tables` is the law of changes: who makes each change to the table text has the text of the later table.
 //! `state_lines_are_read` says that the lines of a state, read as input, mean the reports that they were made from.
