@@ -7,6 +7,6 @@ pub returns-clause-taken : goal.returns-clause-taken
 returns-clause-taken c = (
   grind (arith, common_steps),
   rw (← c.self.view_is, append-nil)
-  (given-more c.self.inside.input.items c.args.buffer.now c.copy_from_slice.new.self c.self.inside.at c.min-count.result
-  (grind (arith, common_steps)) (omega (arith, length-drop c.self.inside.at c.self.inside.input.items))),
+      (given-more c.self.inside.input.items c.args.buffer.now c.copy_from_slice.new.self c.self.inside.at c.min-count.result
+      (grind (arith, common_steps)) (omega (arith, length-drop c.self.inside.at c.self.inside.input.items))),
 )
