@@ -1,6 +1,6 @@
 -- What happened over several calls.
 use Rattle.std.proofs.Common.{◌≡◌, ◌∙◌, ℕ, List, [], ◌∷◌, ◌++◌, Option, Some, None, ap, refl, sym, append_assoc, append-nil}
-use Rattle.live_stream.specs.Talk.{Event, Took, Gave, Talk, Goes, taken, given, gives}
+use Rattle.live_stream.specs.Talk.{Event, Took, Gave, Talk, Goes, IsOver, taken, given, gives}
 
 pub taken-append : (xs ys : List Event) → taken (xs ++ ys) ≡ taken xs ++ taken ys
 taken-append [] ys = refl
@@ -28,7 +28,9 @@ Goes-nothing (Some talk) = (sym (append-nil talk.events), refl)
 
 -- what happened over two calls, one after the other
 pub Goes-append : (old mid new : Option Talk) (xs ys : List Event) → Goes old mid xs → Goes mid new ys → Goes old new (xs ++ ys)
-Goes-append None mid new xs ys first second = tt
+Goes-append None None None xs ys first second = tt
+Goes-append None None (Some c) xs ys first second = absurd second
+Goes-append None (Some b) new xs ys first second = absurd first
 Goes-append (Some a) None new xs ys first second = absurd first
 Goes-append (Some a) (Some b) None xs ys first second = absurd second
 Goes-append (Some a) (Some b) (Some c) xs ys first second = (
@@ -36,3 +38,11 @@ Goes-append (Some a) (Some b) (Some c) xs ys first second = (
   first.1 ∙ ap (λ left. taken xs ++ left) second.1 ∙ sym (append_assoc (taken xs) (taken ys) c.left)
       ∙ ap (λ both. both ++ c.left) (sym (taken-append xs ys)),
 )
+
+-- nothing is to come, also after what took nothing
+pub IsOver-after : (old new : Option Talk) (events : List Event) → taken events ≡ [] → Goes old new events → IsOver old → IsOver new
+IsOver-after None None events none goes over = tt
+IsOver-after None (Some b) events none goes over = absurd goes
+IsOver-after (Some a) None events none goes over = absurd goes
+IsOver-after (Some a) (Some b) events none goes over =
+    ap (λ bytes. bytes ++ b.left) (sym none) ∙ sym goes.1 ∙ over

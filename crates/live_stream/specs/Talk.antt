@@ -23,9 +23,11 @@ pub record Talk : Type 0 where
   pub left : List ℕ
   pub events : List Event
 
--- these events happened, where the object tells them: they stand behind the earlier ones, and what they took came from the front
+-- These events happened, where the object tells them, as it always does or never does: they stand behind the earlier ones, and
+-- what they took came from the front.
 abbrev pub Goes : Option Talk → Option Talk → List Event → Type 0
-Goes None after events = ⊤
+Goes None None events = ⊤
+Goes None (Some after) events = ⊥
 Goes (Some before) None events = ⊥
 Goes (Some before) (Some after) events =
     (after.events ≡ before.events ++ events) × (before.left ≡ taken events ++ after.left)

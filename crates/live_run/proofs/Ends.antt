@@ -1,0 +1,150 @@
+-- How a conversation ends, from what its document is.
+use Rattle.std.proofs.Common.{◌≡◌, ◌∙◌, ◌⊎◌, inl, inr, ℕ, ◌+◌, ◌≤◌, Bool, true, false, cond, List, [], ◌∷◌, ◌++◌, Option, Some, None, Result, Ok, Err, ap, refl, sym, subst, arith, length, take, drop, append-nil, length-append}
+use Rattle.std.specs.Prelude.{MatchResult, IfOk, IfErr}
+use Rattle.std.proofs.Math.Seq.{take-append-add}
+use Rattle.std.proofs.lemmas.List.{take-append-drop, take-append-le}
+use Rattle.bwe_io.specs.Faults.{HasRisen}
+use Rattle.live_lines.specs.Cutting.{Held, lines_from, held_after}
+use Rattle.live_stream.specs.Talk.{Faults, NeverFall, Talk, IsOver}
+use Rattle.two_part.specs.declared.Parts.{Parts}
+use Rattle.two_part.specs.TwoPart.{parts_of}
+use Rattle.live_run.specs.declared.ending.Stop.{Stop}
+use Rattle.live_run.specs.declared.ending.Stop.TheVariants.{ReadFault, WriteFault, OutOfMemory}
+use Rattle.live_run.specs.Follow.{Follow, answers, called_for, document_in, follow_text, text_at}
+use Rattle.live_run.specs.Conversation.{Passed, Converses}
+use Rattle.live_run.specs.Answers.{AnswersPart, AnswersPiece, Brings, Gives, GivesFirst, IsAtEnd, IsBefore, IsBehind, IsUpTo, answers_to}
+use Rattle.live_run.specs.Endings.{AreWhole, Ending, no_words, ended, refused, no_document, too_long, read_fault, write_fault, out_of_memory, HasStopped, IsDue, IsFirstOfDue, IsJudged, IsServed, so_far, stop_status}
+use Rattle.live_run.proofs.Conversing.{Converses-append, Converses-gives}
+use Rattle.live_run.proofs.LinesBehind.{calls-behind, calls-more}
+use Rattle.live_run.proofs.Counts.{HasRisen-after}
+use Rattle.live_run.proofs.Steps.{HasStopped-after, first-due}
+
+-- a conversation that stopped has the status of its stop
+pub Ending-stopped : (follow : Follow) (words : ℕ) (talk : Option Talk) (a b : Faults) (p : Passed) (stop : Stop) → HasStopped follow words a b p stop → Ending follow words talk a b p (stop_status stop)
+Ending-stopped follow words talk a b p ReadFault stopped = read_fault stopped.0 stopped.1
+Ending-stopped follow words talk a b p WriteFault stopped = write_fault stopped.0 stopped.1
+Ending-stopped follow words talk a b p OutOfMemory stopped = out_of_memory stopped
+
+-- the bytes that were read are the front and what stands behind it
+pub parted : (bytes : List ℕ) (parts : Parts) → bytes ≡ take parts.end bytes ++ drop parts.end bytes
+parted bytes parts = sym (take-append-drop parts.end bytes)
+
+-- before its lines an accepted document calls for the first text
+lines-none : (follow : Follow) (document : List ℕ) → follow.first_text document ++ answers_to follow document [] ≡ follow.first_text document
+unfolding lines_from
+lines-none follow document = append-nil (follow.first_text document)
+
+pub first-text : (follow : Follow) (front document : List ℕ) → IsBefore follow front document → called_for follow front ≡ follow.first_text document
+first-text follow front document before =
+    ap (called_for follow) (sym (append-nil front)) ∙ calls-behind follow front document before [] ∙ lines-none follow document
+
+-- a follower that has answered nothing, and a cutter that holds nothing
+pub behind-nothing : {F : Type 0} (has_followed : F → List ℕ → List Held → Type 0) (document : List ℕ) (follower : F) (held : Held)
+    → has_followed follower document [] → held ≡ Some [] → IsBehind has_followed document follower held []
+unfolding lines_from held_after
+behind-nothing has_followed document follower held followed same = record { followed = followed; held_so = same }
+
+-- an accepted document whose front this is, is judged so whatever comes behind it
+pub judged : (follow : Follow) (front document behind read : List ℕ) → IsBefore follow front document → read ≡ front ++ behind → IsJudged true follow read
+judged follow front document behind read before same =
+    subst (λ r. IsJudged true follow r) (sym same)
+    (before.parts, before.found behind, ap follow.accepts (before.document_so behind) ∙ before.accepted)
+
+-- a refused document calls for its first text alone
+pub refused-text : (follow : Follow) (bytes : List ℕ) (parts : Parts) → parts_of bytes ≡ Some parts → follow.accepts (document_in bytes parts) ≡ false
+    → called_for follow bytes ≡ follow.first_text (document_in bytes parts)
+refused-text follow bytes parts e refuses =
+    ap (text_at (lines_from (Some [])) follow bytes) e
+    ∙ ap (λ (v : Bool). follow.first_text (document_in bytes parts) ++ cond v (answers follow (document_in bytes parts) [] (lines_from (Some []) (drop parts.end bytes))) []) refuses
+    ∙ append-nil (follow.first_text (document_in bytes parts))
+
+-- the first text begins what a whole document calls for
+pub called-more : (follow : Follow) (bytes : List ℕ) (parts : Parts) → parts_of bytes ≡ Some parts
+    → (more : List ℕ) × (called_for follow bytes ≡ follow.first_text (document_in bytes parts) ++ more)
+called-more follow bytes parts e = (
+  cond (follow.accepts (document_in bytes parts)) (answers follow (document_in bytes parts) [] (lines_from (Some []) (drop parts.end bytes))) [],
+  ap (text_at (lines_from (Some [])) follow bytes) e,
+)
+
+-- ---- an opened document: what is behind its front has been read with it
+
+module _ (follow : Follow) (front document : List ℕ) (before : IsBefore follow front document) where
+  pub opened-called : (piece text : List ℕ) → Brings follow document [] piece text → called_for follow (front ++ piece) ≡ follow.first_text document ++ text
+  opened-called piece text brings =
+      calls-more follow front document [] piece text before brings
+      ∙ ap (λ written. written ++ text) (ap (called_for follow) (append-nil front) ∙ first-text follow front document before)
+
+  pub opened-whole : (bytes piece text : List ℕ) (count : ℕ) → bytes ≡ front ++ piece → count ≤ length piece → Brings follow document [] (take count piece) text
+      → AreWhole follow (record { read = bytes; written = follow.first_text document ++ text })
+  opened-whole bytes piece text count same within brings = record {
+    count = length front + count;
+    within = omega (arith, within, ap length same, length-append front piece);
+    written_so = sym (ap (λ (read : List ℕ). called_for follow (take (length front + count) read)) same
+        ∙ ap (called_for follow) (take-append-add front piece count) ∙ opened-called (take count piece) text brings);
+  }
+
+  pub opened-due : (bytes piece text : List ℕ) (count : ℕ) → bytes ≡ front ++ piece → count ≤ length text → Brings follow document [] piece text
+      → IsFirstOfDue follow 0 (record { read = bytes; written = follow.first_text document ++ take count text })
+  opened-due bytes piece text count same within brings =
+      first-due follow 0 bytes (follow.first_text document) text (called_for follow bytes) count so_far
+      (ap (called_for follow) same ∙ opened-called piece text brings) within
+
+-- a first part of the first text
+pub first-part : (follow : Follow) (bytes : List ℕ) (parts : Parts) (count : ℕ) → parts_of bytes ≡ Some parts → count ≤ length (follow.first_text (document_in bytes parts))
+    → IsFirstOfDue follow 0 (record { read = bytes; written = take count (follow.first_text (document_in bytes parts)) })
+first-part follow bytes parts count e within =
+    let first = follow.first_text (document_in bytes parts) in
+    let more = called-more follow bytes parts e in record {
+      text = called_for follow bytes;
+      due = so_far;
+      count = count;
+      within = omega (arith, within, ap length more.1, length-append first more.0);
+      written_so = sym (ap (take count) more.1 ∙ take-append-le count first more.0 within);
+    }
+
+-- ---- counts before
+
+pub Ending-after : (follow : Follow) (talk : Option Talk) (a b c : Faults) (p : Passed) (status : ℕ) → NeverFall a b → Ending follow 0 talk b c p status → Ending follow 0 talk a c p status
+Ending-after follow talk a b c p status never (no_words some read written) = no_words some read written
+Ending-after follow talk a b c p status never (ended none over accepted written) = ended none over accepted written
+Ending-after follow talk a b c p status never (refused none judged written) = refused none judged written
+Ending-after follow talk a b c p status never (no_document none parts why written) = no_document none parts why written
+Ending-after follow talk a b c p status never (too_long none says written) = too_long none says written
+Ending-after follow talk a b c p status never (read_fault risen written) = read_fault (HasRisen-after a.reads b.reads c.reads never.reads risen) written
+Ending-after follow talk a b c p status never (write_fault risen first) = write_fault (HasRisen-after a.writes b.writes c.writes never.writes risen) first
+Ending-after follow talk a b c p status never (out_of_memory whole) = out_of_memory whole
+
+pub ends-after : (follow : Follow) (talk : Option Talk) (a b c : Faults) (p : Passed) (result : Result ℕ Stop) → NeverFall a b
+    → MatchResult result (Ending follow 0 talk b c p) (HasStopped follow 0 b c p) → MatchResult result (Ending follow 0 talk a c p) (HasStopped follow 0 a c p)
+ends-after follow talk a b c p (Ok status) never ending = Ending-after follow talk a b c p status never ending
+ends-after follow talk a b c p (Err stop) never stopped = HasStopped-after follow a b c p stop never stopped
+
+-- ---- a line that refuses the front
+
+pub refused-line : (follow : Follow) (t a b : Option Talk) (f0 f1 f2 : Faults) (read line : List ℕ) (status : ℕ) (result : Result ℕ Stop) → NeverFall f0 f1
+    → Converses follow t a (record { read = []; written = [] }) (record { read = read; written = [] })
+    → IfOk result (λ value. (value ≡ status) × Gives a b line)
+    → IfErr result (λ stop. (stop ≡ WriteFault) × HasRisen f1.writes f2.writes × GivesFirst a b line)
+    → IsDue follow 0 read line → (Gives a b line → Ending follow 0 b f0 f2 (record { read = read; written = line }) status)
+    → (passed : Passed) × Converses follow t b (record { read = []; written = [] }) passed
+    × MatchResult result (Ending follow 0 b f0 f2 passed) (HasStopped follow 0 f0 f2 passed)
+refused-line follow t a b f0 f1 f2 read line status (Ok value) never first given partly due ends = (
+  record { read = read; written = line },
+  Converses-append follow t a b _ _ _ first (Converses-gives follow a b read [] line line given.1 refl),
+  subst (λ s. Ending follow 0 b f0 f2 (record { read = read; written = line }) s) (sym given.0) (ends given.1),
+)
+refused-line follow t a b f0 f1 f2 read line status (Err stop) never first given partly due ends = (
+  record { read = read; written = take partly.2.count line },
+  Converses-append follow t a b _ _ _ first (Converses-gives follow a b read [] (take partly.2.count line) (take partly.2.count line) partly.2.gives refl),
+  subst (λ s. HasStopped follow 0 f0 f2 (record { read = read; written = take partly.2.count line }) s) (sym partly.0) (
+    HasRisen-after f0.writes f1.writes f2.writes never.writes partly.1,
+    record { text = line; due = due; count = partly.2.count; within = partly.2.within; written_so = refl },
+  ),
+)
+
+-- a conversation without words
+pub served : (follow : Follow) (words : ℕ) (talk talk_after : Option Talk) (a b : Faults) (p : Passed) (status : ℕ) → words ≡ 0
+    → Converses follow talk talk_after (record { read = []; written = [] }) p → Ending follow 0 talk_after a b p status → IsServed follow words talk talk_after a b status
+served follow words talk talk_after a b p status none conversation ending =
+    subst (λ w. IsServed follow w talk talk_after a b status) (sym none)
+    (record { passed = p; conversation = conversation; ending = ending; untouched = λ some. absurd (omega (arith, some)) })

@@ -1,0 +1,106 @@
+use Rattle.std.proofs.Common.{◌≡◌, ◌∙◌, ◌+◌, ◌-◌, List, [], ◌++◌, ℕ, Err, ap, refl, subst, sym, length, take, drop, arith, append-nil}
+use Rattle.std.proofs.lemmas.List.{length-take-le, take_rest}
+use Rattle.live_run.specs.Answers.{IsUpTo}
+use Rattle.live_run.specs.Conversation.{Converses, Passed}
+use Rattle.live_run.specs.Endings.{HasStopped, ended}
+use Rattle.live_run.specs.Follow.{called_for, document_in}
+use Rattle.live_run.proofs.Conversing.{Converses-append, Converses-gives, Converses-nothing}
+use Rattle.live_run.proofs.Ends.{behind-nothing, first-text, judged, opened-called, opened-due, opened-whole, parted}
+use Rattle.live_run.proofs.Fronts.{before-parts}
+use Rattle.live_run.proofs.Steps.{HasStopped-after, stop-cases}
+use Rattle.live_run.proofs.served.follow_opened.Goals as goal
+
+pub returns-in-Err : goal.returns-in-Err
+returns-in-Err g c =
+    let document : List ℕ = document_in c.args.bytes.items c.args.parts in
+    let front : List ℕ = take c.args.parts.end c.args.bytes.items in
+    let bef = before-parts g.F.Follower.follow c.args.bytes.items c.args.parts c.requires.found c.requires.accepted in (
+      record { read = c.args.bytes.items; written = g.F.Follower.follow.first_text document },
+      Converses-nothing g.F.Follower.follow _ _,
+      record { count = c.args.parts.end; within = omega (arith, c.requires.end, c.args.bytes.ok.0); written_so = sym (first-text g.F.Follower.follow front document bef) },
+    )
+
+pub returns-in-Err-answer_piece : goal.returns-in-Err-answer_piece
+returns-in-Err-answer_piece g c =
+    let document : List ℕ = document_in c.args.bytes.items c.args.parts in
+    let front : List ℕ = take c.args.parts.end c.args.bytes.items in
+    let first : List ℕ = g.F.Follower.follow.first_text document in
+    let bef = before-parts g.F.Follower.follow c.args.bytes.items c.args.parts c.requires.found c.requires.accepted in
+    let b : List ℕ = c.deref.result.now in
+    let piece : List ℕ = take (length b - c.args.parts.end) (drop c.args.parts.end b) in
+    let same : c.args.bytes.items ≡ front ++ piece =
+    parted c.args.bytes.items c.args.parts ∙ ap (λ (rest : List ℕ). front ++ rest) (ap (drop c.args.parts.end) (sym c.deref.ensures.value) ∙ sym (take_rest b c.args.parts.end)) in
+    let at = behind-nothing g.F.Follower.has_followed document c.args.follower c.in-Ok.cutter c.requires.followed c.in-Ok.ensures in
+    stop-cases
+    (λ stop. (after : Passed) × Converses g.F.Follower.follow (g.S.Stream.talk c.args.stream.now) (g.S.Stream.talk c.answer_piece.new.stream) (record { read = c.args.bytes.items; written = first }) after
+    × HasStopped g.F.Follower.follow 0 (g.S.Stream.faults c.args.stream.now) (g.S.Stream.faults c.answer_piece.new.stream) after stop)
+    c.in-Err-answer_piece.stop
+    (λ is. absurd (c.in-Err-answer_piece.ensures.asks (ap Err is)))
+    (λ is.
+    let part = c.in-Err-answer_piece.ensures.partly (ap Err is) document [] at in
+    let text : List ℕ = take part.gives.count part.text in (
+      record { read = c.args.bytes.items; written = first ++ text },
+      Converses-gives g.F.Follower.follow _ _ c.args.bytes.items first text (first ++ text) part.gives.gives refl,
+      (
+        c.in-Err-answer_piece.ensures.fault (ap Err is),
+        opened-due g.F.Follower.follow front document bef c.args.bytes.items piece part.text part.gives.count same part.gives.within part.brings,
+      ),
+    ))
+    (λ is.
+    let whole = c.in-Err-answer_piece.ensures.whole (ap Err is) document [] at in (
+      record { read = c.args.bytes.items; written = first ++ whole.2.text },
+      Converses-gives g.F.Follower.follow _ _ c.args.bytes.items first whole.2.text (first ++ whole.2.text) whole.2.gives refl,
+      opened-whole g.F.Follower.follow front document bef c.args.bytes.items piece whole.2.text whole.0 same whole.1 whole.2.brings,
+    ))
+
+pub returns-in-Ok-follow_lines : goal.returns-in-Ok-follow_lines
+returns-in-Ok-follow_lines g c =
+    let document : List ℕ = document_in c.args.bytes.items c.args.parts in
+    let front : List ℕ = take c.args.parts.end c.args.bytes.items in
+    let first : List ℕ = g.F.Follower.follow.first_text document in
+    let bef = before-parts g.F.Follower.follow c.args.bytes.items c.args.parts c.requires.found c.requires.accepted in
+    let b : List ℕ = c.deref.result.now in
+    let piece : List ℕ = take (length b - c.args.parts.end) (drop c.args.parts.end b) in
+    let same : c.args.bytes.items ≡ front ++ piece =
+    parted c.args.bytes.items c.args.parts ∙ ap (λ (rest : List ℕ). front ++ rest) (ap (drop c.args.parts.end) (sym c.deref.ensures.value) ∙ sym (take_rest b c.args.parts.end)) in
+    let at = behind-nothing g.F.Follower.has_followed document c.args.follower c.in-Ok.cutter c.requires.followed c.in-Ok.ensures in
+    let done = c.in-Ok-answer_piece.ensures.given document [] at in
+    let p : Passed = record { read = c.args.bytes.items; written = first ++ done.text } in
+    let upto : IsUpTo g.F.Follower.follow g.F.Follower.has_followed front document c.answer_piece.new.follower c.answer_piece.new.cutter p = record {
+      behind = piece;
+      is_behind = c.in-Ok-answer_piece.ensures.behind document [] at;
+      read_so = same;
+      written_so = sym (ap (called_for g.F.Follower.follow) same ∙ opened-called g.F.Follower.follow front document bef piece done.text done.brings);
+    } in
+    let last = c.in-Ok-follow_lines.ensures front document p bef upto in (
+      last.0,
+      Converses-append g.F.Follower.follow _ _ _ _ p last.0
+          (Converses-gives g.F.Follower.follow _ _ c.args.bytes.items first done.text (first ++ done.text) done.gives refl) last.1,
+      ended refl last.2.0 (judged g.F.Follower.follow front document last.2.1.behind last.0.read bef last.2.1.read_so) last.2.1.written_so,
+    )
+
+pub returns : goal.returns
+returns g c =
+    let document : List ℕ = document_in c.args.bytes.items c.args.parts in
+    let front : List ℕ = take c.args.parts.end c.args.bytes.items in
+    let first : List ℕ = g.F.Follower.follow.first_text document in
+    let bef = before-parts g.F.Follower.follow c.args.bytes.items c.args.parts c.requires.found c.requires.accepted in
+    let b : List ℕ = c.deref.result.now in
+    let piece : List ℕ = take (length b - c.args.parts.end) (drop c.args.parts.end b) in
+    let same : c.args.bytes.items ≡ front ++ piece =
+    parted c.args.bytes.items c.args.parts ∙ ap (λ (rest : List ℕ). front ++ rest) (ap (drop c.args.parts.end) (sym c.deref.ensures.value) ∙ sym (take_rest b c.args.parts.end)) in
+    let at = behind-nothing g.F.Follower.has_followed document c.args.follower c.in-Ok.cutter c.requires.followed c.in-Ok.ensures in
+    let done = c.in-Ok-answer_piece.ensures.given document [] at in
+    let p : Passed = record { read = c.args.bytes.items; written = first ++ done.text } in
+    let upto : IsUpTo g.F.Follower.follow g.F.Follower.has_followed front document c.answer_piece.new.follower c.answer_piece.new.cutter p = record {
+      behind = piece;
+      is_behind = c.in-Ok-answer_piece.ensures.behind document [] at;
+      read_so = same;
+      written_so = sym (ap (called_for g.F.Follower.follow) same ∙ opened-called g.F.Follower.follow front document bef piece done.text done.brings);
+    } in
+    let last = c.in-Err-follow_lines.ensures front document p bef upto in (
+      last.0,
+      Converses-append g.F.Follower.follow _ _ _ _ p last.0
+          (Converses-gives g.F.Follower.follow _ _ c.args.bytes.items first done.text (first ++ done.text) done.gives refl) last.1,
+      HasStopped-after g.F.Follower.follow _ _ _ last.0 c.in-Err-follow_lines.stop c.in-Ok-answer_piece.ensures.counted last.2,
+    )

@@ -1,0 +1,5 @@
+pub mod Follow
+pub mod Conversation
+pub mod Answers
+pub mod Front
+pub mod Endings

@@ -1,0 +1,72 @@
+//! The document in front of the input, as its bytes come.
+
+ghost use Rattle.std.specs.Prelude.{◌≡◌, ◌==◌, None, position};
+ghost use Rattle.two_part.specs.TwoPart.{parts_of};
+ghost use Rattle.live_run.specs.Front.{IsFront};
+
+use one_run::MAX_INPUT;
+use text_scan::{is_number, number_of};
+use two_part::{Parts, find_parts};
+
+/// What is known of the front.
+#[derive(Clone, Copy, Debug, PartialEq, Eq, Drop)]
+pub(crate) enum Front {
+    /// More bytes are to come before the document is whole.
+    Open,
+    /// The document is whole.
+    Found(Parts),
+    /// There is none, whatever follows.
+    Missing,
+    /// It is to have more bytes than an input may.
+    TooLong,
+}
+
+/// What these bytes say of the front. It looks at no byte behind the number.
+pub(crate) fn front_of(bytes: &[u8]) -> Front
+    ensures { IsFront bytes.now result }
+{
+    let Some(line_feed) = first_line_feed(bytes) else {
+        return unended(bytes);
+    };
+    let digits = &bytes[..line_feed];
+    if !is_number(digits) {
+        return Front::Missing;
+    }
+    let Some(number) = number_of(digits) else {
+        return Front::TooLong;
+    };
+    if number > MAX_INPUT {
+        return Front::TooLong;
+    }
+    whole(bytes)
+}
+
+fn first_line_feed(bytes: &[u8]) -> Option<usize>
+    ensures { result ≡ position (λ byte. byte == 10) bytes.now }
+{
+    bytes.iter().position(|byte| *byte == b'\n')
+}
+
+// The front where no line has ended yet.
+fn unended(bytes: &[u8]) -> Front
+    requires { position (λ byte. byte == 10) bytes.now ≡ None }
+    ensures { IsFront bytes.now result }
+{
+    if bytes.is_empty() {
+        return Front::Open;
+    }
+    if is_number(bytes) {
+        return Front::Open;
+    }
+    Front::Missing
+}
+
+// The front where a number stands before it.
+fn whole(bytes: &[u8]) -> Front
+    ensures { IsFront bytes.now result }
+{
+    match find_parts(bytes) {
+        Some(parts) => Front::Found(parts),
+        None => Front::Open,
+    }
+}

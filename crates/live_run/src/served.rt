@@ -1,0 +1,246 @@
+//! A whole conversation: the document in front, and the lines behind it.
+
+ghost use Rattle.std.specs.Prelude.{◌≡◌, ◌≢◌, ◌<◌, ◌≤◌, ℕ, List, [], Some, Err, true, false, length, vec_len, MatchResult, IsNone, IfSome, IfOk, IfErr, OnOk, OnErr, IsErrOf};
+ghost use Rattle.bwe_io.specs.Faults.{HasRisen};
+ghost use Rattle.live_stream.specs.Talk.{IsOver, NeverFall};
+ghost use Rattle.two_part.specs.TwoPart.{parts_of};
+ghost use Rattle.live_run.specs.Answers.{Gives, GivesFirst};
+ghost use Rattle.live_run.specs.Conversation.{Passed, Converses};
+ghost use Rattle.live_run.specs.Endings.{Ending, HasStopped, IsServed};
+ghost use Rattle.live_run.specs.Follow.{Follow, document_in};
+ghost use Rattle.live_run.specs.Front.{IsFront};
+
+use crate::behind::follow_lines;
+use crate::ending::status_of;
+use crate::front::{Front, front_of};
+use crate::line::answer_piece;
+use crate::{Follower, Stop};
+use bwe_io::Failed;
+use live_lines::LineCutter;
+use live_stream::Stream;
+use one_run::TOO_LONG;
+use std::alloc::{AllocError, Global};
+use two_part::Parts;
+
+/// The most bytes that are asked for at once.
+const PIECE: usize = 65_536;
+
+/// The line for words, of which there are none.
+const USAGE: &str = "usage: bwe-live\n";
+
+/// The line for an input without a document in front.
+const NO_PARTS: &str = "refused 14 parts\n";
+
+/// Serves one conversation, and answers the status ("`bwe-live`", docs/FORMAT.md).
+///
+/// `words` are those after the program's name: there are none, and for any the usage line is written. Each answer is made whole
+/// before its first byte is written. It returns provided that the stream's calls return.
+pub fn serve<F: Follower, S: Stream>(alloc: Global, words: &[String], stream: &mut S) -> u8
+    // The stream went from here to there as a conversation that was live all the way and ended as
+    // this status allows.
+    ensures { IsServed F.follow (length words.now) (S.talk stream.old) (S.talk stream.new)
+        (S.faults stream.old) (S.faults stream.new) result }
+{
+    if !words.is_empty() {
+        return match write_line(USAGE.as_bytes(), stream) {
+            Ok(()) => 2,
+            Err(_) => 5,
+        };
+    }
+    match converse::<F, S>(alloc, stream) {
+        Ok(status) => status,
+        Err(stop) => status_of(stop),
+    }
+}
+
+// A conversation without words: the document in front, and the lines behind it.
+fn converse<F: Follower, S: Stream>(alloc: Global, stream: &mut S) -> Result<u8, Stop>
+    ensures { (passed : Passed) × Converses F.follow (S.talk stream.old) (S.talk stream.new)
+        (record { read = []; written = [] }) passed
+        × MatchResult result
+        (Ending F.follow 0 (S.talk stream.new) (S.faults stream.old) (S.faults stream.new) passed)
+        (HasStopped F.follow 0 (S.faults stream.old) (S.faults stream.new) passed) }
+{
+    let mut buffer = match zeros(alloc, PIECE) {
+        Ok(buffer) => buffer,
+        Err(_) => return Err(Stop::OutOfMemory),
+    };
+    let (bytes, front) = match read_front(alloc, &mut buffer, stream) {
+        Ok(read) => read,
+        Err(stop) => return Err(stop),
+    };
+    match front {
+        Front::Found(parts) => follow_document::<F, S>(alloc, bytes, parts, &mut buffer, stream),
+        Front::Open => refuse(NO_PARTS.as_bytes(), 3, stream),
+        Front::Missing => refuse(NO_PARTS.as_bytes(), 3, stream),
+        Front::TooLong => refuse(TOO_LONG.as_bytes(), 8, stream),
+    }
+}
+
+// Writes the line of a refusal, and gives its status.
+fn refuse<S: Stream>(line: &[u8], status: u8, stream: &mut S) -> Result<u8, Stop>
+    ensures given { IfOk result (λ ended. (ended ≡ status)
+        × Gives (S.talk stream.old) (S.talk stream.new) line.now) }
+    ensures partly { IfErr result (λ stop. (stop ≡ Stop.WriteFault)
+        × HasRisen (S.faults stream.old).writes (S.faults stream.new).writes
+        × GivesFirst (S.talk stream.old) (S.talk stream.new) line.now) }
+{
+    match write_line(line, stream) {
+        Ok(()) => Ok(status),
+        Err(_) => Err(Stop::WriteFault),
+    }
+}
+
+fn zeros(alloc: Global, size: usize) -> Result<Vec<u8>, AllocError>
+    ensures { IfOk result (λ buffer. vec_len buffer ≡ size) }
+{
+    vec![in alloc; 0u8; size]
+}
+
+// Writes a line that ends the conversation.
+fn write_line<S: Stream>(line: &[u8], stream: &mut S) -> Result<(), Failed>
+    ensures given { OnOk result (Gives (S.talk stream.old) (S.talk stream.new) line.now) }
+    ensures partly { OnErr result (GivesFirst (S.talk stream.old) (S.talk stream.new) line.now) }
+    ensures fault { OnErr result (HasRisen (S.faults stream.old).writes (S.faults stream.new).writes) }
+{
+    match stream.write(line) {
+        Ok(()) => Ok(()),
+        Err(failed) => Err(failed),
+    }
+}
+
+// The bytes read until something is known of their front; it stays open where the input has ended.
+fn read_front<S: Stream>(
+    alloc: Global,
+    buffer: &mut [u8],
+    stream: &mut S,
+) -> Result<(Vec<u8>, Front), Stop>
+    requires { 0 < length buffer.old }
+    ensures front { IfOk result (λ read. IsFront read.0.items read.1) }
+    ensures end { IfOk result (λ read. read.1 ≡ Front.Open → IsOver (S.talk stream.new)) }
+    ensures read { IfOk result (λ read. (follow : Follow)
+        → Converses follow (S.talk stream.old) (S.talk stream.new)
+        (record { read = []; written = [] }) (record { read = read.0.items; written = [] })) }
+    ensures stopped { IfErr result (λ stop. (follow : Follow)
+        → (passed : Passed) × Converses follow (S.talk stream.old) (S.talk stream.new)
+        (record { read = []; written = [] }) passed
+        × HasStopped follow 0 (S.faults stream.old) (S.faults stream.new) passed stop) }
+    ensures counted { NeverFall (S.faults stream.old) (S.faults stream.new) }
+{
+    let mut bytes = Vec::new(alloc);
+    'pieces: for _ in 0..u64::MAX {
+        match front_of(&bytes) {
+            Front::Open => {}
+            front => return Ok((bytes, front)),
+        }
+        let count = match stream.read(buffer) {
+            Ok(count) => count,
+            Err(_) => return Err(Stop::ReadFault),
+        };
+        if count == 0 {
+            return Ok((bytes, Front::Open));
+        }
+        match bytes.extend_from_slice(&buffer[..count]) {
+            Ok(()) => {}
+            Err(_) => return Err(Stop::OutOfMemory),
+        }
+    }
+    Err(Stop::OutOfMemory)
+}
+
+// Opens the document that lies in the bytes, and follows the lines behind it.
+fn follow_document<F: Follower, S: Stream>(
+    alloc: Global,
+    bytes: Vec<u8>,
+    parts: Parts,
+    buffer: &mut [u8],
+    stream: &mut S,
+) -> Result<u8, Stop>
+    requires some { 0 < length buffer.old }
+    requires found { parts_of bytes.items ≡ Some parts }
+    requires start { parts.start ≤ parts.end }
+    requires end { parts.end ≤ vec_len bytes }
+    ensures { (passed : Passed) × Converses F.follow (S.talk stream.old) (S.talk stream.new)
+        (record { read = bytes.items; written = [] }) passed
+        × MatchResult result
+        (Ending F.follow 0 (S.talk stream.new) (S.faults stream.old) (S.faults stream.new) passed)
+        (HasStopped F.follow 0 (S.faults stream.old) (S.faults stream.new) passed) }
+{
+    let opened = match open_document::<F, S>(alloc, &bytes, parts, stream) {
+        Ok(opened) => opened,
+        Err(stop) => return Err(stop),
+    };
+    match opened {
+        Some(follower) => follow_opened(alloc, follower, bytes, parts, buffer, stream),
+        None => Ok(3),
+    }
+}
+
+// Answers the lines of what has been read behind the document, and then those to come.
+fn follow_opened<F: Follower, S: Stream>(
+    alloc: Global,
+    mut follower: F,
+    bytes: Vec<u8>,
+    parts: Parts,
+    buffer: &mut [u8],
+    stream: &mut S,
+) -> Result<u8, Stop>
+    requires some { 0 < length buffer.old }
+    requires found { parts_of bytes.items ≡ Some parts }
+    requires start { parts.start ≤ parts.end }
+    requires end { parts.end ≤ vec_len bytes }
+    requires accepted { F.follow.accepts (document_in bytes.items parts) ≡ true }
+    requires followed { F.has_followed follower (document_in bytes.items parts) [] }
+    ensures { (passed : Passed) × Converses F.follow (S.talk stream.old) (S.talk stream.new)
+        (record { read = bytes.items; written = F.follow.first_text (document_in bytes.items parts) }) passed
+        × MatchResult result
+        (Ending F.follow 0 (S.talk stream.new) (S.faults stream.old) (S.faults stream.new) passed)
+        (HasStopped F.follow 0 (S.faults stream.old) (S.faults stream.new) passed) }
+{
+    let mut cutter = match LineCutter::new(alloc) {
+        Ok(cutter) => cutter,
+        Err(_) => return Err(Stop::OutOfMemory),
+    };
+    let behind = &bytes[parts.end as usize..];
+    match answer_piece(alloc, &mut follower, &mut cutter, behind, stream) {
+        Ok(()) => drop(bytes),
+        Err(stop) => return Err(stop),
+    }
+    match follow_lines(alloc, &mut follower, &mut cutter, buffer, stream) {
+        Ok(()) => Ok(0),
+        Err(stop) => Err(stop),
+    }
+}
+
+// Opens the document, and writes what is due first.
+fn open_document<F: Follower, S: Stream>(
+    alloc: Global,
+    bytes: &[u8],
+    parts: Parts,
+    stream: &mut S,
+) -> Result<Option<F>, Stop>
+    requires found { parts_of bytes.now ≡ Some parts }
+    requires start { parts.start ≤ parts.end }
+    requires end { parts.end ≤ length bytes.now }
+    ensures given { IfOk result (λ _. Gives (S.talk stream.old) (S.talk stream.new)
+        (F.follow.first_text (document_in bytes.now parts))) }
+    ensures refused { IfOk result (λ opened. IsNone opened
+        → F.follow.accepts (document_in bytes.now parts) ≡ false) }
+    ensures accepted { IfOk result (λ opened. IfSome opened (λ follower.
+        (F.follow.accepts (document_in bytes.now parts) ≡ true)
+        × F.has_followed follower (document_in bytes.now parts) [])) }
+    ensures partly { IsErrOf result Stop.WriteFault → GivesFirst (S.talk stream.old) (S.talk stream.new)
+        (F.follow.first_text (document_in bytes.now parts)) }
+    ensures fault { IsErrOf result Stop.WriteFault
+        → HasRisen (S.faults stream.old).writes (S.faults stream.new).writes }
+    ensures nothing { IsErrOf result Stop.OutOfMemory → stream.new ≡ stream.old }
+    ensures asks { result ≢ Err Stop.ReadFault }
+    ensures counted { NeverFall (S.faults stream.old) (S.faults stream.new) }
+{
+    let front = &bytes[..parts.end as usize];
+    let opened = F::open(alloc, &front[parts.start as usize..])?;
+    match stream.write(&opened.text) {
+        Ok(()) => Ok(opened.follower),
+        Err(_) => Err(Stop::WriteFault),
+    }
+}

@@ -1,0 +1,3 @@
+pub mod Lines
+pub mod Lawful
+pub mod Followed

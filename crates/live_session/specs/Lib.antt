@@ -1,0 +1,4 @@
+pub mod Standing
+pub mod Answers
+pub mod Following
+pub mod Laws

@@ -1,0 +1,30 @@
+//! The laws of all inputs, each the contract of a function that does nothing.
+
+ghost use Rattle.live_session.specs.Laws.{KeptTables, NeverBack, PostsAlone, RefusedLinesAreNoReports, SnapshotPromise};
+
+/// Kept tables: a post is answered by the change from the table that was written last; who makes it to that table's text
+/// has the text that `bwe solve` writes for the document with the accepted reports at the end of its script.
+pub fn kept_tables()
+    ensures { KeptTables }
+{}
+
+/// No line but a post writes a table.
+pub fn posts_alone()
+    ensures { PostsAlone }
+{}
+
+/// Never back: the counts of reports accepted and written never fall, and no table holds more than was accepted.
+pub fn never_back()
+    ensures { NeverBack }
+{}
+
+/// A refused line is no report: without all refused lines the reports and tables are the same.
+pub fn refused_lines_are_no_reports()
+    ensures { RefusedLinesAreNoReports }
+{}
+
+/// Snapshot promise: what `state` said, behind the same document with an empty script, has the same table, but for the
+/// count of reports.
+pub fn snapshot_promise()
+    ensures { SnapshotPromise }
+{}

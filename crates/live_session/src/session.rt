@@ -1,0 +1,123 @@
+//! A session: a document, and the lines behind it.
+
+ghost use Rattle.std.specs.Prelude.{◌≡◌, ◌++◌, ◌∷◌, [], ℕ, List, true, false, option_map, IfOk, IfSome, IsNone, OnOk};
+ghost use Rattle.plan_doc.specs.Document.{Accepted};
+ghost use Rattle.plan_doc.specs.Accepted.{IsDocumentOf};
+ghost use Rattle.plan_doc.specs.Conditions.{IsUsable};
+ghost use Rattle.live_lines.specs.Cutting.{Held};
+ghost use Rattle.live_session.specs.Answers.{accepts, answer_of, first_text, table_text_of};
+ghost use Rattle.live_session.specs.Following.{HasFollowed, IsSession};
+
+use crate::answer::answer_meaning;
+use allocator::Allocator;
+use bwe_specs::OutOfMemory;
+use live_core::LiveCore;
+use live_lines::Known;
+use plan_doc::{Document, read_document, refusal_line};
+use std::alloc::Global;
+use std::marker::Model;
+use table_text::table_text;
+
+/// What is written first, and the session where the document is accepted.
+#[derive(Drop)]
+pub struct OpenedSession {
+    pub text: Vec<u8>,
+    pub session: Option<LiveSession>,
+}
+
+/// An accepted document and the lines behind it, of which it keeps what now stands and the table that was written last.
+///
+/// Its memory depends on the document alone.
+#[derive(Drop)]
+pub struct LiveSession {
+    core: LiveCore,
+    known: Known,
+    lines: u64,
+}
+
+impl Model for LiveSession {
+    ghost use Rattle.live_session.specs.Following.{Session, HasOwners};
+
+    ghost Value = { Session };
+
+    ghost view = { λ session. record { core = session.core; known = session.known; lines = session.lines } };
+
+    ghost invariant = { λ session. HasOwners session.known session.core };
+}
+
+impl LiveSession {
+    /// Reads a document: the table text and a session, or the line of its refusal.
+    pub fn open(alloc: Global, document: &[u8]) -> Result<OpenedSession, OutOfMemory>
+        ensures text { IfOk result (λ opened. opened.text.items ≡ first_text document.now) }
+        ensures refused { IfOk result (λ opened. IsNone opened.session → accepts document.now ≡ false) }
+        ensures accepted { IfOk result (λ opened. IfSome opened.session (λ session.
+            (accepts document.now ≡ true) × HasFollowed session document.now [])) }
+    {
+        match read_document(alloc, document) {
+            Ok(document) => {
+                let session = LiveSession::start(alloc, document)?;
+                let text = session.table_text(alloc)?;
+                Ok(OpenedSession {
+                    text,
+                    session: Some(session),
+                })
+            }
+            Err(error) => Ok(OpenedSession {
+                text: refusal_line(alloc, &error)?,
+                session: None,
+            }),
+        }
+    }
+
+    /// The answer to a line; `None` is one that is refused whatever it says.
+    ///
+    /// 64 bits count the lines and the reports. Behind the last that they count it says that memory is wanting.
+    pub fn answer(&mut self, alloc: Global, line: Option<&[u8]>) -> Result<Vec<u8>, OutOfMemory>
+        ensures text { IfOk result (λ text. (document : List ℕ) (lines : List Held) → HasFollowed self.old document lines
+            → text.items ≡ answer_of document lines (option_map (λ line. line.now) line.entry)) }
+        ensures followed { OnOk result ((document : List ℕ) (lines : List Held) → HasFollowed self.old document lines
+            → HasFollowed self.new document (lines ++ option_map (λ line. line.now) line.entry ∷ [])) }
+    {
+        if self.lines == u64::MAX || self.core.reports() == u64::MAX {
+            return Err(OutOfMemory);
+        }
+        let number = self.lines + 1;
+        let meaning = self.known.meaning(line);
+        let text = answer_meaning(alloc, &mut self.core, &self.known, number, meaning)?;
+        self.lines = number;
+        Ok(text)
+    }
+
+    // Before any line.
+    fn start(alloc: Global, document: Document) -> Result<LiveSession, OutOfMemory>
+        requires { IsUsable document }
+        ensures { IfOk result (λ session. (accepted : Accepted) → IsDocumentOf accepted document → IsSession session accepted []) }
+    {
+        let Document {
+            tree,
+            topology,
+            plan,
+            script,
+            names,
+            task_owners,
+            link_owners,
+            ..
+        } = document;
+        let known = Known::new(alloc, names, task_owners, link_owners)?;
+        let allocator = Allocator::new(tree, topology, plan);
+        let core = LiveCore::start(alloc, allocator, &script)?;
+        Ok(LiveSession {
+            core,
+            known,
+            lines: 0,
+        })
+    }
+
+    // The text of the table that is written first.
+    fn table_text(&self, alloc: Global) -> Result<Vec<u8>, OutOfMemory>
+        ensures { IfOk result (λ text. (accepted : Accepted) → IsSession self.now accepted [] → text.items ≡ table_text_of accepted) }
+    {
+        let text = table_text(alloc, self.core.table(), self.known.names())?;
+        Ok(text)
+    }
+}
