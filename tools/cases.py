@@ -16,6 +16,7 @@ follow, for `bwe`:
 
 and for `bwe-live`:
 
+- examples: the conversations of examples/live/ are held;
 - followed: made conversations, in which each table that is kept by changes has to be the one that
   `bwe solve` writes (tools/follow.py).
 
@@ -168,6 +169,9 @@ def counts_of(built, named, room):
     if named:
         return
     if "live" in built.name:
+        talks = sorted(EXAMPLES.glob("live/*.conversation"))
+        found = side_by_side(conversations.fault_of, program, talks, lambda it: it.name)
+        yield told("examples", found)
         yield told("followed", follow.results(program, solver(room), FOLLOWED))
         return
     texts = list(examples())

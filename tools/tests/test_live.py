@@ -3,6 +3,8 @@ something wrong.
 """
 
 import json
+import subprocess
+import time
 from pathlib import Path
 
 import pytest
@@ -124,3 +126,67 @@ def test_a_change_put_into_a_table_gives_the_next_table():
 def test_a_change_that_is_none_is_told(change, fault):
     with pytest.raises(live.Fault, match=fault):
         live.with_change(TABLE, change)
+
+
+# Where a launcher takes a document's file, this is the plain implementation behind it.
+LAUNCHER = """#!/bin/sh
+(wc -c <"$1"; cat "$1" -) | {tools}/live.py
+"""
+
+
+@pytest.fixture(name="kept")
+def made_folder(tmp_path, monkeypatch):
+    """A folder for examples/live/keep.sh, with journals of three lines a piece."""
+    launcher = tmp_path / "bwe-live"
+    launcher.write_text(LAUNCHER.format(tools=TOP / "tools"))
+    launcher.chmod(0o755)
+    monkeypatch.setenv("BWE_LIVE", str(launcher))
+    monkeypatch.setenv("PIECE", "3")
+    folder = tmp_path / "kept"
+    folder.mkdir()
+    document = TOP / "examples/live/two-fibres.json"
+    (folder / "network.json").write_bytes(document.read_bytes())
+    return folder
+
+
+def keep(folder, lines):
+    """What keep.sh writes for the lines, once the journal has them all."""
+    journal = sum(file.stat().st_size for file in folder.glob("journal.*"))
+    ran = subprocess.run(
+        [TOP / "examples/live/keep.sh", folder], input=lines.encode(), capture_output=True
+    )
+    for _ in range(100):
+        if sum(file.stat().st_size for file in folder.glob("journal.*")) == journal + len(lines):
+            break
+        time.sleep(0.05)
+    assert (ran.returncode, ran.stderr) == (0, b"")
+    time.sleep(1.1)  # the next journal has another second in its name
+    return ran.stdout.decode()
+
+
+REPORTS = "demand hosts pages-0 5000000\ndemand hosts pages-1 4000000\ncapacity noc fibre-1 0\n"
+
+
+def test_a_new_start_has_the_reports_of_the_journal(kept):
+    before = keep(kept, REPORTS + "post\ndemand hosts pages-0 7\ndemand hosts pages-1 90")
+    assert before.endswith("refused line 7 cause 1\n")
+    keep(kept, "state\n")
+    assert (kept / "snapshot.lines").read_text() == REPORTS.replace("5000000", "7")
+
+
+def test_a_new_start_has_those_of_the_snapshot_and_behind_it(kept):
+    keep(kept, REPORTS + "state\n")
+    for file in kept.glob("journal.*"):
+        file.unlink()
+    keep(kept, "demand hosts nightly-0 9\n")
+    answers = keep(kept, "state\npost\n")
+    assert "\ndemand " not in answers and answers.endswith("change 4\ntotal 9000009\n")
+    lines = REPORTS.splitlines(keepends=True)
+    lines.insert(2, "demand hosts nightly-0 9\n")
+    assert (kept / "snapshot.lines").read_text() == "".join(lines)
+
+
+def test_without_a_document_the_usage_is_said(tmp_path):
+    ran = subprocess.run([TOP / "examples/live/keep.sh", tmp_path], capture_output=True, text=True)
+    assert (ran.returncode, ran.stdout) == (2, "")
+    assert ran.stderr == "usage: keep.sh FOLDER, a folder with network.json\n"
