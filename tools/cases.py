@@ -25,6 +25,7 @@ where all did.
 """
 
 import os
+import re
 import shutil
 import subprocess
 import sys
@@ -188,7 +189,7 @@ def solver(room):
 
 def built_programs():
     """The programs of crates.txt that are to be run, and a line for the one that it has not."""
-    if "\nbwe_live:" in (TOP / "crates.txt").read_text():
+    if re.search("^bwe_live[ :]", (TOP / "crates.txt").read_text(), re.MULTILINE):
         return [BWE, LIVE]
     print("live: skipped, since crates.txt has no bwe_live", flush=True)
     return [BWE]
