@@ -10,9 +10,11 @@ is sent once all that is expected before it has come, so an answer that is kept 
     > TEXT           sends TEXT and a line feed
     >> TEXT          sends TEXT without a line feed
     >. TEXT          sends TEXT and a line feed, one byte at a time
+    much N TEXT      sends TEXT so many times
     < TEXT           expects TEXT and a line feed
     << FILE          expects the bytes of FILE
     nothing          expects that no byte comes for a while
+    memory N         expects that the program has had at most N megabytes so far
     end              closes the program's input
     hang up          closes the end of the pipe from which the answers are read
     status N         expects that the program ends with this status, and has written no more
@@ -127,6 +129,16 @@ class Talk:
         if self.come:
             raise Fault(f"more has come than was to be: {bytes(self.come[:200])!r}")
 
+    def peak(self):
+        """The most memory that the program has had so far, in megabytes."""
+        told = Path(f"/proc/{self.running.pid}/status").read_text()
+        line = next(line for line in told.splitlines() if line.startswith("VmHWM:"))
+        return int(line.split()[1]) / 1024
+
+    def expect_memory(self, most):
+        if self.peak() > most:
+            raise Fault(f"it has had {self.peak():.0f} MB, and should have at most {most}")
+
     def end(self):
         self.source.close()
 
@@ -179,6 +191,11 @@ def hold(talk, line, folder):
         for byte in text + b"\n":
             talk.send(bytes([byte]))
             time.sleep(BETWEEN_BYTES)
+    elif word == "much":
+        number, _, text = rest.partition(" ")
+        talk.send(text.encode() * int(number))
+    elif word == "memory":
+        talk.expect_memory(int(rest))
     elif word == "<":
         talk.expect(text + b"\n")
     elif word == "<<":

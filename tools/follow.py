@@ -197,13 +197,6 @@ def results(program, solver, count, seed=1):
 # ---- a long run
 
 
-def peak_of(talk):
-    """The most memory that the program has had so far, in megabytes."""
-    told = Path(f"/proc/{talk.running.pid}/status").read_text()
-    line = next(line for line in told.splitlines() if line.startswith("VmHWM:"))
-    return int(line.split()[1]) / 1024
-
-
 def seconds_of_solve(given):
     times = []
     for _ in range(5):
@@ -244,7 +237,7 @@ def long_run(count):
     with Talk(BWE_LIVE) as talk:
         talk.send(b"%d\n%s" % (len(given), given))
         talk.expect(written(BWE, ["solve"], given))
-        print(f"the document alone: a peak of {peak_of(talk):.0f} MB")
+        print(f"the document alone: a peak of {talk.peak():.0f} MB")
         by_post, by_solve = seconds_of_posts(talk, tasks, chance), seconds_of_solve(given)
         print(f"a post after one changed demand: {by_post:.4f} s, the median of {TIMED}")
         print(f"bwe solve, the whole process: {by_solve:.4f} s, {by_solve / by_post:.1f} times that")
@@ -252,7 +245,7 @@ def long_run(count):
         report_much(talk, tasks, chance, count)
         spent = time.perf_counter() - began
         print(f"{count:,} reports, a post each {BETWEEN_POSTS:,}: {spent:.1f} s")
-        print(f"after them: a peak of {peak_of(talk):.0f} MB", flush=True)
+        print(f"after them: a peak of {talk.peak():.0f} MB", flush=True)
         talk.end()
         talk.expect_status(0)
 

@@ -233,6 +233,15 @@ def refusal_of(data):
     return fault and fault.refusal
 
 
+def lines_from(source):
+    """The lines of a source, each as soon as it ends; of one that is too long its first piece."""
+    while line := source.readline(MOST_IN_A_LINE + 2):
+        rest = line
+        while rest and not rest.endswith(b"\n"):
+            rest = source.readline(MOST_BYTES // 64)
+        yield line
+
+
 def serve(source, sink):
     """Answers what comes from the source until it ends; the status."""
     front = re.fullmatch(rb"([0-9]{1,20})\n", source.readline(21))
@@ -251,7 +260,7 @@ def serve(source, sink):
     live = Live(json.loads(document))
     sink.write(live.table.encode())
     sink.flush()
-    for line in iter(source.readline, b""):
+    for line in lines_from(source):
         sink.write(live.answer(line).encode())
         sink.flush()
     return 0
