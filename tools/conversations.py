@@ -11,6 +11,8 @@ is sent once all that is expected before it has come, so an answer that is kept 
     >> TEXT          sends TEXT without a line feed
     >. TEXT          sends TEXT and a line feed, one byte at a time
     much N TEXT      sends TEXT so many times
+    flood N TEXT     sends TEXT and a line feed so many times, and reads no answer meanwhile, until
+                     the program has taken nothing for a while, as it waits for a slow reader
     < TEXT           expects TEXT and a line feed
     << FILE          expects the bytes of FILE
     nothing          expects that no byte comes for a while
@@ -83,6 +85,13 @@ class Talk:
             self.has_ended = not piece
         return os.write(self.source.fileno(), given[:PIECE]) if writable else 0
 
+    def flood(self, given):
+        """Sends bytes and reads nothing until the program takes no more; what is left of them."""
+        rest = memoryview(given)
+        while rest and select.select([], [self.source], [], A_WHILE)[1]:
+            rest = rest[os.write(self.source.fileno(), rest[:PIECE]) :]
+        return rest
+
     def send(self, given):
         """Sends bytes, and reads meanwhile. A program that no longer reads is no fault here."""
         until, rest = time.monotonic() + SECONDS, memoryview(given)
@@ -97,12 +106,18 @@ class Talk:
             elif time.monotonic() > until:
                 raise Fault(f"it has not read on for {SECONDS:g} s")
 
+    def taken(self, count):
+        """The first so many bytes of what has come."""
+        found = bytes(memoryview(self.come)[:count])
+        del self.come[:count]
+        return found
+
     def expect(self, wanted):
         """Waits for these bytes, and takes them from what has come."""
         until = time.monotonic() + SECONDS
         while len(self.come) < len(wanted) and not self.has_ended and time.monotonic() < until:
             self.step(until)
-        found, self.come = bytes(self.come[: len(wanted)]), self.come[len(wanted) :]
+        found = self.taken(len(wanted))
         if found != wanted:
             why = "the end of what it writes" if self.has_ended else f"{SECONDS:g} s"
             short = f", and then {why}" if len(found) < len(wanted) else ""
@@ -116,8 +131,7 @@ class Talk:
             if self.has_ended or time.monotonic() > until:
                 raise Fault(f"no line {word!r} has come, but {bytes(self.come[-200:])!r}")
             self.step(until)
-        found, self.come = bytes(self.come[: at.end()]), self.come[at.end() :]
-        return found
+        return self.taken(at.end())
 
     def expect_nothing(self):
         until = time.monotonic() + A_WHILE
@@ -194,6 +208,12 @@ def hold(talk, line, folder):
     elif word == "much":
         number, _, text = rest.partition(" ")
         talk.send(text.encode() * int(number))
+    elif word == "flood":
+        number, _, text = rest.partition(" ")
+        left = talk.flood((text.encode() + b"\n") * int(number))
+        if not left:
+            raise Fault("it has taken all of that though nobody read its answers")
+        talk.send(left)
     elif word == "memory":
         talk.expect_memory(int(rest))
     elif word == "<":

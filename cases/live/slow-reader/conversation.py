@@ -1,7 +1,7 @@
 #!/usr/bin/python3
-"""Lines come faster than answers are read: each is answered all the same, in its order."""
-LINES = 20_000
+"""Nobody reads the answers for a while: the program reads no more, and then loses none of them."""
+LINES = 60_000
 print("document examples/shared-link.json\n<< examples/shared-link.txt")
-print("> bad\n" * LINES, end="")
+print(f"flood {LINES} bad")
 print("".join(f"< refused line {line} cause 1\n" for line in range(1, LINES + 1)), end="")
-print("end\nstatus 0")
+print("memory 60\nend\nstatus 0")
