@@ -39,7 +39,7 @@ def test_the_table_of_layers_has_the_order_of_crates_txt():
     for layer, names in rows:
         if layer:
             found[layer] = []
-        list(found.values())[-1].extend(re.findall("`([a-z_]+)`", names))
+        list(found.values())[-1].extend(re.findall("`([a-z0-9_]+)`", names))
     assert found == {layer: list(crates) for layer, crates in layers().items()}
 
 
@@ -56,7 +56,7 @@ def test_the_readme_names_each_crate_of_the_kit_that_is_trusted():
     trusted = readme.split("the statements of the kit's crates that are used (")[1].split(")")[0]
     own = {name for crates in layers().values() for name in crates}
     used = {name for crates in layers().values() for below in crates.values() for name in below}
-    assert set(re.findall("`([a-z_]+)`", trusted)) == used - own
+    assert set(re.findall("`([a-z0-9_]+)`", trusted)) == used - own
 
 
 def test_the_page_of_choices_names_the_crates_without_an_edit():
@@ -64,7 +64,7 @@ def test_the_page_of_choices_names_the_crates_without_an_edit():
     without = {name for name in crates if not list((TOP / "crates" / name).glob("must-fail/*.edit"))}
     page = (TOP / "docs/DECISIONS.md").read_text()
     paragraph = page.split("have no edit that has to be refused**")[1].split("\n\n")[0]
-    assert set(re.findall("`([a-z_]+)`", paragraph)) & crates == without
+    assert set(re.findall("`([a-z0-9_]+)`", paragraph)) & crates == without
 
 
 def words_of_sources():

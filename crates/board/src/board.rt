@@ -2,7 +2,6 @@
 ghost use Rattle.std.specs.Prelude.{◌≡◌, ◌+◌, ◌-◌, ◌^◌, ◌≤◌, ◌++◌, length, drop, min, IfOk, IfErr, OnOk, OnErr};
 ghost use Rattle.std.specs.List.{All, sum_by};
 ghost use mathlib.Core.List.{IsPrefix};
-ghost use Rattle.bwe_specs.specs.declared.limits.TheConstants.{MAX_REPORTS};
 ghost use Rattle.board_log.specs.Laws.{StandIn};
 ghost use Rattle.board_log.specs.Roll.{IsBy, placed, own_of};
 ghost use Rattle.demand_book.specs.Fit.{IsFit};
@@ -62,7 +61,7 @@ impl<M: Maker, N: Profile<M::Table>, B: Bases> Board<M, N, B> {
         ensures own { IfOk result (λ first. pass.new.own ≡ pass.old.own ++ placed pass.old.number first reports.now) }
         ensures exact { OnOk result (pass.new.own ≡ own_of pass.old.number pass.new.seen) }
         // Full is answered just where the log has no room, and the pass has then seen that log.
-        ensures room { OnOk result (length pass.new.seen ≤ MAX_REPORTS) }
+        ensures room { OnOk result (length pass.new.seen ≤ 200000) }
         ensures refused { IfErr result (IsRefusalAt pass.new.seen (length reports.now)) }
         ensures kept { OnErr result (pass.new.own ≡ pass.old.own) }
     {
@@ -105,7 +104,9 @@ impl<M: Maker, N: Profile<M::Table>, B: Bases> Board<M, N, B> {
         Ok(pass.ack().prefix())
     }
 
-    /// The whole log, and the table of it, which has then been posted. It takes the passes of all reporters, in the order of their numbers.
+    /// Ends the log, and gives the whole of it and the table of it, which has then been posted. It takes the passes of all reporters, in the order of their numbers.
+    ///
+    /// The ack is that of a log that has ended: what any pass saw or will see of the log is a beginning of it.
     pub fn finish<R: Wait>(
         &self,
         rt: &R,

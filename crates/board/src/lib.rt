@@ -5,7 +5,7 @@
 //! the ack of `Board::settle` holds all that its pass had seen, and an `Ack` is made of what was posted alone (`Ack::of`, of `board_pair` below);
 //! `Board::round` leaves its pass with the ack of as many reports as it answers, and counts itself there;
 //! `ReaderPass::read`, of `board_pair` below, shows a table that belongs to the first reports of a log which begins with all that the pass had seen, never older than its floor;
-//! `Board::finish` gives the whole log, as an ack too, each reporter's list in it, and its table.
+//! `Board::finish` ends the log and gives the whole of it, as an ack too, each reporter's list in it, and its table; no view has more, whenever it is made.
 //!
 //! A board is opened by `Opened::new` and `Opened::named`, under two names: `Profile`, the plan, and `Bases`, the log.
 //! `read` and `learn` of a reader take no lock and don't wait. `report` waits for the log lock, which nobody holds while a table is made.
@@ -32,7 +32,7 @@ mod workshop;
 pub use allocator::AllocatorPass;
 pub use board::Board;
 pub use board_log::Bases;
-pub use board_pair::{Ack, Profile, ReaderPass, View};
+pub use board_pair::{Ack, FinalAck, Profile, ReaderPass, View};
 pub use ended::{Ended, FinishRefused};
 pub use open::Opened;
 pub use refusal::ReportError;

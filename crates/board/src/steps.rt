@@ -18,7 +18,7 @@ use crate::refusal::ReportError;
 use crate::reporter::ReporterPass;
 use crate::workshop::Workshop;
 use board_log::{Bases, Beginning, Roll, WholeLog};
-use board_pair::{Ack, News, Pair, Poster, Profile};
+use board_pair::{Ack, FinalAck, News, Pair, Poster, Profile};
 use bwe_specs::{MAX_REPORTS, OutOfMemory, Report};
 use demand_book::{Maker, Posted};
 use std::alloc::Global;
@@ -302,14 +302,14 @@ impl<M: Maker, N: Profile<M::Table>, B: Bases> LogState<M, N, B> {
         Ok(())
     }
 
-    // Posts the table of the whole log, and gives the ack of it and both.
+    // Posts the table of the whole log, ends that, and gives the ack of it and both.
     #[tactic(auto, using(board_log::proofs::Prefixes::prefix_whole))]
     fn last_table<R: Wait>(
         &mut self,
         rt: &R,
         alloc: Global,
         shop: &mut Workshop<M, N, B>,
-    ) -> Result<(Ack<B>, Vec<Report>, M::Table), OutOfMemory>
+    ) -> Result<(FinalAck<B>, Vec<Report>, M::Table), OutOfMemory>
         ensures log { self.new.log ≡ self.old.log }
         ensures posted { OnOk result (self.new.posted ≡ length self.new.log) }
         ensures raised { self.old.posted ≤ self.new.posted }
@@ -323,7 +323,10 @@ impl<M: Maker, N: Profile<M::Table>, B: Bases> LogState<M, N, B> {
         let table = shop.solve(alloc)?;
         let copy = table.copy(alloc)?;
         let ack = self.post_made(rt, alloc, shop, copy)?;
-        Ok((ack, history, table))
+        let Ok(log) = self.whole.end() else {
+            return Err(OutOfMemory);
+        };
+        Ok((FinalAck::new(ack, log), history, table))
     }
 }
 

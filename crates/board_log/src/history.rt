@@ -1,8 +1,8 @@
 //! The log as it was reached: the whole of it, and its beginnings.
-ghost use Rattle.std.specs.Prelude.{◌≡◌, ◌+◌, ◌^◌, ◌<◌, ◌≤◌, ◌++◌, [], length, take, MatchBool, IfErr, OnOk, OnErr};
+ghost use Rattle.std.specs.Prelude.{◌≡◌, ◌+◌, ◌^◌, ◌<◌, ◌≤◌, ◌++◌, [], length, take, MatchBool, IfOk, IfErr, OnOk, OnErr};
 ghost use Rattle.std.specs.Bool.{OnTrue, OnFalse};
 ghost use mathlib.Core.List.{IsPrefix};
-ghost use Rattle.board_log.specs.History.{word_of};
+ghost use Rattle.board_log.specs.History.{word_of, GoOn};
 
 use crate::bases::Bases;
 use bwe_specs::Report;
@@ -13,7 +13,7 @@ use std::marker::{Model, PhantomData};
 // Reports that came in together. No value of it is made.
 type Piece = LinkedList<Report>;
 
-// The rule of the history: its word counts the pieces, and none is empty.
+// The rule of the history: its word counts the pieces, and an empty one is the last: it marks the end.
 struct PieceCount;
 
 impl Rule<Piece, u64> for PieceCount {
@@ -60,6 +60,17 @@ impl Plain<Vec<Report>, Piece, u64> for AddPiece {
     ghost state = { λ piece. None };
 }
 
+// The piece that marks the end: an empty one.
+struct MarkEnd;
+
+impl Plain<(), Piece, u64> for MarkEnd {
+    ghost use Rattle.std.specs.Prelude.{None, []};
+
+    ghost ask = { λ _. [] };
+
+    ghost state = { λ _. None };
+}
+
 /// A log that was just opened, which has no name yet. It is empty.
 #[derive(Drop)]
 pub struct OpenedLog {
@@ -87,6 +98,7 @@ impl OpenedLog {
         WholeLog {
             word,
             pieces: 0,
+            has_ended: false,
             seen,
             of: PhantomData,
         }
@@ -98,6 +110,7 @@ impl OpenedLog {
 pub struct WholeLog<B: Bases> {
     word: Word<Piece, u64, PieceCount>,
     pieces: u64,
+    has_ended: bool,
     seen: Seen<Piece, u64, PieceCount>,
     of: PhantomData<B>,
 }
@@ -111,7 +124,7 @@ impl<B: Bases> Model for WholeLog<B> {
 
     ghost view = { λ whole. log_of whole.seen.log };
 
-    ghost invariant = { λ whole. IsCounted B.book whole.word whole.pieces whole.seen.book whole.seen.log };
+    ghost invariant = { λ whole. IsCounted B.book whole.word whole.pieces whole.has_ended whole.seen.book whole.seen.log };
 }
 
 /// The first reports of a log that was reached. Contracts see it as those reports.
@@ -136,7 +149,7 @@ impl<B: Bases> Model for Beginning<B> {
     ghost invariant = { λ beginning. IsReached B.book beginning.len beginning.seen.book beginning.seen.log };
 }
 
-/// A log that was reached, for who did not know that it is so long. Contracts see it as its reports.
+/// A log that was reached, for who did not know that it goes on. Contracts see it as its pieces, of which an empty one marks the end.
 #[derive(Drop)]
 pub struct LongerLog<B: Bases> {
     seen: Seen<Piece, u64, PieceCount>,
@@ -146,29 +159,53 @@ pub struct LongerLog<B: Bases> {
 impl<B: Bases> Model for LongerLog<B> {
     ghost use Rattle.std.specs.Prelude.{◌≡◌, List};
     ghost use Rattle.bwe_specs.specs.declared.report.Report.{Report};
-    ghost use Rattle.board_log.specs.History.{log_of};
+
+    ghost Value = { List (List Report) };
+
+    ghost view = { λ longer. longer.seen.log };
+
+    ghost invariant = { λ longer. longer.seen.book ≡ B.book };
+}
+
+/// A log that has ended: nothing is ever added to it. Contracts see it as its reports.
+#[derive(Drop)]
+pub struct EndedLog<B: Bases> {
+    seen: Seen<Piece, u64, PieceCount>,
+    of: PhantomData<B>,
+}
+
+impl<B: Bases> Model for EndedLog<B> {
+    ghost use Rattle.std.specs.Prelude.{List};
+    ghost use Rattle.bwe_specs.specs.declared.report.Report.{Report};
+    ghost use Rattle.board_log.specs.History.{log_of, IsEndOf};
 
     ghost Value = { List Report };
 
-    ghost view = { λ longer. log_of longer.seen.log };
+    ghost view = { λ ended. log_of ended.seen.log };
 
-    ghost invariant = { λ longer. longer.seen.book ≡ B.book };
+    ghost invariant = { λ ended. IsEndOf B.book ended.seen.book ended.seen.log };
 }
 
 impl<B: Bases> WholeLog<B> {
     /// Adds a piece at the end.
     ///
-    /// It does not where the log is longer than is known here, and then it gives that longer log, which nobody can make up.
-    /// There is one `WholeLog` of a log, so that never happens in a run, but no clause can say so.
+    /// It does not where the log goes on behind what is known here, or has ended, and then it gives that log, which nobody can make up.
+    /// There is one `WholeLog` of a log, so before its `end` that never happens in a run, but no clause can say so.
     #[tactic(auto, using(crate::proofs::Adding::few_pieces))]
     pub fn append(&mut self, piece: &Vec<Report>) -> Result<(), LongerLog<B>>
         requires some { 0 < length piece.now.items }
         requires room { length self.old < 2 ^ 62 }
         ensures added { OnOk result (self.new ≡ self.old ++ piece.now.items) }
         ensures refused { OnErr result (self.new ≡ self.old) }
-        ensures longer { IfErr result (λ longer. length self.old < length longer) }
+        ensures longer { IfErr result (GoOn (length self.old)) }
     {
         let mut seen = self.seen.again();
+        if self.has_ended {
+            return Err(LongerLog {
+                seen,
+                of: PhantomData,
+            });
+        }
         let mut offer: Offer<Piece, u64, PieceCount, Nothing> = seen.plain::<
             Nothing,
             Vec<Report>,
@@ -194,6 +231,52 @@ impl<B: Bases> WholeLog<B> {
         self.seen = seen;
         self.pieces = pieces + 1;
         Ok(())
+    }
+
+    /// Ends the log: from then on `append` is refused, and whatever was seen of the log is a beginning of what this gives.
+    ///
+    /// It can be called again. It is refused where the log goes on behind what is known here, as `append` is.
+    #[tactic(auto, using(crate::proofs::Adding::few_pieces))]
+    pub fn end(&mut self) -> Result<EndedLog<B>, LongerLog<B>>
+        requires room { length self.old < 2 ^ 62 }
+        ensures log { self.new ≡ self.old }
+        ensures ended { IfOk result (λ ended. ended ≡ self.old) }
+        ensures longer { IfErr result (GoOn (length self.old)) }
+    {
+        let mut seen = self.seen.again();
+        if self.has_ended {
+            return Ok(EndedLog {
+                seen,
+                of: PhantomData,
+            });
+        }
+        let mut offer: Offer<Piece, u64, PieceCount, Nothing> = seen.plain::<Nothing, (), MarkEnd>(
+            &(),
+        );
+        let mut pen = seen.no_pen();
+        let pieces = self.pieces;
+        let found = self
+            .word
+            .compare_exchange::<AddPiece, Nothing>(
+                pieces,
+                pieces + 1,
+                &mut seen,
+                &mut offer,
+                &mut pen,
+            );
+        if found != pieces {
+            return Err(LongerLog {
+                seen,
+                of: PhantomData,
+            });
+        }
+        self.seen = seen.again();
+        self.pieces += 1;
+        self.has_ended = true;
+        Ok(EndedLog {
+            seen,
+            of: PhantomData,
+        })
     }
 
     /// The first `len` reports.
@@ -249,5 +332,15 @@ impl<B: Bases> Beginning<B> {
         let mut both = self.seen.again();
         both.learn(&other.seen);
         self.len <= other.len
+    }
+}
+
+impl<B: Bases> EndedLog<B> {
+    /// Shows that what was seen of the log, whenever that was, is a beginning of it.
+    pub fn holds(&self, beginning: &Beginning<B>)
+        ensures within { IsPrefix beginning.now self.now }
+    {
+        let mut both = self.seen.again();
+        both.learn(&beginning.seen);
     }
 }

@@ -1,7 +1,8 @@
 //! The log of reports as a history: it only grows, and each log that was seen is a beginning of it.
 //!
 //! `board` keeps a `WholeLog` and a `Roll` under its log lock, and gives each pass a `Beginning`, each reporter's pass a `Member` too.
-//! It rests on three contracts. Of two beginnings one begins the other, and `begins` says which.
+//! It rests on four contracts. Of two beginnings one begins the other, and `begins` says which.
+//! Once `WholeLog::end` has ended the log, `EndedLog::holds` shows that whatever was seen of it is a beginning of that.
 //! `Roll::append` leaves a member with all reports of its number in the log, and `check` shows it.
 //! No call waits, and only `OpenedRoll::new` takes memory. A call costs by the piece and never by the log.
 //! The history exists in the proofs alone: what threads share of it are tokens of no bytes, and the roll is one word.
@@ -15,7 +16,7 @@ mod history;
 mod roll;
 
 pub use bases::Bases;
-pub use history::{Beginning, LongerLog, OpenedLog, WholeLog};
+pub use history::{Beginning, EndedLog, LongerLog, OpenedLog, WholeLog};
 pub use roll::{Member, OpenedRoll, PlacedReport, Roll};
 
 /// A reporter's own list without the places is its reports in the log, in their order.

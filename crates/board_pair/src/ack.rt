@@ -1,9 +1,10 @@
 ghost use Rattle.std.specs.Prelude.{◌≡◌, length, take};
+ghost use mathlib.Core.List.{IsPrefix};
 
 use crate::pair::{News, Pair};
 use crate::poster::Poster;
 use crate::profile::Profile;
-use board_log::{Bases, Beginning};
+use board_log::{Bases, Beginning, EndedLog};
 use demand_book::Posted;
 use std::marker::Model;
 
@@ -49,5 +50,54 @@ impl<B: Bases> Ack<B> {
         ensures known { result.now ≡ self.now }
     {
         &self.known
+    }
+}
+
+/// The ack of the end: all of a log that has ended, to which nothing is ever added. Contracts see it as those reports.
+#[derive(Drop)]
+pub struct FinalAck<B: Bases> {
+    ack: Ack<B>,
+    log: EndedLog<B>,
+}
+
+impl<B: Bases> Model for FinalAck<B> {
+    ghost use Rattle.std.specs.Prelude.{◌≡◌, List};
+    ghost use Rattle.bwe_specs.specs.declared.report.Report.{Report};
+
+    ghost Value = { List Report };
+
+    ghost view = { λ last. last.ack };
+
+    ghost invariant = { λ last. last.log ≡ last.ack };
+}
+
+impl<B: Bases> FinalAck<B> {
+    /// An ack of the whole log, once that has ended.
+    pub fn new(ack: Ack<B>, log: EndedLog<B>) -> FinalAck<B>
+        requires whole { log ≡ ack }
+        ensures reports { result ≡ ack }
+    {
+        FinalAck { ack, log }
+    }
+
+    /// The ack, which passes learn.
+    pub fn ack(&self) -> &Ack<B>
+        ensures ack { result.now ≡ self.now }
+    {
+        &self.ack
+    }
+
+    /// How many reports it holds.
+    pub fn prefix(&self) -> u64
+        ensures prefix { result ≡ length self.now }
+    {
+        self.ack.prefix()
+    }
+
+    // Shows that what was seen of the log is a beginning of it.
+    pub(crate) fn holds(&self, known: &Beginning<B>)
+        ensures within { IsPrefix known.now self.now }
+    {
+        self.log.holds(known);
     }
 }

@@ -5,6 +5,7 @@
 //! of a log which begins with all that the pass had seen, never older than its floor; after `ReaderPass::learn` the pass has all that
 //! the ack holds; `Poster::publish` shows all that waited, or nothing of it.
 //! An `Ack` is made by `Ack::of` alone, of what a poster shows, so whoever has one of so many reports knows that a table of as many was posted.
+//! A `FinalAck` is of a log that has ended, and `View::is_within` shows that no view, whenever it was made, has more.
 //! `read` and `learn` take no lock and wait for nobody: they are given no handle, and nothing that waits can be called without one.
 //! `publish` may wait for readers to leave a copy. A copy is brought up to date by the reports that are new and a change of the table.
 //! Nothing is known here of who adds to the log, of makers or of threads. Not promised: that a reader sees what nobody told it.
@@ -18,7 +19,7 @@ mod profile;
 mod reader;
 mod seats;
 
-pub use ack::Ack;
+pub use ack::{Ack, FinalAck};
 pub use pair::{News, Pair, Posting};
 pub use poster::Poster;
 pub use profile::Profile;

@@ -7,7 +7,7 @@ ghost use Rattle.demand_book.specs.Fit.{IsFit};
 ghost use Rattle.board_core.specs.Core.{IsAllowed};
 ghost use Rattle.board_pair.specs.Plan.{AreOfOnePlan};
 
-use crate::ack::Ack;
+use crate::ack::{Ack, FinalAck};
 use crate::profile::Profile;
 use board_log::{Bases, Beginning};
 use bwe_specs::{OutOfMemory, Report};
@@ -208,6 +208,13 @@ impl<T: Posted, N: Profile<T>, B: Bases> Pair<T, N, B> {
         ensures covers { OnTrue result (length ack.now ≤ T.covers self.now.table) }
     {
         ack.prefix() <= self.table.prefix() && ack.known().begins(&self.known)
+    }
+
+    /// Shows that the log is a beginning of one that has ended.
+    pub(crate) fn is_within(&self, end: &FinalAck<B>)
+        ensures within { IsPrefix self.now.log end.now }
+    {
+        end.holds(&self.known);
     }
 
     /// Takes over a later pair that covers the ack. Another pair is refused.

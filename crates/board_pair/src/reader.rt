@@ -5,7 +5,7 @@ ghost use mathlib.Core.List.{IsPrefix};
 ghost use Rattle.demand_book.specs.Fit.{IsFit};
 ghost use Rattle.board_core.specs.Core.{IsAllowed};
 
-use crate::ack::Ack;
+use crate::ack::{Ack, FinalAck};
 use crate::pair::Pair;
 use crate::profile::Profile;
 use board_log::Bases;
@@ -192,6 +192,14 @@ impl<'a, T: Posted, N: Profile<T>, B: Bases> View<'a, T, N, B> {
     {
         let copy = self.copy;
         copy.log.len() as u64
+    }
+
+    /// Shows that the log which the pass has seen is a beginning of the one that has ended.
+    pub fn is_within(&self, end: &FinalAck<B>)
+        ensures within { IsPrefix self.now.copy.now.log end.now }
+    {
+        let copy = self.copy;
+        copy.is_within(end);
     }
 
     /// The report at a place of the log, counted from 0.

@@ -3,3 +3,4 @@ pub mod RunReply
 pub mod Audits
 pub mod Behind
 pub mod Tiers
+pub mod Statuses

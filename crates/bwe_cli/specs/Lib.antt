@@ -7,3 +7,4 @@ pub mod EstimateReply
 pub mod TiersReply
 pub mod EnforceReply
 pub mod TopCall
+pub mod Statuses

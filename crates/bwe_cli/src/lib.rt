@@ -16,6 +16,7 @@ mod audit;
 mod check;
 mod enforce;
 mod estimate;
+mod laws;
 mod levels;
 mod made;
 mod opened;
@@ -25,6 +26,8 @@ mod refused;
 mod run;
 mod solve;
 mod tiers_line;
+
+pub use laws::{accepted_is_answered, an_answer_is_whole, nothing_is_written};
 
 use answers::{answer, answer_in_turn};
 use bwe_io::{Sink, Source};

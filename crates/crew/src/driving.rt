@@ -6,7 +6,7 @@ ghost use Rattle.bwe_specs.specs.declared.limits.TheConstants.{MAX_REPORTS};
 ghost use Rattle.board.specs.declared.refusal.ReportError.TheVariants as refusal;
 ghost use Rattle.board.specs.Reading.{IsNewReader};
 ghost use Rattle.board.specs.Reporting.{AreFresh};
-ghost use Rattle.crew_log.specs.LegalCrewLog.{IsLegalCrewLog, IsReaderOf};
+ghost use Rattle.crew_log.specs.LegalCrewLog.{IsClosed, IsLegalCrewLog, IsReaderOf};
 ghost use Rattle.crew.specs.Reporters.{IsReady, AreReady, HasReported, HaveReported, scripted};
 ghost use Rattle.crew.specs.Readers.{HasLines, HaveLines, HaveEnded};
 ghost use Rattle.crew.specs.Starting.{AreScripts};
@@ -14,7 +14,9 @@ ghost use Rattle.board_core.specs.Core.{IsAllowed};
 ghost use Rattle.demand_book.specs.Fit.{IsFit};
 
 use crate::at_once::all_at_once;
-use board::{Ack, AllocatorPass, Bases, Board, Profile, ReaderPass, ReportError, ReporterPass};
+use board::{
+    AllocatorPass, Bases, Board, FinalAck, Profile, ReaderPass, ReportError, ReporterPass,
+};
 use bwe_specs::{OutOfMemory, Report};
 use crew_actors::{Gate, NewestAck, make_rounds, read_lines, read_to_the_end, report_and_settle};
 use crew_log::{CrewLog, ReadLine, ReaderLog};
@@ -61,6 +63,8 @@ where
     requires room { scripted scripts.now ≤ MAX_REPORTS }
     requires reads { reads ≤ 1000 }
     ensures legal { IfOk result (IsLegalCrewLog N.belongs M.Table.total_of N.tasks N.links scripts.now (length readers.old) reads) }
+    // No reader's final log is longer than the history.
+    ensures closed { IfOk result IsClosed }
     // What each reader's pass has seen, its floor, and how often it has read.
     ensures passes { IfOk result (λ log. HaveEnded M.Table.covers reads log.history.items log.readers.items readers.new) }
 {
@@ -201,7 +205,7 @@ fn is_reported(answer: Result<(), ReportError>) -> Result<(), OutOfMemory>
 fn end_all<T: Posted, N: Profile<T>, B: Bases, G: Gate>(
     alloc: Global,
     gate: &G,
-    end: &Ack<B>,
+    end: &FinalAck<B>,
     reads: u64,
     lines: Vec<Result<Vec<ReadLine>, OutOfMemory>>,
     passes: &mut [ReaderPass<T, N, B>],
@@ -210,6 +214,7 @@ fn end_all<T: Posted, N: Profile<T>, B: Bases, G: Gate>(
     requires few_reads { reads ≤ 1000 }
     requires lines { HaveLines T.covers N.belongs T.total_of reads lines.items passes.old }
     ensures readers { IfOk result (λ readers. All (IsReaderOf N.belongs T.total_of (IsAllowed N.reporters (IsFit N.tasks N.links)) reads end.now) readers.items) }
+    ensures closed { IfOk result (λ readers. All (λ reader. reader.length ≡ length end.now) readers.items) }
     ensures passes { IfOk result (λ readers. HaveEnded T.covers reads end.now readers.items passes.new) }
     ensures count { length passes.new ≡ length passes.old }
 {

@@ -1,8 +1,7 @@
 //! A run from the opening of its board to the end.
 ghost use Rattle.std.specs.Prelude.{◌≡◌, ◌≤◌, [], length, IfOk};
-ghost use Rattle.bwe_specs.specs.declared.limits.TheConstants.{MAX_REPORTERS, MAX_READERS, MAX_REPORTS};
 ghost use Rattle.board.specs.Plan.{NamesTables};
-ghost use Rattle.crew_log.specs.LegalCrewLog.{IsLegalCrewLog};
+ghost use Rattle.crew_log.specs.LegalCrewLog.{IsClosed, IsLegalCrewLog};
 ghost use Rattle.crew.specs.Reporters.{scripted};
 ghost use Rattle.crew.specs.Starting.{AreScripts};
 
@@ -19,7 +18,7 @@ use std::thread::Threads;
 
 /// Opens a board for a maker that has absorbed nothing, runs a reporter for each script, an allocator and so many readers on it, and closes it.
 ///
-/// Each reader makes `reads` reads, and one more at the end. A report of the script at a place is by the reporter of that number.
+/// Each reader makes `reads` reads, and one more at the end, of the history and no more. A report of the script at a place is by the reporter of that number.
 /// The board is closed whatever the run came to.
 pub fn run_crew<M: Maker + Send, G: Gate + Sync, R: Threads + Wait + Sync>(
     rt: &R,
@@ -36,13 +35,14 @@ where
     <M::Table as Posted>::Frame: Send + Sync,
     <M::Table as Posted>::Change: Send + Sync,
     requires absorbed { M.absorbed maker [] }
-    requires few_scripts { length scripts.now ≤ MAX_REPORTERS }
+    requires few_scripts { length scripts.now ≤ 64 }
     requires scripts { AreScripts (M.plan_tasks (M.plan maker)) (M.plan_links (M.plan maker)) scripts.now }
-    requires room { scripted scripts.now ≤ MAX_REPORTS }
+    requires room { scripted scripts.now ≤ 200000 }
     requires some_readers { 1 ≤ readers }
-    requires few_readers { readers ≤ MAX_READERS }
+    requires few_readers { readers ≤ 64 }
     requires few_reads { reads ≤ 1000 }
     ensures legal { IfOk result (IsLegalCrewLog (λ reports table. table ≡ M.table_of (M.plan maker) reports) M.Table.total_of (M.plan_tasks (M.plan maker)) (M.plan_links (M.plan maker)) scripts.now readers reads) }
+    ensures closed { IfOk result IsClosed }
 {
     run_profiled::<M, Brand, G, R>(rt, alloc, maker, scripts, readers, reads, gate)
 }
@@ -72,13 +72,14 @@ where
     requires tasks { M.plan_tasks (M.plan maker) ≡ N.tasks }
     requires links { M.plan_links (M.plan maker) ≡ N.links }
     requires reporters { length scripts.now ≡ N.reporters }
-    requires few_scripts { length scripts.now ≤ MAX_REPORTERS }
+    requires few_scripts { length scripts.now ≤ 64 }
     requires scripts { AreScripts N.tasks N.links scripts.now }
-    requires room { scripted scripts.now ≤ MAX_REPORTS }
+    requires room { scripted scripts.now ≤ 200000 }
     requires some_readers { 1 ≤ readers }
-    requires few_readers { readers ≤ MAX_READERS }
+    requires few_readers { readers ≤ 64 }
     requires few_reads { reads ≤ 1000 }
     ensures legal { IfOk result (IsLegalCrewLog N.belongs M.Table.total_of N.tasks N.links scripts.now readers reads) }
+    ensures closed { IfOk result IsClosed }
 {
     let reporters = scripts.len() as u32;
     let opened: Opened<M, N> = Opened::new(rt, alloc, maker, reporters, readers)?;
@@ -109,10 +110,11 @@ where
     requires table { opened.table ≡ B.table }
     requires reporters { length scripts.now ≡ N.reporters }
     requires scripts { AreScripts N.tasks N.links scripts.now }
-    requires room { scripted scripts.now ≤ MAX_REPORTS }
-    requires few_readers { opened.readers ≤ MAX_READERS }
+    requires room { scripted scripts.now ≤ 200000 }
+    requires few_readers { opened.readers ≤ 64 }
     requires few_reads { reads ≤ 1000 }
     ensures legal { IfOk result (IsLegalCrewLog N.belongs M.Table.total_of N.tasks N.links scripts.now opened.readers reads) }
+    ensures closed { IfOk result IsClosed }
 {
     let (board, reporters, mut readers, mut allocator) = opened.named::<B, R>(rt, alloc)?;
     let log = drive(

@@ -1,5 +1,8 @@
 ghost use Rattle.std.specs.Prelude.{◌≡◌, ◌≤◌};
 
+mod told;
+
+use crate::tests::told::ToldGate;
 use crate::*;
 use bwe_specs::{Report, Target};
 use crew_actors::OpenGate;
@@ -33,6 +36,40 @@ fn a_run_ends_with_the_history_each_time(rt: HostRuntime) -> Result<(), Fail> {
         }
     }
     Ok(())
+}
+
+// One reporter of two demands, and one reader of two reads. The gate holds the first report until the first read was shown, and
+// the reader from then on until the settle was answered: its next line has the acknowledgement's floor.
+#[test]
+fn a_held_reader_is_told_what_was_settled(rt: HostRuntime) -> Result<(), Fail> {
+    let alloc = rt.alloc();
+    let scripts = [vec![in alloc; demand_by(0, 80), demand_by(0, 40)]?];
+    for _ in 0..RUNS {
+        let gate = ToldGate::new();
+        let log = run_crew(&rt, alloc, SmallMaker::new(2, 1), &scripts, 1, 2, &gate)?;
+        assert_eq!(rt; gate.missed(), 0);
+        for reader in &log.readers {
+            assert_eq!(rt;
+                reader.reads.as_slice(),
+                &[line_of(0, 0), line_of(2, 120)][..]
+            );
+            assert_eq!(rt; (reader.last, reader.length), (line_of(2, 120), 2));
+        }
+        assert_eq!(rt; (log.readers.len(), log.history.len()), (1, 2));
+        // Two reports and the settle, a round more than reads, and two reads and the last.
+        assert_eq!(rt; gate.begun(), (3, 3, 3));
+        assert_eq!(rt; gate.answered(), (3, 3, 3));
+    }
+    Ok(())
+}
+
+// The line of a read that showed what its reader had been told of.
+fn line_of(prefix: u64, total: u64) -> ReadLine {
+    ReadLine {
+        floor: prefix,
+        prefix,
+        total,
+    }
 }
 
 // A demand of the task that has the reporter's number.

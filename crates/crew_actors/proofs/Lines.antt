@@ -14,6 +14,10 @@ prefix_same xs = ([], append-nil xs)
 pub prefix_then : {A : Type 0} (xs ys zs : List A) → IsPrefix xs ys → IsPrefix ys zs → IsPrefix xs zs
 prefix_then xs ys zs p q = (p.0 ++ q.0, sym (append_assoc xs p.0 q.0) ∙ ap (λ w. w ++ q.0) p.1 ∙ q.1)
 
+-- where each of two lists begins the other, they are as long
+pub prefix_both : {A : Type 0} (xs ys : List A) → IsPrefix xs ys → IsPrefix ys xs → length ys ≡ length xs
+prefix_both xs ys p q = omega (arith, sym (ap length p.1) ∙ length-append xs p.0, sym (ap length q.1) ∙ length-append ys q.0)
+
 -- a line of a log is one of a log that begins with it
 pub longer : {T : Type 0} (belongs : List Report → T → Type 0) (total_of : T → ℕ) (log log' : List Report) → IsPrefix log log' → (line : ReadLine) → IsLineOf belongs total_of log line → IsLineOf belongs total_of log' line
 longer belongs total_of log log' begins line of =

@@ -9,7 +9,7 @@ ghost use Rattle.crew_actors.specs.Reads.{HasRead};
 ghost use Rattle.crew_log.specs.LegalCrewLog.{IsReaderOf};
 
 use crate::actor::{Actor, Gate};
-use board::{Ack, Bases, Profile, ReaderPass, View};
+use board::{Ack, Bases, FinalAck, Profile, ReaderPass, View};
 use bwe_specs::{OutOfMemory, Report};
 use crew_log::{ReadLine, ReaderLog};
 use demand_book::Posted;
@@ -53,22 +53,23 @@ struct LastRead {
     pub beyond: Vec<Report>,
 }
 
-// One read, its line, and what the log has from a place on.
+// One read of a log that has ended, its line, and what the log has from a place on.
 fn read_last<T: Posted, N: Profile<T>, B: Bases, G: Gate>(
     alloc: Global,
     gate: &G,
     reader: u32,
     call: u64,
-    from: u64,
+    end: &FinalAck<B>,
     pass: &mut ReaderPass<T, N, B>,
 ) -> Result<LastRead, OutOfMemory>
-    requires from { from ≤ length pass.old.log }
+    requires from { length end.now ≤ length pass.old.log }
     ensures floor { IfOk result (λ last. last.line.floor ≡ T.covers pass.old.table) }
     ensures prefix { IfOk result (λ last. last.line.prefix ≡ T.covers pass.new.table) }
     ensures never_back { IfOk result (λ last. last.line.floor ≤ last.line.prefix) }
     ensures line { IfOk result (λ last. IsLineOf N.belongs T.total_of pass.new.log last.line) }
     ensures length { IfOk result (λ last. last.length ≡ length pass.new.log) }
-    ensures beyond { IfOk result (λ last. last.beyond.items ≡ drop from pass.new.log) }
+    ensures beyond { IfOk result (λ last. last.beyond.items ≡ drop (length end.now) pass.new.log) }
+    ensures within { IsPrefix pass.new.log end.now }
     ensures allowed { OnOk result (All (IsAllowed N.reporters (IsFit N.tasks N.links)) pass.new.log) }
     ensures log { IsPrefix pass.old.log pass.new.log }
     ensures reads { pass.new.reads ≡ min (pass.old.reads + 1) (2 ^ 64 - 1) }
@@ -82,8 +83,9 @@ fn read_last<T: Posted, N: Profile<T>, B: Bases, G: Gate>(
         prefix: view.prefix(),
         total: view.total(),
     };
+    view.is_within(end);
     let length = view.log_length();
-    let beyond = entries_from(alloc, from, length, &view)?;
+    let beyond = entries_from(alloc, end.prefix(), length, &view)?;
     Ok(LastRead {
         line,
         length,
@@ -167,11 +169,13 @@ pub fn read_lines<T: Posted, N: Profile<T>, B: Bases, G: Gate, R: Wait>(
 }
 
 /// Learns the acknowledgement of the end, reads once more, and makes the reader's log of this read and of the lines before.
+///
+/// The log that it has then seen is the one that has ended, and no longer one.
 pub fn read_to_the_end<T: Posted, N: Profile<T>, B: Bases, G: Gate>(
     alloc: Global,
     gate: &G,
     reader: u32,
-    end: &Ack<B>,
+    end: &FinalAck<B>,
     reads: Vec<ReadLine>,
     pass: &mut ReaderPass<T, N, B>,
 ) -> Result<ReaderLog, OutOfMemory>
@@ -180,12 +184,13 @@ pub fn read_to_the_end<T: Posted, N: Profile<T>, B: Bases, G: Gate>(
     ensures reader { IfOk result (IsReaderOf
         N.belongs T.total_of (IsAllowed N.reporters (IsFit N.tasks N.links)) (length reads.items) end.now) }
     ensures log { IfOk result (λ reader. pass.new.log ≡ end.now ++ reader.beyond.items) }
+    ensures closed { IfOk result (λ reader. reader.length ≡ length end.now) }
     ensures floor { IfOk result (λ reader. T.covers pass.new.table ≡ reader.last.prefix) }
     ensures reads { OnOk result (pass.new.reads ≡ min (pass.old.reads + 1) (2 ^ 64 - 1)) }
 {
-    pass.learn(alloc, end)?;
+    pass.learn(alloc, end.ack())?;
     let call = reads.len() as u64;
-    let read = read_last(alloc, gate, reader, call, end.prefix(), pass)?;
+    let read = read_last(alloc, gate, reader, call, end, pass)?;
     Ok(ReaderLog {
         reads,
         last: read.line,

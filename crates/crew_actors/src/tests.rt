@@ -4,7 +4,8 @@ ghost use Rattle.board.specs.Reporting.{AreFresh, AreInOrder};
 
 use crate::*;
 use board::{
-    Ack, AllocatorPass, Bases, Board, Opened, Profile, ReaderPass, ReportError, ReporterPass, View,
+    AllocatorPass, Bases, Board, FinalAck, Opened, Profile, ReaderPass, ReportError, ReporterPass,
+    View,
 };
 use bwe_specs::{Report, Target};
 use crew_log::ReadLine;
@@ -151,7 +152,7 @@ fn read_by<N: Profile<SmallTable>, B: Bases, R: Wait + Abort>(
     alloc: Global,
     newest: &NewestAck<B>,
     gate: &CountingGate,
-    end: &Ack<B>,
+    end: &FinalAck<B>,
     mut readers: Vec<ReaderPass<SmallTable, N, B>>,
 ) -> Result<(), Fail> {
     let mut pass = readers.pop().ok_or("no reader")?;

@@ -32,3 +32,7 @@ pub record IsLegalCrewLog {T : Type 0} (belongs : List Report → T → Type 0) 
   pub readers_so : length log.readers.items ≡ readers
   pub each_reader : All (IsReaderOf belongs total_of (IsAllowed (length scripts) (IsFit tasks links)) reads log.history.items) log.readers.items
   pub table_so : belongs log.history.items log.table
+
+-- no report came beyond the history: each reader's final log is as long as it
+abbrev pub IsClosed : {T : Type 0} → CrewLog T → Type 0
+IsClosed log = All (λ reader. reader.length ≡ length log.history.items) log.readers.items

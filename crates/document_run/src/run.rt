@@ -2,11 +2,12 @@
 
 ghost use Rattle.std.specs.Prelude.{◌≡◌, ◌≤◌, IfOk};
 ghost use Rattle.plan_doc.specs.Conditions.{IsUsable, reporter_count};
+ghost use Rattle.crew_log.specs.LegalCrewLog.{IsClosed};
 ghost use Rattle.document_run.specs.Runs.{IsRunOf};
 
 use crate::scripts::scripts_of_document;
 use allocator::Allocator;
-use bwe_specs::{MAX_READERS, OutOfMemory};
+use bwe_specs::OutOfMemory;
 use crew::run_crew;
 use crew_actors::Gate;
 use crew_log::CrewLog;
@@ -18,6 +19,7 @@ use std::thread::Threads;
 
 /// Runs the document's script: a reporter for each of its reporters, the allocator, and so many readers, each of which
 /// makes `reads` reads and one more at the end. The document's names are given back with the log.
+/// No reader's final log is longer than the history.
 pub fn run_document<G: Gate + Sync, R: Threads + Wait + Sync>(
     rt: &R,
     alloc: Global,
@@ -28,7 +30,7 @@ pub fn run_document<G: Gate + Sync, R: Threads + Wait + Sync>(
 ) -> Result<(CrewLog<LimitTable>, Names), OutOfMemory>
     requires usable { IsUsable document }
     requires some_readers { 1 ≤ readers }
-    requires few_readers { readers ≤ MAX_READERS }
+    requires few_readers { readers ≤ 64 }
     requires few_reads { reads ≤ 1000 }
     ensures log { IfOk result (λ made. IsRunOf
         (record {
@@ -38,6 +40,7 @@ pub fn run_document<G: Gate + Sync, R: Threads + Wait + Sync>(
           capacities = document.topology.capacities;
         })
         document.script.items (reporter_count document) readers reads made.0) }
+    ensures closed { IfOk result (λ made. IsClosed made.0) }
     ensures names { IfOk result (λ made. made.1 ≡ document.names) }
 {
     let scripts = scripts_of_document(alloc, &document)?;

@@ -7,7 +7,7 @@ ghost use Rattle.crew.specs.Starting.{AreScripts};
 ghost use Rattle.crew.specs.Reporters.{scripted};
 ghost use Rattle.document_run.specs.Runs.{items_of, scripts_of};
 
-use bwe_specs::{MAX_REPORTERS, MAX_REPORTS, OutOfMemory, Report};
+use bwe_specs::{OutOfMemory, Report};
 use plan_doc::Document;
 use std::alloc::Global;
 
@@ -19,10 +19,10 @@ pub fn scripts_of_document(
     requires { IsUsable document.now }
     ensures split { IfOk result (λ scripts.
         items_of scripts.items ≡ scripts_of (reporter_count document.now) document.now.script.items) }
-    ensures few { IfOk result (λ scripts. length scripts.items ≤ MAX_REPORTERS) }
+    ensures few { IfOk result (λ scripts. length scripts.items ≤ 64) }
     ensures scripts { IfOk result (λ scripts.
         AreScripts (tasks_in document.now) (link_count document.now) scripts.items) }
-    ensures room { IfOk result (λ scripts. scripted scripts.items ≤ MAX_REPORTS) }
+    ensures room { IfOk result (λ scripts. scripted scripts.items ≤ 200000) }
 {
     let reporters = document.names.reporters.len() as u32;
     split_by_reporter(alloc, &document.script, reporters)

@@ -1,3 +1,4 @@
 pub mod Texts
 pub mod Owners
 pub mod Plays
+pub mod Lawful

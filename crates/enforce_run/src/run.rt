@@ -5,6 +5,7 @@ ghost use Rattle.std.specs.List.{All};
 ghost use Rattle.demand_book.specs.Fit.{IsFit};
 ghost use Rattle.event_lines.specs.EventLines.{AreThere};
 ghost use Rattle.enforce_run.specs.EnforceText.{enforced_text};
+ghost use Rattle.enforce_run.specs.Lawful.{AreLawful, DoSettle};
 ghost use Rattle.enforce_run.specs.Playing.{regions_of as regions_of_owners};
 
 use crate::play::play;
@@ -35,8 +36,14 @@ pub fn enforce<M: Maker>(
     requires owners { length owners.now ≡ M.plan_tasks (M.plan maker) }
     requires tasks { length owners.now < 2 ^ 32 }
     requires there { AreThere reporters [] lines.now }
-    ensures { IfOk result (λ text. text.items ≡ enforced_text M.Table.covers M.Table.limit_at (M.table_of (M.plan maker))
-        script.now (regions_of_owners reporters owners.now) (map string_bytes names.now) lines.now) }
+    ensures text { IfOk result (λ text. text.items ≡ enforced_text M.Table.covers M.Table.limit_at
+        (M.table_of (M.plan maker)) script.now (regions_of_owners reporters owners.now) (map string_bytes names.now)
+        lines.now) }
+    // at every moment of the events that are printed, and for all that come later
+    ensures lawful { AreLawful M.Table.frame M.Table.covers M.Table.limit_at (M.table_of (M.plan maker))
+        script.now (regions_of_owners reporters owners.now) lines.now }
+    ensures settles { DoSettle M.Table.covers M.Table.limit_at (M.table_of (M.plan maker))
+        script.now (regions_of_owners reporters owners.now) lines.now }
 {
     let regions = regions_of(alloc, reporters, owners)?;
     let (answers, world) = play(alloc, maker, script, regions, lines)?;

@@ -1,6 +1,6 @@
 //! The reading of a document, pass by pass.
 
-ghost use Rattle.std.specs.Prelude.{◌≡◌, ◌≤◌, ◌<◌, ◌^◌, map, length, IfOk};
+ghost use Rattle.std.specs.Prelude.{◌≡◌, ◌≤◌, ◌<◌, ◌^◌, map, length, IfOk, IfSome};
 ghost use Rattle.serde_json.specs.View.{view};
 ghost use Rattle.wan_topology.specs.Network.{network_of};
 ghost use Rattle.wan_topology.specs.Faults.{topology_fault};
@@ -37,7 +37,9 @@ use doc_passes::{
 };
 use path_groups::{GroupSpec, PathError, PathPlan};
 use policy_tree::{ClusterSpec, PolicyTree, TreeError, TreeSpec};
+use json::Scratch;
 use raw_document::{JsonError, RawDocument, RawGroup, RawLink, read_json, read_shape};
+use raw_reader::read_straight;
 use serde_json::Value;
 use std::alloc::Global;
 use wan_topology::{Topology, TopologyError};
@@ -237,20 +239,41 @@ fn document_from_value(alloc: Global, value: &Value) -> Result<Document, DocErro
     }
 }
 
-/// The document of the bytes ("The document" and "Refusals", docs/FORMAT.md), or its refusal of the lowest number.
-///
-/// Names are lent by the JSON value until the document is accepted. Each name is hashed once where it stands and at most once
-/// where it is referred to; nothing else is looked up. The value of the JSON is gone when this returns.
+// The document of the bytes by the tree of their JSON value, or the first of the refusals 1 to 11.
 #[tactic(auto, unfolding(crate::specs::Document::document))]
-pub fn read_document(alloc: Global, bytes: &[u8]) -> Result<Document, DocError>
-    // The answer is the definition's, unless memory ran out.
+fn document_by_tree(alloc: Global, bytes: &[u8]) -> Result<Document, DocError>
     ensures exact { Answers result (document bytes.now) }
-    // An accepted document meets the conditions of the calls that take its parts.
     ensures usable { IfOk result IsUsable }
 {
     match read_json(alloc, bytes) {
         Ok(value) => document_from_value(alloc, &value),
         Err(JsonError::NotJson) => Err(DocError::NotJson),
         Err(JsonError::OutOfMemory) => Err(DocError::OutOfMemory),
+    }
+}
+
+// The same straight from the tokens, where they have the shape of a document.
+fn document_by_tokens(alloc: Global, bytes: &[u8]) -> Option<Result<Document, DocError>>
+    ensures exact { IfSome result (λ found. Answers found (document bytes.now)) }
+    ensures usable { IfSome result (λ found. IfOk found IsUsable) }
+{
+    let mut scratch = Scratch::new(alloc);
+    let raw = read_straight(alloc, bytes, &mut scratch)?;
+    Some(document_from_raw(alloc, &raw))
+}
+
+/// The document of the bytes ("The document" and "Refusals", docs/FORMAT.md), or its refusal of the lowest number.
+///
+/// Names are lent by the text until the document is accepted. Each name is hashed once where it stands and at most once where
+/// it is referred to; nothing else is looked up. Only a text whose shape has a fault is read a second time, by its tree.
+pub fn read_document(alloc: Global, bytes: &[u8]) -> Result<Document, DocError>
+    // The answer is the definition's, unless memory ran out.
+    ensures exact { Answers result (document bytes.now) }
+    // An accepted document meets the conditions of the calls that take its parts.
+    ensures usable { IfOk result IsUsable }
+{
+    match document_by_tokens(alloc, bytes) {
+        Some(found) => found,
+        None => document_by_tree(alloc, bytes),
     }
 }

@@ -1,3 +1,1 @@
-pub mod DigitFacts
-pub mod NumberFacts
 pub mod PartsFacts

@@ -1,5 +1,5 @@
 -- The parts that are found are those of the format's sentence.
-use Rattle.std.proofs.Common.{◌≡◌, ℕ, ◌+◌, ◌-◌, ◌^◌, ◌<◌, ◌≤◌, ◌⊎◌, inl, inr, Bool, true, false, cond, ◌&&◌, ◌==◌, List, [], ◌∷◌, ◌++◌, length, get_or, take, drop, Option, Some, None, refl, sym, ap, subst, ◌∙◌, nat_lt, nat_le, arith, add-one, length-append}
+use Rattle.std.proofs.Common.{◌≡◌, ℕ, ◌+◌, ◌-◌, ◌^◌, ◌<◌, ◌≤◌, drop-cons, ◌⊎◌, inl, inr, Bool, true, false, cond, ◌&&◌, ◌==◌, List, [], ◌∷◌, ◌++◌, length, get_or, take, drop, Option, Some, None, refl, sym, ap, subst, ◌∙◌, nat_lt, nat_le, arith, add-one, length-append}
 use Rattle.std.specs.Prelude.{option_and_then, position, IfSome}
 use Rattle.std.specs.Char.{is_ascii_digit}
 use Rattle.std.specs.List.{position_or_len}
@@ -10,12 +10,14 @@ use Rattle.std.proofs.lemmas.Bool.{eqb-true, ltb-false, lt-ltb, leb-true, le-leb
 use Rattle.std.proofs.lemmas.List.{take-append-drop, length-take-le}
 use Rattle.std.proofs.lemmas.List.Quantifiers.{position-Some}
 use Rattle.two_part.specs.declared.Parts.{Parts}
-use Rattle.two_part.specs.Digits.{number_of}
-use Rattle.two_part.specs.TwoPart.{IsTwoPart, AreParts, is_number, parts_behind, parts_within, parts_of}
-use Rattle.two_part.proofs.DigitFacts.{next_digit}
+use Rattle.text_scan.specs.Numbers.{is_number, number_of}
+use Rattle.two_part.specs.TwoPart.{IsTwoPart, AreParts, parts_behind, parts_within, parts_of}
 
 abbrev is_line_feed : ℕ → Bool
 is_line_feed byte = byte == 10
+
+next_digit : (digits : List ℕ) (i : ℕ) → i < length digits → drop i digits ≡ get_or digits i 0 ∷ drop (i + 1) digits
+next_digit digits i l = rw add-one (drop-cons digits i 0 l)
 
 -- ---- what the call finds
 

@@ -1,8 +1,9 @@
 -- Where the document of a two-part input lies.
-use Rattle.std.specs.Prelude.{◌≡◌, ℕ, ◌+◌, ◌≤◌, Bool, true, ◌&&◌, ◌==◌, List, ◌∷◌, ◌++◌, length, take, position, Option, Some, None}
+use Rattle.std.specs.Prelude.{◌≡◌, ℕ, ◌+◌, ◌≤◌, true, ◌&&◌, ◌==◌, List, ◌∷◌, ◌++◌, length, take, position, Option, Some, None}
 use Rattle.std.specs.Prelude.{if◌then◌else◌, nat_le, option_and_then}
 use Rattle.std.specs.Str.{all_ascii_digits}
 use Rattle.std.specs.Str.Parse.{digits_value}
+use Rattle.text_scan.specs.Numbers.{is_number}
 use Rattle.two_part.specs.declared.Parts.{Parts}
 
 -- The bytes are one to 20 ASCII digits, a line feed (10), as many bytes as that number, which are the document, and the rest.
@@ -27,11 +28,7 @@ pub record AreParts (bytes : List ℕ) (parts : Parts) : Type 0 where
 
 -- ---- the parts, as they are found
 
--- one to 20 ASCII digits
-abbrev pub is_number : List ℕ → Bool
-is_number text = all_ascii_digits text && (nat_le 1 (length text) && nat_le (length text) 20)
-
--- where so many bytes follow the digits and the line feed
+-- where so many bytes follow the digits, one to 20 of them, and the line feed
 unfoldable pub parts_within : List ℕ → List ℕ → Option Parts
 parts_within bytes digits =
     if is_number digits && nat_le (length digits + 1 + digits_value 10 digits) (length bytes)

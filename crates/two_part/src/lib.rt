@@ -9,9 +9,7 @@
 ghost use Rattle.std.specs.Prelude.{◌≡◌, ◌==◌, List, ℕ, length, position, Some, IfSome};
 ghost use Rattle.two_part.specs.TwoPart.{AreParts, IsTwoPart, parts_behind, parts_of};
 
-mod digits;
-
-use crate::digits::number_in;
+use text_scan::number_of;
 
 /// Where the document lies, in bytes from the start of the input. The second part is what follows `end`.
 #[derive(Clone, Copy, Debug, PartialEq, Eq, Drop)]
@@ -32,7 +30,7 @@ pub fn find_parts(bytes: &[u8]) -> Option<Parts>
         → result ≡ Some (parts_behind digits (length document)) }
 {
     let line_feed = first_line_feed(bytes)?;
-    let number = number_in(&bytes[..line_feed])?;
+    let number = number_of(&bytes[..line_feed])?;
     let start = line_feed as u64 + 1;
     if number > bytes.len() as u64 - start {
         return None;

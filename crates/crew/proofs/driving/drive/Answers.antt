@@ -3,7 +3,9 @@ use Rattle.std.specs.Prelude.{IfErr}
 use Rattle.std.specs.List.{All}
 use Rattle.std.proofs.lemmas.List.{take_at}
 use mathlib.Core.List.{IsPrefix}
+use Rattle.bwe_specs.specs.declared.report.Report.{Report}
 use Rattle.board_log.specs.Roll.{own_of}
+use Rattle.crew_log.specs.declared.log.ReaderLog.{ReaderLog}
 use Rattle.board.specs.Reporting.{Reporting}
 use Rattle.board.specs.declared.refusal.ReportError.{ReportError}
 use Rattle.board.specs.declared.refusal.ReportError.TheVariants.{OutOfMemory}
@@ -59,3 +61,7 @@ returns-clause-legal g c =
     c.args.reporters.items c.in_ok-answers.answers.reported.items new history
     (record { history = c.in-Ok.ended.history; sent = c.in_ok-sent.sent; readers = c.in_ok-readers.readers; table = c.in-Ok.ended.table })
     c.requires.count c.requires.reporters c.requires.fresh have done sent c.in-Ok.ensures.history exact c.in-Ok.ensures.allowed many c.in_ok-readers.ensures.readers c.in-Ok.ensures.table
+
+pub returns-clause-closed : goal.returns-clause-closed
+returns-clause-closed g c =
+    subst (λ (history : List Report). All (λ (reader : ReaderLog). reader.length ≡ length history) c.in_ok-readers.readers.items) (sym c.in-Ok.ensures.history) c.in_ok-readers.ensures.closed

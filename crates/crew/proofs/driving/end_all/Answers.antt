@@ -88,6 +88,7 @@ loop-number-preserved g c =
     let within : n < length passes = omega (arith, kept.count) in
     let Ends : ReaderLog → Reading g.row.T.Denot → Type 0 = HasEnded g.T.Posted.covers c.args.reads c.args.end.now in
     let IsOf : ℕ → ReaderLog → Type 0 = λ reads. IsReaderOf g.N.Profile.belongs g.T.Posted.total_of (IsAllowed g.N.Profile.reporters (IsFit g.N.Profile.tasks g.N.Profile.links)) reads c.args.end.now in
+    let IsWhole : ReaderLog → Type 0 = λ ended. ended.length ≡ length c.args.end.now in
     let is : IsOf c.args.reads reader = subst (λ (reads : ℕ). IsOf reads reader) has.count says.reader in
     let last : Ends reader after = record { log = says.log; floor = says.floor; reads_so = omega (arith, says.reads, has.reads_so, c.requires.few_reads) } in
     record {
@@ -97,6 +98,7 @@ loop-number-preserved g c =
       lines_left = left_beyond lines c.args.lines.items n c.replace.new.dest kept.lines_left;
       passes_left = left_beyond passes c.args.passes.now n after kept.passes_left;
       readers = subst (All (IsOf c.args.reads)) (sym items) (All-push (IsOf c.args.reads) readers reader kept.readers is);
+      closed = subst (All IsWhole) (sym items) (All-push IsWhole readers reader kept.closed says.closed);
       ended = subst (λ (xs : List ReaderLog). (place : ℕ) (a : ReaderLog) (b : Reading g.row.T.Denot) → place < n + 1 → Ends (get_or xs place a) (get_or (set passes n after) place b)) (sym items)
           (pairs_more Ends readers passes n reader after kept.readers_count within kept.ended last);
     }

@@ -14,5 +14,6 @@ invariant-loop-number g l = record {
   lines_left : (place : ℕ) (other : _) → l.number ≤ place → get_or l.lines.items place other ≡ get_or l.initial.lines.items place other;
   passes_left : (place : ℕ) (other : _) → l.number ≤ place → get_or l.passes place other ≡ get_or l.initial.passes place other;
   readers : All (IsReaderOf g.N.Profile.belongs g.T.Posted.total_of (IsAllowed g.N.Profile.reporters (IsFit g.N.Profile.tasks g.N.Profile.links)) l.reads l.end) l.readers.items;
+  closed : All (λ reader. reader.length ≡ length l.end) l.readers.items;
   ended : (place : ℕ) (reader : _) (pass : _) → place < l.number → HasEnded g.T.Posted.covers l.reads l.end (get_or l.readers.items place reader) (get_or l.passes place pass);
 }

@@ -1,10 +1,10 @@
-use Rattle.std.proofs.Common.{◌≡◌, ◌++◌, List, ℕ, length, drop, sym, ◌∙◌, ap, arith}
+use Rattle.std.proofs.Common.{◌≡◌, ◌++◌, List, ℕ, length, drop, sym, ◌∙◌, ap, subst, arith}
 use mathlib.Core.List.{IsPrefix}
 use Rattle.board_core.specs.Core.{IsAllowed}
 use Rattle.demand_book.specs.Fit.{IsFit}
 use Rattle.bwe_specs.specs.declared.report.Report.{Report}
 use Rattle.crew_log.specs.declared.log.ReaderLog.{ReaderLog}
-use Rattle.crew_actors.proofs.Lines.{prefix_then}
+use Rattle.crew_actors.proofs.Lines.{prefix_then, prefix_both}
 use Rattle.crew_actors.proofs.Readers.{is_reader, beyond_of}
 use Rattle.crew_actors.proofs.reading.read_to_the_end.Goals as goal
 
@@ -17,14 +17,15 @@ returns g c =
     let read = c.in_ok-read.read in
     let says = c.in_ok-read.ensures in
     let reader : ReaderLog = record { reads = c.args.reads; last = read.line; length = read.length; beyond = read.beyond } in
-    let begins : IsPrefix history log = prefix_then history learnt.log log c.in_ok-learn.ensures.told says.log in
+    let begins : IsPrefix history log = prefix_then history learnt.log log (subst (λ (l : List Report). IsPrefix l learnt.log) c.ack.ensures.ack c.in_ok-learn.ensures.told) says.log in
     let grew : IsPrefix c.args.pass.now.log log = prefix_then c.args.pass.now.log learnt.log log c.learn.ensures.log says.log in
-    let beyond : read.beyond.items ≡ drop (length history) log = says.beyond ∙ ap (λ (n : ℕ). drop n log) c.prefix.ensures.prefix in
+    let beyond : read.beyond.items ≡ drop (length history) log = says.beyond in
     record {
       reader = is_reader g.N.Profile.belongs g.T.Posted.total_of (IsAllowed g.N.Profile.reporters (IsFit g.N.Profile.tasks g.N.Profile.links))
           history c.args.pass.now.log log (covers c.args.pass.now.table) reader begins grew beyond says.length says.allowed c.requires.lines c.requires.never_back
-          (omega (arith, says.floor, c.learn.ensures.floor)) (omega (arith, says.floor, c.in_ok-learn.ensures.covers)) says.never_back says.line;
+          (omega (arith, says.floor, c.learn.ensures.floor)) (omega (arith, says.floor, c.in_ok-learn.ensures.covers, ap (λ (l : List Report). length l) c.ack.ensures.ack)) says.never_back says.line;
       log = beyond_of history log begins ∙ ap (λ (rest : List Report). history ++ rest) (sym beyond);
+      closed = says.length ∙ prefix_both history log begins says.within;
       floor = sym says.prefix;
       reads = omega (arith, says.reads, c.learn.ensures.reads);
     }

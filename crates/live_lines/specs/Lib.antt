@@ -1,0 +1,4 @@
+pub mod Known
+pub mod Meaning
+pub mod Cutting
+pub mod Laws

@@ -1,0 +1,18 @@
+//! A document straight from the tokens of its text, with no tree of values between.
+//!
+//! `plan_doc` above asks `read_straight` first. What it gives is what `raw_document` reads of the same bytes by their tree; where
+//! it gives nothing, which is promised of no text, the tree is read, and finds the first fault.
+#![tactic(auto)]
+
+mod document;
+mod entries;
+mod groups;
+mod part;
+mod slots;
+mod tasks;
+mod values;
+
+pub use document::read_straight;
+
+#[cfg(test)]
+mod tests;

@@ -1,0 +1,87 @@
+//! Values and lists of values.
+
+ghost use Rattle.std.specs.Prelude.{IfSome, OnSome, ◌<◌, length};
+ghost use Rattle.raw_reader.specs.Takes.{Takes, ListRead};
+
+use crate::values::{number, open_array, text};
+use json::{Reader, Token};
+use std::alloc::Global;
+
+/// What is read of a value.
+pub trait Part<'a>: Sized + Drop {
+    ghost use Rattle.std.specs.Prelude.{ℕ};
+    ghost use Rattle.serde_json.specs.Data.{Data};
+
+    // In a document of that version this is what is read of the data.
+    ghost is_read: { ℕ → Data → Self → Type 0 };
+
+    /// The next value, in which arrays and objects may nest `depth` deep.
+    fn read(alloc: Global, version: u64, reader: &mut Reader<'a>, depth: usize) -> Option<Self>
+        ensures value { IfSome result (λ x. Takes depth reader.old reader.new
+            (λ d. is_read version d x)) }
+        ensures shorter { OnSome result (length reader.new < length reader.old) };
+}
+
+impl<'a> Part<'a> for &'a str {
+    ghost use Rattle.std.specs.Prelude.{◌≡◌, Ok};
+    ghost use Rattle.raw_document.specs.Shape.{text};
+
+    ghost is_read = { λ version d s. text d ≡ Ok s.now };
+
+    fn read(
+        _alloc: Global,
+        _version: u64,
+        reader: &mut Reader<'a>,
+        _depth: usize,
+    ) -> Option<&'a str> {
+        text(reader)
+    }
+}
+
+impl<'a> Part<'a> for u64 {
+    ghost use Rattle.std.specs.Prelude.{◌≡◌, Ok};
+    ghost use Rattle.raw_document.specs.Shape.{whole};
+
+    ghost is_read = { λ version d n. whole d ≡ Ok n };
+
+    fn read(_alloc: Global, _version: u64, reader: &mut Reader<'a>, _depth: usize) -> Option<u64> {
+        number(reader)
+    }
+}
+
+/// A point of a function.
+impl<'a> Part<'a> for (u64, u64) {
+    ghost use Rattle.std.specs.Prelude.{◌≡◌, Ok};
+    ghost use Rattle.raw_document.specs.Shape.{point};
+
+    ghost is_read = { λ version d p. point d ≡ Ok p };
+
+    fn read(
+        _alloc: Global,
+        _version: u64,
+        reader: &mut Reader<'a>,
+        depth: usize,
+    ) -> Option<(u64, u64)> {
+        open_array(reader, depth)?;
+        let share = number(reader)?;
+        let amount = number(reader)?;
+        match reader.next()? {
+            Token::EndArray => Some((share, amount)),
+            _ => None,
+        }
+    }
+}
+
+impl<'a, T: Part<'a>> Part<'a> for Vec<T> {
+    ghost is_read = { λ version d xs. ListRead (T.is_read version) d xs.items };
+
+    fn read(alloc: Global, version: u64, reader: &mut Reader<'a>, depth: usize) -> Option<Vec<T>> {
+        open_array(reader, depth)?;
+        let mut found = Vec::new(alloc);
+        'items: while !reader.take_end_array() {
+            let item = T::read(alloc, version, reader, depth - 1)?;
+            found.push(item).ok()?;
+        }
+        Some(found)
+    }
+}

@@ -1,0 +1,82 @@
+//! Single tokens.
+
+ghost use Rattle.std.specs.Prelude.{◌≡◌, ◌==◌, false, slice_index, ◌<◌, ℕ, List, ◌∷◌, Some, IfSome, OnSome, IsTrue};
+ghost use Rattle.json.specs.Token.{begin_array, begin_object, string, number as number_token};
+ghost use Rattle.serde_json.specs.Data.{unsigned};
+ghost use Rattle.serde_json.specs.Read.{number_of, number_from};
+ghost use Rattle.raw_document.specs.Words.{word};
+
+use fast_float::Numeral;
+use json::{Reader, Token};
+use raw_document::DocKey;
+
+/// Whether this is the key.
+pub fn is(text: &str, key: DocKey) -> bool
+    ensures { IsTrue result → text.now ≡ word key }
+{
+    text == key.text()
+}
+
+/// Takes the bracket that opens an array, where one may still open.
+pub fn open_array(reader: &mut Reader<'_>, depth: usize) -> Option<()>
+    ensures { OnSome result ((reader.old ≡ begin_array ∷ reader.new) × (0 < depth)) }
+{
+    match reader.next()? {
+        Token::BeginArray if depth > 0 => Some(()),
+        _ => None,
+    }
+}
+
+/// Takes the brace that opens an object, where one may still open.
+pub fn open_object(reader: &mut Reader<'_>, depth: usize) -> Option<()>
+    ensures { OnSome result ((reader.old ≡ begin_object ∷ reader.new) × (0 < depth)) }
+{
+    match reader.next()? {
+        Token::BeginObject if depth > 0 => Some(()),
+        _ => None,
+    }
+}
+
+/// Takes a text.
+pub fn text<'a>(reader: &mut Reader<'a>) -> Option<&'a str>
+    ensures { IfSome result (λ s. reader.old ≡ string s.now ∷ reader.new) }
+{
+    match reader.next()? {
+        Token::String(text) => Some(text),
+        _ => None,
+    }
+}
+
+/// Takes a number without a sign, a fraction or an exponent, of at most 64 bits.
+pub fn number(reader: &mut Reader<'_>) -> Option<u64>
+    ensures { IfSome result (λ n. (s : List ℕ) × (reader.old ≡ number_token s ∷ reader.new)
+        × (number_of s ≡ Some (unsigned n))) }
+{
+    match reader.next()? {
+        Token::Number(digits) => whole(digits),
+        _ => None,
+    }
+}
+
+// The number that a token's text writes.
+fn whole(digits: &str) -> Option<u64>
+    ensures { IfSome result (λ n. number_of digits.now ≡ Some (unsigned n)) }
+{
+    let bytes = digits.as_bytes();
+    if has_minus(bytes) {
+        return None;
+    }
+    without_sign(&Numeral::scan(bytes))
+}
+
+fn has_minus(bytes: &[u8]) -> bool
+    ensures { result ≡ (slice_index bytes.now 0 == 45) }
+{
+    !bytes.is_empty() && bytes[0] == b'-'
+}
+
+fn without_sign(numeral: &Numeral<'_>) -> Option<u64>
+    ensures { IfSome result (λ n. number_from false numeral.now ≡ Some (unsigned n)) }
+{
+    numeral.to_u64()
+}

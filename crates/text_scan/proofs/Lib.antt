@@ -1,0 +1,4 @@
+pub mod NumberFacts
+pub mod WordFacts
+pub mod LineFacts
+pub mod NameFacts

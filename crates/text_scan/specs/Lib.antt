@@ -1,0 +1,5 @@
+pub mod Numbers
+pub mod Words
+pub mod Lines
+pub mod Cuts
+pub mod Names
