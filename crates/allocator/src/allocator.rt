@@ -1,6 +1,8 @@
 //! The allocator.
 
-ghost use Rattle.std.specs.Prelude.{◌≡◌, [], length, replicate};
+ghost use Rattle.std.specs.Prelude.{◌≡◌, ◌<◌, ◌++◌, ◌∷◌, [], List, length, replicate, OnOk, OnErr};
+ghost use Rattle.bwe_specs.specs.declared.report.Report.{Report};
+ghost use Rattle.demand_book.specs.Fit.{IsFit};
 ghost use Rattle.path_groups.specs.Plan.{IsBuiltOn};
 ghost use Rattle.policy_tree.specs.Trees.{task_numbers};
 
@@ -64,6 +66,28 @@ impl Allocator {
             reported: Reported::new(tree, topology),
             plan,
         }
+    }
+
+    /// Takes in a report behind however many, as `absorb` does behind fewer than `MAX_REPORTS`.
+    ///
+    /// 64 bits count the reports; no list of them is kept. After a refusal it stands as before.
+    pub fn take_in(&mut self, alloc: Global, report: Report) -> Result<(), OutOfMemory>
+        requires fit { IsFit (⟦<Allocator as Maker>⟧.plan_tasks (⟦<Allocator as Maker>⟧.plan self.old))
+            (⟦<Allocator as Maker>⟧.plan_links (⟦<Allocator as Maker>⟧.plan self.old)) report }
+        requires room { self.old.reported.prefix < u64.MAX }
+        ensures plan { ⟦<Allocator as Maker>⟧.plan self.new ≡ ⟦<Allocator as Maker>⟧.plan self.old }
+        ensures ok { OnOk result ((reports : List Report) → ⟦<Allocator as Maker>⟧.absorbed self.old reports
+            → ⟦<Allocator as Maker>⟧.absorbed self.new (reports ++ report ∷ [])) }
+        ensures refused { OnErr result (self.new ≡ self.old) }
+    {
+        self.reported.absorb(alloc, report)
+    }
+
+    /// How many reports were taken in.
+    pub fn prefix(&self) -> u64
+        ensures { result ≡ self.now.reported.prefix }
+    {
+        self.reported.prefix()
     }
 
     /// The groups' values under the demands that were reported.

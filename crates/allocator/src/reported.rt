@@ -8,7 +8,7 @@ ghost use Rattle.bwe_specs.specs.Values.{AreValues};
 ghost use Rattle.wan_topology.specs.Network.{IsNetwork};
 ghost use Rattle.allocator.specs.Reported.{Reported as ReportedView, IsAfter, kept, with_capacity, with_report};
 
-use bwe_specs::{MAX_AMOUNT, MAX_REPORTS, OutOfMemory, Report, Target};
+use bwe_specs::{MAX_AMOUNT, OutOfMemory, Report, Target};
 use policy_tree::PolicyTree;
 use std::alloc::Global;
 use std::marker::Model;
@@ -93,10 +93,10 @@ impl Reported {
         self.tree.rematch();
     }
 
-    /// Takes in a report. After a refusal it stands as before.
+    /// Takes in a report, of as many as 64 bits count. After a refusal it stands as before.
     pub fn absorb(&mut self, alloc: Global, report: Report) -> Result<(), OutOfMemory>
         requires fit { IsFit (length self.old.tree.demands) (length self.old.network.capacities) report }
-        requires room { self.old.prefix < MAX_REPORTS }
+        requires room { self.old.prefix < u64.MAX }
         ensures ok { OnOk result (self.new ≡ with_report self.old report) }
         ensures after { OnOk result ((reports : List Report)
             → IsAfter self.old reports → IsAfter self.new (reports ++ report ∷ [])) }
@@ -120,7 +120,7 @@ impl Reported {
     fn absorb_demand(&mut self, task: u32, demand: u64) -> Result<(), OutOfMemory>
         requires task { task < length self.old.tree.demands }
         requires demand { demand ≤ MAX_AMOUNT }
-        requires room { self.old.prefix < MAX_REPORTS }
+        requires room { self.old.prefix < u64.MAX }
         ensures ok { OnOk result (self.new ≡ record self.old {
           tree = asking self.old.tree task demand;
           prefix = self.old.prefix + 1;
@@ -140,7 +140,7 @@ impl Reported {
     ) -> Result<(), OutOfMemory>
         requires link { link < length self.old.network.capacities }
         requires capacity { capacity ≤ MAX_AMOUNT }
-        requires room { self.old.prefix < MAX_REPORTS }
+        requires room { self.old.prefix < u64.MAX }
         ensures ok { OnOk result (self.new ≡ record self.old {
           network = with_capacity self.old.network link capacity;
           prefix = self.old.prefix + 1;

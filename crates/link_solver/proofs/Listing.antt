@@ -1,5 +1,5 @@
 -- Groups are listed at the links that they use.
-use Rattle.std.proofs.Common.{◌≡◌, ℕ, zero, suc, ◌+◌, ◌-◌, ◌<◌, ◌≤◌, ◌≢◌, Bool, true, false, ◌==◌, List, [], ◌∷◌, ◌++◌, Vec, Global, length, map, take, set, refl, sym, ◌∙◌, ap, arith, subst, inl, inr, get_or, slice_index, slice_index_or, eqb-true, length-append}
+use Rattle.std.proofs.Common.{◌≡◌, ℕ, zero, suc, ◌+◌, ◌-◌, ◌<◌, ◌≤◌, ◌≢◌, true, false, ◌==◌, List, [], ◌∷◌, ◌++◌, Vec, Global, length, map, take, set, refl, sym, ◌∙◌, ap, arith, subst, inl, inr, get_or, slice_index, slice_index_or, eqb-true, length-append}
 use Rattle.std.specs.Prelude.{All, Contains}
 use Rattle.std.specs.List.{list_any}
 use Rattle.std.proofs.lemmas.Bool.{cases_eq, cases_lt}
@@ -10,11 +10,11 @@ use Rattle.bwe_specs.specs.Paths.{PathGroup, PathGroups, path_group_at, path_gro
 use Rattle.bwe_specs.proofs.Loads.{or-true}
 use Rattle.wan_topology.specs.Network.{Network}
 use Rattle.path_groups.specs.declared.part.LinkPart.{LinkPart}
-use Rattle.path_groups.specs.Parts.{IsPartOf, AreParts, has_part}
+use Rattle.path_groups.specs.Parts.{AreParts, has_part}
 use Rattle.path_groups.specs.Plan.{IsPathOf, IsBuiltOn}
 use Rattle.path_groups.proofs.Lists.{get_map}
 use Rattle.path_groups.proofs.Parts.{AreParts-used}
-use Rattle.link_solver.specs.ByLink.{list_on, AreAscending, AreGroupsOn, AreListed, ListsMore}
+use Rattle.link_solver.specs.ByLink.{list_on, AreAscending, ListsMore}
 
 -- a link that a path goes over is one of the network's
 goes_over-in : (links : List ℕ) (bound link : ℕ) → All (λ other. other < bound) links → list_any (λ other. other == link) links ≡ true → link < bound

@@ -1,26 +1,52 @@
 -- The groups move on at a closing, one after the other.
-use Rattle.std.proofs.Common.{◌≡◌, ℕ, ◌+◌, ◌<◌, ◌≤◌, true, false, List, [], ◌∷◌, length, refl, sym, ◌∙◌, arith, subst, inl, inr, slice_index_or, if◌then◌else◌}
+use Rattle.std.proofs.Common.{◌≡◌, ℕ, ◌+◌, ◌*◌, ◌<◌, ◌≤◌, false, List, ◌∷◌, length, refl, sym, arith, subst, inl, inr, slice_index_or}
 use Rattle.std.proofs.lemmas.Bool.{cases_eq}
 use Rattle.bwe_specs.specs.declared.network.Closing.{Closing}
+use Rattle.bwe_specs.specs.Bounded.{sum_below}
 use Rattle.bwe_specs.specs.Paths.{PathGroups, path_group_at, uses}
 use Rattle.bwe_specs.specs.Filling.{Wan, closed_links}
 use Rattle.bwe_specs.specs.RightClosings.{last_share}
 use Rattle.bwe_specs.specs.Values.{NeverFalls}
+use Rattle.bwe_specs.proofs.Bounds.{sum_below-more}
 use Rattle.mpfa_fill.specs.declared.standing.Standing.{Standing}
 use Rattle.mpfa_fill.specs.declared.standing.Standing.TheVariants.{Grows, Stopped}
 use Rattle.mpfa_fill.specs.Standing.{standing_under}
 use Rattle.link_solver.specs.declared.due.Due.{Due}
 use Rattle.link_solver.specs.Dues.{due_at, IsMarked, Marks}
 use Rattle.link_solver.specs.Front.{HasElsewhere, IsHeld, IsUpOver}
+use Rattle.link_solver.specs.Looks.{looks_in, moves_of}
 use Rattle.link_solver.proofs.Closes.{held-after, marked-more}
+use Rattle.link_solver.proofs.GroupMoves.{moves-same, keeps-path_group, looks-group}
 use Rattle.link_solver.proofs.Walks.{UsesNot}
 
--- the groups below a number are held as they are after the closing, and have marked the dues; the later ones are as before it
+-- the groups below a number are held as they are after the closing, and have marked the dues; the later ones are as before it;
+-- what is looked at again comes out of the moves to come
 pub record AreMoved (wan : Wan) (earlier : List Closing) (closing : Closing) (added : ℕ → ℕ → ℕ) (first : List Due) (standings : List Standing) (dues : List Due) (count : ℕ) : Type 0 where
   pub gone : (group : ℕ) → group < count → IsHeld wan (closing ∷ earlier) added group (slice_index_or standings group (Stopped 0))
   pub left : (group : ℕ) → count ≤ group → group < length wan.groups → IsHeld wan earlier added group (slice_index_or standings group (Stopped 0))
   pub up : (group : ℕ) → count ≤ group → group < length wan.groups → IsUpOver wan closing.link closing.share group (slice_index_or standings group (Stopped 0))
   pub marked : (link : ℕ) → link < length first → IsMarked wan earlier closing count link (due_at first link) (due_at dues link)
+  pub looks : looks_in wan.top dues + 31 * sum_below count (moves_of wan (closing ∷ earlier)) ≤ looks_in wan.top first + 31 * sum_below count (moves_of wan earlier)
+
+-- before any group moves, no link is looked at again ..
+pub looks-start : (wan : Wan) (earlier : List Closing) (closing : Closing) (dues : List Due)
+    → looks_in wan.top dues + 31 * sum_below 0 (moves_of wan (closing ∷ earlier)) ≤ looks_in wan.top dues + 31 * sum_below 0 (moves_of wan earlier)
+unfolding sum_below
+looks-start wan earlier closing dues = omega arith
+
+-- .. and each that moves pays for the links of its own path groups
+pub looks-next : (wan : Wan) (earlier : List Closing) (closing : Closing) (group : ℕ) (added : ℕ → ℕ → ℕ) (never : ℕ) (standing : Standing) (first mid new : List Due) → length mid ≡ length wan.capacities
+    → IsHeld wan earlier added group standing → Marks wan.groups group closing never standing (standing_under wan.groups group (closed_links (closing ∷ earlier)) closing standing) mid new
+    → looks_in wan.top mid + 31 * sum_below group (moves_of wan (closing ∷ earlier)) ≤ looks_in wan.top first + 31 * sum_below group (moves_of wan earlier)
+    → looks_in wan.top new + 31 * sum_below (group + 1) (moves_of wan (closing ∷ earlier)) ≤ looks_in wan.top first + 31 * sum_below (group + 1) (moves_of wan earlier)
+looks-next wan earlier closing group added never standing first mid new each_link held marks so =
+    omega (
+      arith,
+      so,
+      looks-group wan earlier closing group added never standing mid new each_link held marks,
+      sum_below-more group (moves_of wan (closing ∷ earlier)),
+      sum_below-more group (moves_of wan earlier),
+    )
 
 -- a group that does not use a link need not come up for it
 pub up-unused : (wan : Wan) (link share group : ℕ) (standing : Standing) → UsesNot wan.groups link group → IsUpOver wan link share group standing
@@ -62,4 +88,11 @@ module _ (wan : Wan) (never_falls : NeverFalls wan) (earlier : List Closing) (cl
         marked = λ link within.
             marked-more wan earlier closing group link never past added standing (due_at first link) dues dues held
             (marks-none wan.groups group never closing standing _ dues unused) (are.marked link within);
+        looks = omega (
+          arith,
+          are.looks,
+          moves-same wan earlier closing group (keeps-path_group wan earlier closing group added standing held unused),
+          sum_below-more group (moves_of wan (closing ∷ earlier)),
+          sum_below-more group (moves_of wan earlier),
+        );
       }

@@ -62,7 +62,7 @@ pub returns-clause-cause : goal.returns-clause-cause
 returns-clause-cause g c =
     let earlier : List Closing = closings_in c.args.front.now in
     let last : c.last_of.result ≡ last_share earlier = c.last_of.ensures ∙ ap last_share c.closings-2.ensures in
-    c.in_ok-share_cause.ensures
+    c.in_ok-share_cause.ensures.cause
     ∙ cause-share (wan_in g.V.GroupValues.meaning c.args.front.now) earlier c.args.closing
     (lt-leb _ _ (omega (arith, c.if-closing-links.false, c.links.ensures)))
     (closed-found c.closings.result.now earlier c.args.closing.link c.is_closed.result c.closings.ensures c.is_closed.ensures ∙ c.if-is_closed.false)
@@ -79,7 +79,25 @@ returns-clause-least g c =
     (c.is_named.ensures.other c.if-is_named.false
     (next-found wan (never_falls _ _ _ c.requires.front.known) earlier c.args.closing c.next_closing.new.dues c.in_ok-next.next c.in_ok-next.ensures.next
     (cause-none wan earlier c.args.closing
-    (sym (c.in_ok-share_cause.ensures
+    (sym (c.in_ok-share_cause.ensures.cause
+    ∙ cause-share wan earlier c.args.closing
+    (lt-leb _ _ (omega (arith, c.if-closing-links.false, c.links.ensures)))
+    (closed-found c.closings.result.now earlier c.args.closing.link c.is_closed.result c.closings.ensures c.is_closed.ensures ∙ c.if-is_closed.false)
+    (le-ltb _ _ (omega (arith, c.if-closing-last_of.false, last)))
+    (lt-leb _ _ (omega (arith, c.if-closing-top.false, c.requires.top))))
+    ∙ none))))
+
+pub returns-clause-ticks_none : goal.returns-clause-ticks_none
+returns-clause-ticks_none g c =
+    let wan : Wan = wan_in g.V.GroupValues.meaning c.args.front.now in
+    let earlier : List Closing = closings_in c.args.front.now in
+    let last : c.last_of.result ≡ last_share earlier = c.last_of.ensures ∙ ap last_share c.closings-2.ensures in
+    λ none.
+    absurd
+    (c.is_named.ensures.other c.if-is_named.false
+    (next-found wan (never_falls _ _ _ c.requires.front.known) earlier c.args.closing c.next_closing.new.dues c.in_ok-next.next c.in_ok-next.ensures.next
+    (cause-none wan earlier c.args.closing
+    (sym (c.in_ok-share_cause.ensures.cause
     ∙ cause-share wan earlier c.args.closing
     (lt-leb _ _ (omega (arith, c.if-closing-links.false, c.links.ensures)))
     (closed-found c.closings.result.now earlier c.args.closing.link c.is_closed.result c.closings.ensures c.is_closed.ensures ∙ c.if-is_closed.false)

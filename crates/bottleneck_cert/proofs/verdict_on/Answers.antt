@@ -6,11 +6,12 @@ use Rattle.bwe_specs.proofs.Verdicts.{cause-none}
 use Rattle.mpfa_fill.proofs.MomentLemmas.{over-along}
 use Rattle.link_solver.specs.Dues.{AreDues}
 use Rattle.link_solver.specs.Front.{wan_in, closings_in}
+use Rattle.link_solver.specs.Looks.{looks_ahead}
 use Rattle.bottleneck_cert.proofs.Causes.{verdict-here, verdict-next, verdict-end}
 use Rattle.bottleneck_cert.proofs.verdict_on.Goals as goal
 
-pub returns-in-Some : goal.returns-in-Some
-returns-in-Some g c =
+pub returns-in-Some-clause-verdict : goal.returns-in-Some-clause-verdict
+returns-in-Some-clause-verdict g c =
     let i = c.loop-place.invariant in
     let earlier : List Closing = closings_in c.loop-place.front in
     let d : Closing = record { link = 0; share = 0 } in
@@ -40,15 +41,23 @@ loop-place-preserved g c =
           ∙ verdict-next wan earlier c.args.closings.now c.loop-place.place d c.loop-place-test.true
           (sym (c.in_ok-cause.ensures.cause ∙ ap (λ w. cause_after w earlier closing) i.wan) ∙ c.in_default.is)
           ∙ i.rest;
+      ticks = omega (
+        arith,
+        i.ticks,
+        c.in_ok-cause.ensures.ticks_none c.in_default.is,
+        e.ahead,
+        ap (λ (w : Wan). looks_ahead w (closings_in c.close.new.self) c.close.new.dues) e.wan,
+        ap (λ (cs : List Closing). looks_ahead (wan_in g.V.GroupValues.meaning c.loop-place.front) cs c.close.new.dues) e.closings,
+      );
     }
 
-pub returns : goal.returns
-returns g c =
+pub returns-clause-verdict : goal.returns-clause-verdict
+returns-clause-verdict g c =
     let i = c.loop-place.invariant in
     let wan : Wan = wan_in g.V.GroupValues.meaning c.args.front.now in
     let earlier : List Closing = closings_in c.loop-place.front in
     let e : length c.args.closings.now ≡ c.loop-place.place = omega (arith, c.loop-place-test.false, c.loop-place.auto.place-end) in
     c.top_verdict.ensures
-    ∙ ap₂ top_verdict (c.in_ok-over.ensures ∙ over-along _ wan earlier earlier c.args.top wan.top i.wan refl c.requires.top) e
+    ∙ ap₂ top_verdict (c.in_ok-over.ensures.over ∙ over-along _ wan earlier earlier c.args.top wan.top i.wan refl c.requires.top) e
     ∙ verdict-end wan earlier c.args.closings.now c.loop-place.place (record { link = 0; share = 0 }) c.loop-place-test.false
     ∙ i.rest

@@ -1,4 +1,4 @@
-use Rattle.std.proofs.Common.{◌≡◌, ◌<◌, length, refl, sym, ap, subst, get_or, arith, ℕ, ◌+◌}
+use Rattle.std.proofs.Common.{◌<◌, length, refl, sym, subst, get_or, arith, ℕ, ◌+◌}
 use Rattle.std.specs.Prelude.{Contains}
 use Rattle.path_groups.specs.declared.part.LinkPart.{LinkPart}
 use Rattle.link_solver.specs.ByLink.{AreAscending}

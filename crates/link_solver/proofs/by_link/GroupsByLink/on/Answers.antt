@@ -1,4 +1,4 @@
-use Rattle.std.proofs.Common.{◌≡◌, ℕ, List, Vec, ◌∙◌, sym, ap, subst, []}
+use Rattle.std.proofs.Common.{◌≡◌, ℕ, List, Vec, ◌∙◌, sym, ap, subst}
 use Rattle.std.specs.Global.{Global}
 use Rattle.bwe_specs.specs.Paths.{PathGroups}
 use Rattle.link_solver.specs.ByLink.{list_on, AreGroupsOn, AreListed}

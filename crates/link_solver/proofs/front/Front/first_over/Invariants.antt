@@ -1,8 +1,11 @@
-use Rattle.std.proofs.Common.{◌≡◌, ℕ, ◌<◌, false}
+use Rattle.std.proofs.Common.{◌≡◌, ℕ, ◌+◌, ◌<◌, ◌≤◌, false}
 use Rattle.mpfa_fill.specs.LastFit.{is_over_at}
 use Rattle.link_solver.specs.Front.{wan_in, closings_in}
 use Rattle.link_solver.proofs.front.Front.first_over.Given as goal
 
--- the links so far fit
+-- the links so far fit, and each was looked at once
 abbrev pub invariant-loop-link : goal.invariant-loop-link
-invariant-loop-link g l = (link : ℕ) → link < l.link → is_over_at (wan_in g.V.GroupValues.meaning l.self) (closings_in l.self) l.share link ≡ false
+invariant-loop-link g l = record {
+  fit : (link : ℕ) → link < l.link → is_over_at (wan_in g.V.GroupValues.meaning l.self) (closings_in l.self) l.share link ≡ false;
+  ticks : l.steps ≤ l.fn.steps + l.link;
+}

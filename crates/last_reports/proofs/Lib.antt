@@ -1,0 +1,4 @@
+pub mod Last
+pub mod Alike
+pub mod Putting
+pub mod Snapshots
