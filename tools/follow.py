@@ -254,6 +254,9 @@ def main(words):
     if words[:1] == ["--help"]:
         print(__doc__)
         return 0
+    for program in (BWE, BWE_LIVE):
+        if not Path(program).is_file():
+            sys.exit(f"follow: no program at {program}")
     if words[:1] == ["--long"]:
         long_run(int(words[1]) if len(words) > 1 else 1_000_000)
         return 0
