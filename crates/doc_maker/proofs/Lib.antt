@@ -1,4 +1,3 @@
 pub mod Lists
-pub mod NoFloat
 pub mod Steps
 pub mod accepting

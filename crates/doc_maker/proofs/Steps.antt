@@ -1,5 +1,5 @@
 -- The numbers below a total that leave one rest, met by steps.
-use Rattle.std.proofs.Common.{◌≡◌, ℕ, zero, suc, ◌+◌, ◌-◌, ◌*◌, ◌/◌, ◌%◌, ◌<◌, ◌≤◌, ◌==◌, Bool, true, false, List, ◌∷◌, refl, sym, ap, ◌∙◌, arith, eq-eqb}
+use Rattle.std.proofs.Common.{◌≡◌, ℕ, zero, suc, ◌+◌, ◌-◌, ◌*◌, ◌/◌, ◌%◌, ◌<◌, ◌≤◌, ◌==◌, Bool, true, false, List, [], ◌∷◌, refl, sym, ap, ◌∙◌, arith, eq-eqb}
 use Rattle.std.proofs.lemmas.Bool.{ne_eqb}
 use Rattle.std.proofs.Math.Nat.{mul-le-mul_left, add-mod_right}
 use Rattle.std.specs.List.{filter, range_with_len}
@@ -25,6 +25,10 @@ module _ (divisor rest total : ℕ) where
   -- the numbers from `start` that leave the rest
   abbrev pub from : ℕ → List ℕ
   from start = filter leaves (range_with_len start (total - start))
+
+  -- from the total on there are none
+  pub over : (start : ℕ) → total ≤ start → from start ≡ []
+  over start past = let none : total - start ≡ 0 = omega arith in rw none
 
   pub skips : (start : ℕ) → leaves start ≡ false → from start ≡ from (start + 1)
   skips start none = go (total - start) refl where

@@ -1,3 +1,4 @@
 pub mod Layout
 pub mod Made
 pub mod Accepting
+pub mod Writing

@@ -2,18 +2,22 @@
 #![tactic(auto, unfolding(raw_document::specs::Words::word))]
 
 ghost use Rattle.std.specs.Prelude.{◌≡◌, ◌<◌, map, IfOk};
-ghost use Rattle.serde_json.specs.View.{view};
 ghost use Rattle.serde_json.specs.Data.{string};
 ghost use Rattle.bwe_specs.specs.Reports.{numbers};
 ghost use Rattle.doc_maker.specs.Layout.{document_value, list_value, report_value};
 ghost use Rattle.doc_maker.specs.Made.{IsSize, made, made_document, made_report, reporter_name};
+ghost use Rattle.doc_maker.specs.Writing.{Adds, tokens_of};
 
-use crate::network::links;
-use crate::size::{DocumentSize, numbered};
-use crate::tree::groups as made_groups;
+use crate::network::write_links;
+use crate::size::{DocumentSize, write_numbered};
+use crate::tree::write_groups;
 use bwe_specs::OutOfMemory;
-use serde_json::{Value, json};
+use json::Writer;
 use std::alloc::{AllocError, Global};
+
+// Bytes of a group with its link, and of a task with its report: somewhat more than there are.
+const GROUP_ROOM: usize = 512;
+const TASK_ROOM: usize = 96;
 
 /// The made document of a seed, a number of groups and a number of tasks.
 ///
@@ -30,53 +34,73 @@ pub fn make_document(
         text.items ≡ made_document (record { seed = seed; groups = groups; tasks = tasks })) }
 {
     let size = DocumentSize::new(seed, groups, tasks);
-    let document = document(alloc, &size)?;
-    Ok(document.to_vec(alloc)?)
+    let room = groups as usize * GROUP_ROOM + tasks as usize * TASK_ROOM;
+    let mut out = Writer::new(Vec::with_capacity(alloc, room)?);
+    write_document(alloc, &mut out, &size)?;
+    Ok(out.into_inner())
 }
 
-fn document(alloc: Global, size: &DocumentSize) -> Result<Value, AllocError>
-    ensures { IfOk result (λ value. view value ≡ document_value (made size.now)) }
+fn write_document(
+    alloc: Global,
+    out: &mut Writer,
+    size: &DocumentSize,
+) -> Result<(), AllocError>
+    ensures { Adds result out.old out.new (tokens_of (document_value (made size.now))) }
 {
-    json!(in alloc; {
-        "groups": made_groups(alloc, size)?,
-        "links": links(alloc, size)?,
-        "reporters": reporters(alloc)?,
-        "script": script(alloc, size)?,
-        "top": 1_000_000u64,
-        "version": 1u64,
-    })
+    out.begin_object()?;
+    out.key("groups")?;
+    write_groups(alloc, out, size)?;
+    out.key("links")?;
+    write_links(alloc, out, size)?;
+    out.key("reporters")?;
+    write_reporters(alloc, out)?;
+    out.key("script")?;
+    write_script(alloc, out, size)?;
+    out.key("top")?;
+    out.u64(1_000_000)?;
+    out.key("version")?;
+    out.u64(1)?;
+    out.end_object()
 }
 
-#[tactic(auto, using(crate::proofs::Lists::made_one_more))]
-fn reporters(alloc: Global) -> Result<Value, AllocError>
-    ensures { IfOk result (λ value. view value ≡ list_value string (map reporter_name (numbers 4))) }
+fn write_reporters(alloc: Global, out: &mut Writer) -> Result<(), AllocError>
+    ensures { Adds result out.old out.new
+        (tokens_of (list_value string (map reporter_name (numbers 4)))) }
 {
-    let mut reporters = Vec::new(alloc);
+    out.begin_array()?;
     for reporter in 0..4 {
-        reporters.push(Value::from(numbered(alloc, "r", reporter)?))?;
+        write_numbered(alloc, out, "r", reporter)?;
     }
-    Ok(Value::Array(reporters))
+    out.end_array()
 }
 
-#[tactic(auto, using(crate::proofs::Lists::made_one_more))]
-fn script(alloc: Global, size: &DocumentSize) -> Result<Value, AllocError>
-    ensures { IfOk result (λ value. view value ≡ list_value report_value (made size.now).script) }
+fn write_script(alloc: Global, out: &mut Writer, size: &DocumentSize) -> Result<(), AllocError>
+    ensures { Adds result out.old out.new
+        (tokens_of (list_value report_value (made size.now).script)) }
 {
-    let mut script = Vec::new(alloc);
+    out.begin_array()?;
     for task in 0..size.tasks() {
-        script.push(report(alloc, size, task)?)?;
+        write_report(alloc, out, size, task)?;
     }
-    Ok(Value::Array(script))
+    out.end_array()
 }
 
 // The report of a task by its owner.
-fn report(alloc: Global, size: &DocumentSize, task: u32) -> Result<Value, AllocError>
+fn write_report(
+    alloc: Global,
+    out: &mut Writer,
+    size: &DocumentSize,
+    task: u32,
+) -> Result<(), AllocError>
     requires { task < size.now.tasks }
-    ensures { IfOk result (λ value. view value ≡ report_value (made_report size.now task)) }
+    ensures { Adds result out.old out.new (tokens_of (report_value (made_report size.now task))) }
 {
-    json!(in alloc; {
-        "demand": size.drawn(size.groups() + task),
-        "reporter": numbered(alloc, "r", task % 4)?,
-        "task": numbered(alloc, "t", task)?,
-    })
+    out.begin_object()?;
+    out.key("demand")?;
+    out.u64(size.drawn(size.groups() + task))?;
+    out.key("reporter")?;
+    write_numbered(alloc, out, "r", task % 4)?;
+    out.key("task")?;
+    write_numbered(alloc, out, "t", task)?;
+    out.end_object()
 }

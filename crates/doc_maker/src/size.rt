@@ -1,8 +1,11 @@
 //! What a document is made from, and what is drawn and named from that.
 
-ghost use Rattle.std.specs.Prelude.{◌≡◌, IfOk, string_bytes};
+ghost use Rattle.std.specs.Prelude.{◌≡◌, ◌∷◌, [], IfOk, string_bytes};
+ghost use Rattle.json.specs.Token.{string};
 ghost use Rattle.doc_maker.specs.Made.{drawn, numbered as numbered_text};
+ghost use Rattle.doc_maker.specs.Writing.{Adds};
 
+use json::Writer;
 use std::alloc::{AllocError, Global};
 use std::marker::Model;
 
@@ -62,8 +65,21 @@ impl DocumentSize {
     }
 }
 
-/// A letter and a number.
-pub(crate) fn numbered(alloc: Global, letter: &str, number: u32) -> Result<String, AllocError>
+/// Writes the text of a letter and a number.
+pub(crate) fn write_numbered(
+    alloc: Global,
+    out: &mut Writer,
+    letter: &str,
+    number: u32,
+) -> Result<(), AllocError>
+    ensures { Adds result out.old out.new (string (numbered_text letter.now number) ∷ []) }
+{
+    let name = numbered(alloc, letter, number)?;
+    out.string(&name)
+}
+
+// A letter and a number.
+fn numbered(alloc: Global, letter: &str, number: u32) -> Result<String, AllocError>
     ensures { IfOk result (λ name. string_bytes name ≡ numbered_text letter.now number) }
 {
     format!(in alloc; "{letter}{number}")

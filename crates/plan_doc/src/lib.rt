@@ -6,13 +6,11 @@
 //! Each refusal is a pass of its own, in the order of the numbers, over the raw document of `raw_document`; those before
 //! the builders' own are in `doc_passes`.
 //!
-//! What a reading costs, beside the mere reading of the JSON value, with nothing else at work: for 3.9 MB with 20,000 tasks of
-//! long names and as many reports, over ten readings in one process, 1.28 times its time (73 ms to 57 ms); for the made document
-//! of 20,000 tasks, of 1.9 MB, 1.33 times (78 ms to 58 ms). By instructions, 1.28 and 1.32 times. A process that reads once and
-//! then drops the document takes 98 ms to 61 ms, of which 12 ms is the allocator's merging of what the value had held, which
-//! falls due when the document is dropped; one that ends with the value never does it. Each name is hashed once where it stands,
-//! and once where it is referred to unless it is found where it is likely; no name is looked for in a list. Each pass is linear.
-//! Nothing is promised of time, and nothing of which growth is refused where memory is wanting.
+//! A reading takes the bytes once, token by token, into the raw document, whose names the text lends (`raw_reader`). Only a
+//! text that is not of the shape of a document is read a second time, by the tree of its JSON value, which finds the first
+//! fault. Each name is hashed once where it stands, and once where it is referred to unless it is found where it is likely; no
+//! name is looked for in a list. Each pass is linear. Nothing is promised of time, and nothing of which growth is refused where
+//! memory is wanting.
 #![tactic(auto)]
 
 mod doc_error;

@@ -28,7 +28,7 @@ pub fn push_word_and_number(
 }
 
 /// Puts a line of a word and a number at the end of the text.
-pub(crate) fn push_line(
+pub fn push_line(
     alloc: Global,
     text: &mut String,
     word: &str,
@@ -42,7 +42,7 @@ pub(crate) fn push_line(
 }
 
 /// Puts a word and the name of a number at the end of the text.
-pub(crate) fn push_word_and_name(
+pub fn push_word_and_name(
     text: &mut String,
     word: &str,
     names: &[String],

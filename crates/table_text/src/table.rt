@@ -72,7 +72,8 @@ pub fn push_closings(
     Ok(())
 }
 
-fn push_link(
+/// Puts the line of a link's load at the end of the text.
+pub fn push_link(
     alloc: Global,
     text: &mut String,
     names: &Names,
@@ -154,7 +155,8 @@ fn push_places(
     Ok(())
 }
 
-fn push_group(
+/// Puts the lines of a group at the end of the text: its own, and one for each of its path groups.
+pub fn push_group(
     alloc: Global,
     text: &mut String,
     names: &Names,
@@ -192,7 +194,8 @@ pub fn push_groups(
     Ok(())
 }
 
-fn push_task(
+/// Puts the line of a task's limit at the end of the text.
+pub fn push_task(
     alloc: Global,
     text: &mut String,
     names: &Names,

@@ -1,0 +1,4 @@
+pub mod ChangeText
+pub mod StateText
+pub mod RefusedText
+pub mod Laws

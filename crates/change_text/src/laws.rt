@@ -1,0 +1,13 @@
+//! The laws of changes, each the contract of a function that does nothing.
+
+ghost use Rattle.change_text.specs.Laws.{ChangesStandWhereLinesDiffer, KeptTablesAreMadeTables};
+
+/// Kept tables: the text of the earlier table with the change made to it is the text of the later one.
+pub fn kept_tables_are_made_tables()
+    ensures { KeptTablesAreMadeTables }
+{}
+
+/// A link, a group or a task stands in a change exactly where its lines differ.
+pub fn changes_stand_where_lines_differ()
+    ensures { ChangesStandWhereLinesDiffer }
+{}

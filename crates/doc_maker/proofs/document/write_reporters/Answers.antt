@@ -1,0 +1,21 @@
+use Rattle.std.proofs.Common.{◌≡◌, ℕ, ◌+◌, ◌*◌, ◌/◌, ◌%◌, List, [], ◌∷◌, ◌++◌, map, take, decimal, refl, sym, ap, ◌∙◌, codes, Option, Some, None, Result, Ok, Err, arith, rules}
+use Rattle.json.specs.Token.{Token, begin_object, end_object, begin_array, end_array, key, string, number}
+use Rattle.serde_json.specs.Data as datum
+use Rattle.raw_document.specs.Words.{word}
+use Rattle.bwe_specs.specs.Reports.{numbers}
+use Rattle.doc_maker.specs.Layout.{link_value, path_value, task_value, job_value, user_value, group_value, report_value, function_value, point_value, list_value, document_value}
+use Rattle.doc_maker.specs.Made.{drawn, numbered, link_name, task_name, reporter_name, owner_name, tasks_of, made, made_link, made_path, made_path_groups, made_task, made_function, made_job, made_user, made_group, made_report, user_function}
+use Rattle.doc_maker.specs.Writing.{tokens_of, each_tokens, function_tokens, Added, Adds}
+use Rattle.doc_maker.proofs.Lists.{wrote, added_as, also, finally, then, list_done, one_more, item_more, one_less_left, function_first}
+use Rattle.doc_maker.proofs.document.write_reporters.Goals as goal
+
+pub loop-reporter-preserved : goal.loop-reporter-preserved
+loop-reporter-preserved c = one_more datum.string reporter_name c.begin_array.new.self c.loop-reporter.out c.write_numbered.new.out c.loop-reporter.reporter c.loop-reporter.invariant c.in_ok-write_numbered.ensures
+
+pub returns : goal.returns
+returns c =
+    let end : c.loop-reporter.reporter ≡ 4 = omega (arith) in
+    list_done datum.string c.end_array.result c.args.out.now c.begin_array.new.self c.loop-reporter.out c.end_array.new.self (map reporter_name (numbers 4))
+    (wrote c.args.out.now c.begin_array.new.self begin_array c.in_ok-begin_array.ensures)
+    (added_as c.begin_array.new.self c.loop-reporter.out _ _ (ap (λ n. each_tokens datum.string (map reporter_name (numbers n))) end) c.loop-reporter.invariant)
+    c.end_array.ensures

@@ -1,0 +1,22 @@
+use Rattle.std.proofs.Common.{◌≡◌, ℕ, ◌+◌, ◌*◌, ◌/◌, ◌%◌, List, [], ◌∷◌, ◌++◌, map, take, decimal, refl, sym, ap, ◌∙◌, codes, Option, Some, None, Result, Ok, Err, arith, rules}
+use Rattle.json.specs.Token.{Token, begin_object, end_object, begin_array, end_array, key, string, number}
+use Rattle.raw_document.specs.Words.{word}
+use Rattle.bwe_specs.specs.Reports.{numbers}
+use Rattle.doc_maker.specs.Layout.{link_value, path_value, task_value, job_value, user_value, group_value, report_value, function_value, point_value, list_value, document_value}
+use Rattle.doc_maker.specs.Made.{drawn, numbered, link_name, task_name, reporter_name, owner_name, tasks_of, made, made_link, made_path, made_path_groups, made_task, made_function, made_job, made_user, made_group, made_report, user_function}
+use Rattle.doc_maker.specs.Writing.{paths_tokens, tokens_of, each_tokens, function_tokens, Added, Adds}
+use Rattle.doc_maker.proofs.Lists.{wrote, added_as, also, finally, then, list_done, one_more, item_more, one_less_left, function_first}
+use Rattle.doc_maker.proofs.network.write_path_groups.Goals as goal
+
+pub returns : goal.returns
+unfolding word paths_tokens
+returns c =
+    then c.end_array-3.result c.args.out.now c.begin_array.new.self c.end_array-3.new.self _ _ (wrote c.args.out.now c.begin_array.new.self _ c.in_ok-begin_array.ensures)
+    (then c.end_array-3.result c.begin_array.new.self c.begin_array-2.new.self c.end_array-3.new.self _ _ (wrote c.begin_array.new.self c.begin_array-2.new.self _ c.in_ok-begin_array-2.ensures)
+    (then c.end_array-3.result c.begin_array-2.new.self c.write_path.new.out c.end_array-3.new.self _ _ c.in_ok-write_path.ensures
+    (then c.end_array-3.result c.write_path.new.out c.end_array.new.self c.end_array-3.new.self _ _ (wrote c.write_path.new.out c.end_array.new.self _ c.in_ok-end_array.ensures)
+    (then c.end_array-3.result c.end_array.new.self c.begin_array-3.new.self c.end_array-3.new.self _ _ (wrote c.end_array.new.self c.begin_array-3.new.self _ c.in_ok-begin_array-3.ensures)
+    (then c.end_array-3.result c.begin_array-3.new.self c.write_path-2.new.out c.end_array-3.new.self _ _ (added_as c.begin_array-3.new.self c.write_path-2.new.out _ _ (ap (λ n. tokens_of (path_value (made_path 1 ((c.args.group + 1) % n)))) c.groups-groups.ensures.groups) c.in_ok-write_path-2.ensures)
+    (then c.end_array-3.result c.write_path-2.new.out c.write_path-3.new.out c.end_array-3.new.self _ _ (added_as c.write_path-2.new.out c.write_path-3.new.out _ _ (ap (λ n. tokens_of (path_value (made_path 2 ((c.args.group + 2) % n)))) c.groups-groups.ensures.groups) c.in_ok-write_path-3.ensures)
+    (then c.end_array-3.result c.write_path-3.new.out c.end_array-2.new.self c.end_array-3.new.self _ _ (wrote c.write_path-3.new.out c.end_array-2.new.self _ c.in_ok-end_array-2.ensures)
+    (finally c.end_array-3.result c.end_array-2.new.self c.end_array-3.new.self _ c.end_array-3.ensures))))))))
