@@ -25,7 +25,7 @@ use Rattle.audit_law.proofs.Clean.{history_clean, report_clean, words_printed}
 
 -- ---- sums
 
-abbrev sum_of : List ℕ → ℕ
+abbrev pub sum_of : List ℕ → ℕ
 sum_of taken = sum_by (λ (count : ℕ). count) taken
 
 -- as many or fewer of each script, so as many or fewer of all
@@ -82,12 +82,12 @@ sum-same (count ∷ taken) (script ∷ scripts) same each =
 -- ---- what has been taken of the scripts
 
 -- so many reports of each reporter are done
-record HasTaken (tasks links : ℕ) (scripts : List (List Report)) (done : List Report) (taken : List ℕ) : Type 0 where
-  same : length taken ≡ length scripts
-  sum_so : length done ≡ sum_of taken
-  counted : (number : ℕ) → number < length scripts → get_or taken number 0 ≡ length (reports_of number done)
-  within : (number : ℕ) → number < length scripts → get_or taken number 0 ≤ length (get_or scripts number [])
-  no_other : All (λ report. (report.reporter < length scripts) × IsFit tasks links report) done
+pub record HasTaken (tasks links : ℕ) (scripts : List (List Report)) (done : List Report) (taken : List ℕ) : Type 0 where
+  pub same : length taken ≡ length scripts
+  pub sum_so : length done ≡ sum_of taken
+  pub counted : (number : ℕ) → number < length scripts → get_or taken number 0 ≡ length (reports_of number done)
+  pub within : (number : ℕ) → number < length scripts → get_or taken number 0 ≤ length (get_or scripts number [])
+  pub no_other : All (λ report. (report.reporter < length scripts) × IsFit tasks links report) done
 
 reports-push : (number : ℕ) (done : List Report) (report : Report) → reports_of number (done ++ report ∷ []) ≡ reports_of number done ++ cond (report.reporter == number) (report ∷ []) []
 reports-push number done report = filter-append (λ (r : Report). r.reporter == number) done (report ∷ [])
@@ -104,7 +104,7 @@ zeros : (count : ℕ) → sum_of (replicate count 0) ≡ 0
 zeros zero = refl
 zeros (suc count) = omega (arith, sum_by-cons (λ (count : ℕ). count) 0 (replicate count 0), zeros count)
 
-taken_none : (tasks links : ℕ) (scripts : List (List Report)) → HasTaken tasks links scripts [] (replicate (length scripts) 0)
+pub taken_none : (tasks links : ℕ) (scripts : List (List Report)) → HasTaken tasks links scripts [] (replicate (length scripts) 0)
 taken_none tasks links scripts = record {
   same = length-replicate (length scripts) 0;
   sum_so = sym (zeros (length scripts));
@@ -114,7 +114,7 @@ taken_none tasks links scripts = record {
 }
 
 module _ (tasks links : ℕ) (scripts : List (List Report)) (done : List Report) (taken : List ℕ) (report : Report) where
-  taken_more : HasTaken tasks links scripts done taken → report.reporter < length scripts → IsFit tasks links report
+  pub taken_more : HasTaken tasks links scripts done taken → report.reporter < length scripts → IsFit tasks links report
       → get_or taken report.reporter 0 < length (get_or scripts report.reporter [])
       → HasTaken tasks links scripts (done ++ report ∷ []) (set taken report.reporter (get_or taken report.reporter 0 + 1))
   taken_more has there fit left = record {
@@ -169,7 +169,7 @@ All-drop-append P [] later all = all
 All-drop-append P (first ∷ front) later all = All-drop-append P front later (All-tail P first (front ++ later) all)
 
 -- as many reports as the scripts have
-lines_full : (names : LineNames) (scripts : List (List Report)) (printed : Printed) (lines : List (List ℕ)) → total_of scripts ≤ length printed.reports
+pub lines_full : (names : LineNames) (scripts : List (List Report)) (printed : Printed) (lines : List (List ℕ)) → total_of scripts ≤ length printed.reports
     → take_lines names scripts printed lines ≡ Ok (record { reports = printed.reports; lines = lines })
 unfolding take_lines
 lines_full names scripts printed [] full =
@@ -177,7 +177,7 @@ lines_full names scripts printed [] full =
 lines_full names scripts printed (line ∷ lines) full =
     ap (λ (b : Bool). cond {A = Result Reported Fault} b (continue_with (λ next. take_lines names scripts next lines) (take_line names scripts printed line)) (Ok (record { reports = printed.reports; lines = line ∷ lines }))) (le-ltb (length printed.reports) (total_of scripts) full)
 
-lines_next : (names : LineNames) (scripts : List (List Report)) (printed next : Printed) (line : List ℕ) (lines : List (List ℕ)) → length printed.reports < total_of scripts
+pub lines_next : (names : LineNames) (scripts : List (List Report)) (printed next : Printed) (line : List ℕ) (lines : List (List ℕ)) → length printed.reports < total_of scripts
     → take_line names scripts printed line ≡ Ok next → take_lines names scripts printed (line ∷ lines) ≡ take_lines names scripts next lines
 unfolding take_lines
 lines_next names scripts printed next line lines short is =
@@ -224,7 +224,7 @@ module _ (names : LineNames) (are : AreNames names) (tasks links : ℕ) (scripts
           (and_from (report.amount == report.amount) (is_of names words report.target) (eq-eqb report.amount report.amount refl) (own_target names (length done) report.reporter report.target report.amount))
 
   -- all reports of the scripts are taken
-  all_taken : (later done : List Report) (taken : List ℕ) (lines : List (List ℕ)) → HasTaken tasks links scripts done taken → IsInterleaving tasks links scripts (done ++ later)
+  pub all_taken : (later done : List Report) (taken : List ℕ) (lines : List (List ℕ)) → HasTaken tasks links scripts done taken → IsInterleaving tasks links scripts (done ++ later)
       → take_lines names scripts (record { reports = done; taken = taken }) (report_lines names (length done) later ++ lines) ≡ Ok (record { reports = done ++ later; lines = lines })
   all_taken [] done taken lines has legal =
       lines_full names scripts (record { reports = done; taken = taken }) lines (omega (arith, has.sum_so, all))
@@ -305,10 +305,10 @@ module _ (tasks links : ℕ) (scripts : List (List Report)) where
 -- ---- the other way round
 
 -- the reports that are done of each reporter begin its script
-Begin : List (List Report) → List Report → Type 0
+unfoldable pub Begin : List (List Report) → List Report → Type 0
 Begin scripts done = (number : ℕ) → number < length scripts → take (length (reports_of number done)) (get_or scripts number []) ≡ reports_of number done
 
-begin_none : (scripts : List (List Report)) → Begin scripts []
+pub begin_none : (scripts : List (List Report)) → Begin scripts []
 unfolding Begin
 begin_none scripts number lt = refl
 
@@ -331,15 +331,15 @@ nothing_past scripts number place report is = elim (cases_lt number (length scri
 
 module _ (names : LineNames) (tasks links : ℕ) (scripts : List (List Report)) (given : AreScripts names tasks links scripts) where
   -- the report of a line that was taken
-  record IsTaken (printed next : Printed) (line : List ℕ) : Type 0 where
-    report : Report
-    there : report.reporter < length scripts
-    fit : IsFit tasks links report
-    place : slice_get (get_or scripts report.reporter []) (get_or printed.taken report.reporter 0) ≡ Some report
-    line_so : line ≡ spaced (report_line names (length printed.reports) report)
-    next_so : next ≡ with_report printed report.reporter report
+  pub record IsTaken (printed next : Printed) (line : List ℕ) : Type 0 where
+    pub report : Report
+    pub there : report.reporter < length scripts
+    pub fit : IsFit tasks links report
+    pub place : slice_get (get_or scripts report.reporter []) (get_or printed.taken report.reporter 0) ≡ Some report
+    pub line_so : line ≡ spaced (report_line names (length printed.reports) report)
+    pub next_so : next ≡ with_report printed report.reporter report
 
-  line_read : (printed next : Printed) (line : List ℕ) → take_line names scripts printed line ≡ Ok next → IsTaken printed next line
+  pub line_read : (printed next : Printed) (line : List ℕ) → take_line names scripts printed line ≡ Ok next → IsTaken printed next line
   unfolding take_line take_words take_next is_line_of
   line_read printed next line is = words (report_of names (words_of line)) refl is where
     words : (told : Option ReportWords) → report_of names (words_of line) ≡ told → take_words names scripts printed (words_of line) told ≡ Ok next → IsTaken printed next line
@@ -378,7 +378,7 @@ module _ (names : LineNames) (tasks links : ℕ) (scripts : List (List Report)) 
               next_so = sym printed_so ∙ ap (λ (n : ℕ). with_report printed n report) (sym own.0);
             }
 
-  begin_more : (done : List Report) (taken : List ℕ) (report : Report) → HasTaken tasks links scripts done taken → Begin scripts done → report.reporter < length scripts
+  pub begin_more : (done : List Report) (taken : List ℕ) (report : Report) → HasTaken tasks links scripts done taken → Begin scripts done → report.reporter < length scripts
       → slice_get (get_or scripts report.reporter []) (get_or taken report.reporter 0) ≡ Some report → Begin scripts (done ++ report ∷ [])
   unfolding Begin
   begin_more done taken report has begin there place number lt = elim (cases_eq report.reporter number) [

@@ -11,4 +11,7 @@ pub mod Texts
 pub mod Ends
 pub mod Whole
 pub mod Logs
+pub mod SameFaults
+pub mod Laters
+pub mod Completions
 pub mod AuditLaw

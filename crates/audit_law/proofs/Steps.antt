@@ -116,7 +116,7 @@ module _ (names : LineNames) (scripts : List (List Report)) (total_at : ℕ → 
 
   -- ---- the reporters
 
-  due_some : (next : ℕ) → next < length scripts → due_from scripts next ≡ Reporter next
+  pub due_some : (next : ℕ) → next < length scripts → due_from scripts next ≡ Reporter next
   due_some next within = ap (λ (b : Bool). cond b (Reporter next) Reader) (lt-ltb next (length scripts) within)
 
   due_none : (next : ℕ) → length scripts ≤ next → due_from scripts next ≡ Reader

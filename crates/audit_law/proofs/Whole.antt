@@ -27,7 +27,7 @@ use Rattle.audit_law.proofs.Texts.{front_lines}
 use Rattle.audit_law.proofs.Ends.{reports_clean, seen_clean, sents_clean, table_begins, table_left}
 
 -- each script has at most as many reports as all
-script-le : (scripts : List (List Report)) (number : ℕ) → number < length scripts → length (slice_index_or scripts number []) ≤ total_of scripts
+pub script-le : (scripts : List (List Report)) (number : ℕ) → number < length scripts → length (slice_index_or scripts number []) ≤ total_of scripts
 script-le [] number within = absurd (omega (arith, within))
 script-le (script ∷ scripts) zero within = omega (arith, sum_by-cons (λ (list : List Report). length list) script scripts)
 script-le (script ∷ scripts) (suc number) within = omega (arith, sum_by-cons (λ (list : List Report). length list) script scripts, script-le scripts number (omega (arith, within)))
@@ -154,3 +154,40 @@ module _ (names : RunNames) (tasks links : ℕ) (scripts : List (List Report)) (
                 ∙ ap (λ (t : List ℕ). printed (front_lines names reported.reports scripts (all.first ∷ all.later)) ++ t)
                 (sym (text_is (text_of names.table table) ∙ ap (λ (left : List ℕ). printed tabled ++ left) (table_left names.table table) ∙ append-nil (printed tabled)));
           }
+
+    -- lines that are judged legal are those of a run
+    pub run_of_lines : (lines : List (List ℕ)) → judge_rest (line_names names) scripts total (lines_of (text_of names.table table)) [] (history_in (line_names names) scripts lines) ≡ Legal
+        → (text : List ℕ) × IsRun text × (lines_of text ≡ lines)
+    run_of_lines lines legal = go (history_in (line_names names) scripts lines) refl legal where
+      tabled : List (List ℕ)
+      tabled = lines_of (text_of names.table table)
+
+      go : (answer : Result Reported Fault) → history_in (line_names names) scripts lines ≡ answer → judge_rest (line_names names) scripts total tabled [] answer ≡ Legal → (text : List ℕ) × IsRun text × (lines_of text ≡ lines)
+      go (Err fault) read e = absurd cc
+      go (Ok reported) read e =
+          let is : IsHistory (line_names names) tasks links scripts given lines reported = history_is (line_names names) tasks links scripts given lines reported read in
+          let sent : IsSent (line_names names) scripts (λ prefix. total (take prefix reported.reports)) [] 0 scripts tabled reported.lines =
+          sent_read_back (line_names names) scripts (λ prefix. total (take prefix reported.reports)) [] tabled (length reported.reports + 1) [] scripts reported.lines refl e in
+          let all : AreAllRead (line_names names) scripts (λ prefix. total (take prefix reported.reports)) [] tabled sent.rest =
+          all_back (line_names names) scripts (λ prefix. total (take prefix reported.reports)) [] tabled sent.number sent.rest sent.legal in
+          let front : List (List ℕ) = front_lines names reported.reports scripts (all.first ∷ all.later) in
+          let lines_so : lines ≡ front ++ tabled =
+          is.lines_so
+          ∙ ap (λ (rest : List (List ℕ)). spaced (history_line (length reported.reports)) ∷ report_lines (line_names names) 0 reported.reports ++ rest) (sent.lines_so ∙ ap (λ (rest : List (List ℕ)). sent_lines (line_names names) 0 scripts ++ rest) (all.lines_so ∙ ap (λ (n : ℕ). all_seen n 0 (all.first ∷ all.later) ++ tabled) (sym is.all)))
+          ∙ sym (front_is reported.reports (all.first ∷ all.later) tabled) in
+          let seen : All (IsSeen (λ prefix. total (take prefix reported.reports)) (length reported.reports) all.reads) (all.first ∷ all.later) =
+          subst (λ (n : ℕ). All (IsSeen (λ prefix. total (take prefix reported.reports)) n all.reads) (all.first ∷ all.later)) (sym is.all) all.seen in (
+            printed front ++ text_of names.table table,
+            record {
+              history = reported.reports;
+              reads = all.reads;
+              first = all.first;
+              later = all.later;
+              legal = is.legal;
+              few_reads = all.few_reads;
+              few = all.few;
+              seen = seen;
+              text_so = refl;
+            },
+            lines_of-printed front (text_of names.table table) (front_clean reported.reports all.reads (all.first ∷ all.later) is.legal all.few seen) ∙ sym lines_so,
+          )

@@ -9,7 +9,7 @@ use Rattle.bwe_specs.specs.Reports.{reports_of}
 use Rattle.demand_book.specs.Fit.{IsFit}
 use Rattle.limit_table.specs.Tables.{total_of as table_total}
 use Rattle.crew_log.specs.declared.log.CrewLog.{CrewLog}
-use Rattle.crew_log.specs.LegalCrewLog.{IsLegalCrewLog}
+use Rattle.crew_log.specs.LegalCrewLog.{IsClosed, IsLegalCrewLog}
 use Rattle.run_text.specs.RunText.{RunNames, run_text_of}
 use Rattle.run_audit.specs.Forms.{LineNames}
 use Rattle.run_audit.specs.History.{scripts_of, total_of}
@@ -49,8 +49,7 @@ pub record IsInterleaving (tasks links : ℕ) (scripts : List (List Report)) (hi
 abbrev pub line_names : RunNames → LineNames
 line_names names = record { tasks = names.table.tasks; links = names.table.links; reporters = names.reporters }
 
--- the text is that of a legal crew log, of 1 to 64 readers who each made the same number of reads, at most 1,000,
--- in which each reader's final log is as long as the history
+-- the text is that of a closed legal crew log, of 1 to 64 readers who each made the same number of reads, at most 1,000
 pub record IsClosedRun (names : RunNames) (table_of : List Report → Table) (tasks links : ℕ) (scripts : List (Vec Report Global)) (text : List ℕ) : Type 0 where
   pub log : CrewLog Table
   pub readers : ℕ
@@ -59,7 +58,7 @@ pub record IsClosedRun (names : RunNames) (table_of : List Report → Table) (ta
   pub few_readers : readers ≤ MAX_READERS
   pub few_reads : reads ≤ MAX_READS
   pub legal : IsLegalCrewLog (λ reports table. table ≡ table_of reports) table_total tasks links scripts readers reads log
-  pub closed : All (λ reader. reader.length ≡ length log.history.items) log.readers.items
+  pub closed : IsClosed log
   pub text_so : text ≡ run_text_of names log
 
 -- names and scripts are as asked above, totals have 64 bits, and each history of the scripts has this table

@@ -1,2 +1,3 @@
 pub mod ClosedRun
 pub mod Laws
+pub mod FirstFault

@@ -4,8 +4,8 @@
 //! only where they differ is each link tested. So its cost goes by the list and not by the top share, and a closing moves
 //! only the groups of its link. The top call's `check` line prints its verdict. The closings that a table or a document
 //! names are a certificate of the whole allocation: where the verdict is `Right`, nothing but the filling has them
-//! ("Certificate law", docs/DEFINITIONS.md). Looks at links are counted as the solver's are, and a check takes hardly more
-//! of them: that is the clause of `check_by_looks`. Nothing is promised of time.
+//! ("Certificate law", docs/DEFINITIONS.md). Looks at links are counted as the solver's are, and their bound is hardly
+//! more than that of a filling: that is the clause of `check_by_looks`. Nothing is promised of time.
 #![tactic(auto)]
 
 ghost use Rattle.std.specs.Prelude.{◌≡◌, ◌↔◌, ◌==◌, ℕ, ◌+◌, ◌*◌, ◌<◌, ◌≤◌, [], length, reverse, IfOk, OnOk, Some, None, true, false};
@@ -79,7 +79,7 @@ fn counted_check<V: GroupValues, L: Ledger>(
 
 /// The same verdict, with each look at a link counted: a look asks for the load of one link at one share.
 ///
-/// Beside the looks of a filling it takes two at each link and one more, for what is at fault or for what is over at the
+/// To the bound of a filling it adds two looks at each link and one more, for what is at fault or for what is over at the
 /// top. How long the list is does not matter.
 pub fn check_by_looks<V: GroupValues, L: Ledger>(
     alloc: Global,

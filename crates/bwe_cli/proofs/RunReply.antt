@@ -1,8 +1,6 @@
 -- The reply of a run is that of the definition.
-use Rattle.std.proofs.Common.{◌≡◌, ℕ, ◌<◌, ◌≤◌, ◌∙◌, List, length, Ok, ap, ap₂, subst, arith}
+use Rattle.std.proofs.Common.{◌≡◌, ℕ, ◌<◌, ◌≤◌, ◌∙◌, List, length, Ok, ap, subst, arith}
 use Rattle.std.proofs.lemmas.List.{length-map}
-use Rattle.bwe_specs.specs.Tree.{Cluster}
-use Rattle.bwe_specs.specs.Paths.{PathGroups}
 use Rattle.bwe_specs.specs.Allocation.{Plan, Table}
 use Rattle.crew_log.specs.declared.log.CrewLog.{CrewLog}
 use Rattle.one_run.specs.Endings.{Reply}
@@ -11,13 +9,13 @@ use Rattle.plan_doc.specs.Accepted.{IsDocumentOf}
 use Rattle.plan_doc.specs.Conditions.{reporter_count}
 use Rattle.plan_doc.specs.Document.{Accepted}
 use Rattle.run_text.specs.RunText.{run_names_of, run_text_of}
+use Rattle.crew_log.specs.LegalCrewLog.{IsClosed}
+use Rattle.document_audit.specs.DocumentRun.{run_names}
+use Rattle.document_audit.proofs.Verdicts as verdicts
 use Rattle.document_run.specs.Runs.{IsRunOf}
 use Rattle.document_run.proofs.Split.{split-count}
 use Rattle.plan_doc.specs.Plans.{plan_in, plan_of}
-use Rattle.bwe_cli.specs.RunLine.{IsRunReply, run_printed}
-
-abbrev plan_parts : ℕ → List Cluster → List PathGroups → List ℕ → Plan
-plan_parts top clusters groups capacities = record { top = top; clusters = clusters; groups = groups; capacities = capacities }
+use Rattle.bwe_cli.specs.RunLine.{IsRunReply}
 
 abbrev reply_of : ℕ → List ℕ → Reply
 reply_of status text = record { status = status; text = text }
@@ -30,17 +28,15 @@ sent-few plan document readers reads log run few =
 
 module _ (accepted : Accepted) (document : Document) (is : IsDocumentOf accepted document) where
   pub plan-is : plan_in document ≡ plan_of accepted
-  plan-is =
-      ap (λ tree. plan_parts tree.top tree.clusters document.plan document.topology.capacities) is.tree
-      ∙ ap₂ (λ plan topology. plan_parts accepted.top accepted.clusters plan topology.capacities) is.plan is.topology
+  plan-is = verdicts.plan-is accepted document is
 
   pub run-reply : (readers reads : ℕ) (log : CrewLog Table) → IsRunOf (plan_in document) document.script.items (reporter_count document) readers reads log
-      → (text : List ℕ) → text ≡ run_text_of (run_names_of document.names) log → IsRunReply readers reads (Ok accepted) (reply_of 0 text)
-  run-reply readers reads log run text printed =
+      → IsClosed log → (text : List ℕ) → text ≡ run_text_of (run_names_of document.names) log → IsRunReply readers reads (Ok accepted) (reply_of 0 text)
+  run-reply readers reads log run closed text printed =
       let planned : IsRunOf (plan_of accepted) document.script.items (reporter_count document) readers reads log =
       subst (λ plan. IsRunOf plan document.script.items (reporter_count document) readers reads log) plan-is run in
       let scripted : IsRunOf (plan_of accepted) accepted.script (reporter_count document) readers reads log =
       subst (λ script. IsRunOf (plan_of accepted) script (reporter_count document) readers reads log) is.script planned in
       let counted : IsRunOf (plan_of accepted) accepted.script (length accepted.names.reporters) readers reads log =
       subst (λ names. IsRunOf (plan_of accepted) accepted.script (length names.reporters) readers reads log) is.names scripted in
-      (log, counted, ap (reply_of 0) (printed ∙ ap (λ names. run_text_of (run_printed names) log) is.names))
+      (log, counted, closed, ap (reply_of 0) (printed ∙ ap (λ names. run_text_of (run_names names) log) is.names))

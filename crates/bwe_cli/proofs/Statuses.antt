@@ -1,5 +1,5 @@
 -- Which statuses a call may end with.
-use Rattle.std.proofs.Common.{◌≡◌, ◌≢◌, ◌⊎◌, inl, inr, ℕ, ◌≤◌, List, Option, Some, None, Result, Ok, Err, refl, sym, subst, arith}
+use Rattle.std.proofs.Common.{◌≡◌, ◌≢◌, ◌⊎◌, inl, inr, ℕ, ◌≤◌, List, drop, Option, Some, None, Result, Ok, Err, refl, sym, subst, arith}
 use Rattle.std.specs.Io.KnownBytes.{Appends}
 use Rattle.bwe_specs.specs.declared.network.Verdict.{Verdict}
 use Rattle.bwe_specs.specs.declared.network.Verdict.TheVariants as judged
@@ -18,11 +18,12 @@ use Rattle.run_audit.specs.declared.verdict.AuditVerdict.TheVariants as audited
 use Rattle.table_text.specs.TableText.{NameTexts}
 use Rattle.two_part.specs.declared.Parts.{Parts}
 use Rattle.two_part.specs.TwoPart.{parts_of}
-use Rattle.bwe_cli.specs.AuditReply.{audit_accepted, audit_status}
+use Rattle.document_audit.specs.DocumentRun.{script_verdict}
+use Rattle.bwe_cli.specs.AuditReply.{IsAuditReply, audit_reply, audit_status}
 use Rattle.bwe_cli.specs.EnforceReply.{enforce_accepted, enforced_by}
 use Rattle.bwe_cli.specs.EstimateReply.{estimate_accepted, table_behind}
-use Rattle.bwe_cli.specs.Parted.{behind_reply, parts_at, with_part}
-use Rattle.bwe_cli.specs.Replies.{check_accepted, levels_accepted, read_reply, solve_accepted, verdict_status}
+use Rattle.bwe_cli.specs.Parted.{IsReplyBehind, behind_reply, document_bytes, no_parts_reply, parts_at, with_part}
+use Rattle.bwe_cli.specs.Replies.{check_accepted, levels_accepted, read_reply, refused_reply, solve_accepted, verdict_status}
 use Rattle.bwe_cli.specs.RunLine.{IsRunReply}
 use Rattle.bwe_cli.specs.Statuses.{AcceptedIsAnswered, AnAnswerIsWhole, IsAnswered, IsOfAnswer, IsSilent, IsTakenIn, IsWithoutFault, NothingIsWritten}
 use Rattle.bwe_cli.specs.TiersReply.{tiers_accepted, unless_refused}
@@ -70,11 +71,20 @@ enforced-of names plan script owners (Ok events) = is-done
 enforced-of names plan script owners (Err line) = is-refused
 
 run-of : (readers reads : ℕ) (read : Result Accepted Refusal) (given : Reply) → IsRunReply readers reads read given → IsOfAnswer given.status
-run-of readers reads (Ok accepted) given is = subst (λ (given : Reply). IsOfAnswer given.status) (sym is.2) is-done
+run-of readers reads (Ok accepted) given is = subst (λ (given : Reply). IsOfAnswer given.status) (sym is.3) is-done
 run-of readers reads (Err refusal) given is = subst (λ (given : Reply). IsOfAnswer given.status) (sym is) is-refused
 
 is-same : (given reply : Reply) → given ≡ reply → IsOfAnswer reply.status → IsOfAnswer given.status
 is-same given reply is of = subst (λ (given : Reply). IsOfAnswer given.status) (sym is) of
+
+audited-with : (part : List ℕ) (read : Result Accepted Refusal) (given : Reply) → IsReplyBehind IsAuditReply (with_part part read) given → IsOfAnswer given.status
+audited-with part (Ok accepted) given is =
+    is-same given (audit_reply accepted.names (plan_of accepted) accepted.script part) is.first_fault (audit-of (script_verdict accepted.names (plan_of accepted) accepted.script part))
+audited-with part (Err refusal) given is = is-same given (refused_reply refusal) is is-refused
+
+audited-parts : (input : List ℕ) (parts : Option Parts) (given : Reply) → IsReplyBehind IsAuditReply (parts_at input parts) given → IsOfAnswer given.status
+audited-parts input None given is = is-same given no_parts_reply is is-refused
+audited-parts input (Some parts) given is = audited-with (drop parts.end input) (document (document_bytes input parts)) given is
 
 pub replied : (line : CommandLine) (input : List ℕ) (given : Reply) → replies line input given → IsOfAnswer given.status
 replied Solve input given is = is-same given _ is (read-of solve_accepted (λ accepted. is-done) (document input))
@@ -84,7 +94,7 @@ replied (Run readers reads) input given is = run-of readers reads (document inpu
 replied (Make seed groups tasks) input given is = is-same given _ is is-done
 replied (Bulk seed groups tasks) input given is = is-same given _ is is-done
 replied (Estimate window headroom) input given is = is-same given _ is (parts-of (estimate_accepted window headroom) (λ accepted part. behind-of _ _ _ _) input (parts_of input))
-replied Audit input given is = is-same given _ is (parts-of audit_accepted (λ accepted part. audit-of _) input (parts_of input))
+replied Audit input given is = audited-parts input (parts_of input) given is
 replied Tiers input given is = is-same given _ is (parts-of tiers_accepted (λ accepted part. tiers-of _ _ is-done) input (parts_of input))
 replied Enforce input given is = is-same given _ is (parts-of enforce_accepted (λ accepted part. enforced-of accepted.names (plan_of accepted) accepted.script accepted.task_owners _) input (parts_of input))
 

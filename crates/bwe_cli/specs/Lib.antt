@@ -7,4 +7,5 @@ pub mod EstimateReply
 pub mod TiersReply
 pub mod EnforceReply
 pub mod TopCall
+pub mod Laws
 pub mod Statuses

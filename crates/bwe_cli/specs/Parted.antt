@@ -44,9 +44,14 @@ behind_reply accepted_reply (Err refused) = refused
 abbrev pub parts_reply : (Accepted → List ℕ → Reply) → List ℕ → Reply
 parts_reply accepted_reply input = behind_reply accepted_reply (accepted_parts input)
 
+-- the same, where an accepted document and the part behind it may get this
+abbrev pub IsReplyBehind : (Accepted → List ℕ → Reply → Type 0) → Result AcceptedParts Reply → Reply → Type 0
+IsReplyBehind IsReply (Ok parts) given = IsReply parts.accepted parts.part given
+IsReplyBehind IsReply (Err refused) given = given ≡ refused
+
 -- the code has the same parts, or what is written for a refused input
 abbrev pub AreRead : Result AcceptedParts Reply → read.Parted → Type 0
-AreRead parts (Read held bytes part) =
-    (accepted : Accepted) × (parts ≡ Ok (record { accepted = accepted; part = part.now })) × (document bytes.now ≡ Ok accepted)
-    × IsDocumentOf accepted held × IsUsable held
+AreRead parts (Read held part) =
+    (accepted : Accepted) × (parts ≡ Ok (record { accepted = accepted; part = part.now }))
+    × ((bytes : List ℕ) × (document bytes ≡ Ok accepted)) × IsDocumentOf accepted held × IsUsable held
 AreRead parts (Refused answer) = parts ≡ Err answer

@@ -2,22 +2,20 @@
 use Rattle.std.specs.Prelude.{◌≡◌, ℕ, length, Result, Ok, Err}
 use Rattle.bwe_specs.specs.Allocation.{Table}
 use Rattle.crew_log.specs.declared.log.CrewLog.{CrewLog}
+use Rattle.crew_log.specs.LegalCrewLog.{IsClosed}
+use Rattle.document_audit.specs.DocumentRun.{run_names}
 use Rattle.one_run.specs.Endings.{Reply}
 use Rattle.plan_doc.specs.Document.{Accepted}
-use Rattle.plan_doc.specs.Names.{NameLists}
 use Rattle.plan_doc.specs.Refusals.{Refusal}
-use Rattle.run_text.specs.RunText.{RunNames, run_text_of}
+use Rattle.run_text.specs.RunText.{run_text_of}
 use Rattle.document_run.specs.Runs.{IsRunOf}
 use Rattle.plan_doc.specs.Plans.{plan_of}
-use Rattle.bwe_cli.specs.Replies.{printed, refused_reply}
+use Rattle.bwe_cli.specs.Replies.{refused_reply}
 
--- the names that the text of a run prints
-abbrev pub run_printed : NameLists → RunNames
-run_printed names = record { table = printed names; reporters = names.reporters }
-
--- `run`: the text of a run of the script, whose table is that of `solve`; or the line of the refusal
+-- `run`: the text of a closed run of the script, whose table is that of `solve`; or the line of the refusal
 abbrev pub IsRunReply : ℕ → ℕ → Result Accepted Refusal → Reply → Type 0
 IsRunReply readers reads (Ok accepted) given =
     (log : CrewLog Table) × IsRunOf (plan_of accepted) accepted.script (length accepted.names.reporters) readers reads log
-    × (given ≡ record { status = 0; text = run_text_of (run_printed accepted.names) log })
+    × IsClosed log
+    × (given ≡ record { status = 0; text = run_text_of (run_names accepted.names) log })
 IsRunReply readers reads (Err refusal) given = given ≡ refused_reply refusal

@@ -7,13 +7,14 @@ use Rattle.plan_doc.specs.Document.{document}
 use Rattle.bwe_cli.specs.Replies.{check_accepted, document_reply, levels_accepted, solve_accepted}
 use Rattle.bwe_cli.specs.RunLine.{IsRunReply}
 use Rattle.bwe_cli.specs.MadeLines.{bulk_reply, make_reply}
-use Rattle.bwe_cli.specs.Parted.{parts_reply}
-use Rattle.bwe_cli.specs.AuditReply.{audit_accepted}
+use Rattle.bwe_cli.specs.Parted.{IsReplyBehind, accepted_parts, parts_reply}
+use Rattle.bwe_cli.specs.AuditReply.{IsAuditReply}
 use Rattle.bwe_cli.specs.EnforceReply.{enforce_accepted}
 use Rattle.bwe_cli.specs.EstimateReply.{estimate_accepted}
 use Rattle.bwe_cli.specs.TiersReply.{tiers_accepted}
 
--- what a line may get for its input: of all lines but `run` it is determined
+-- what a line may get for its input: of all lines but `run` it is determined. Of `audit` it is said besides that status 0
+-- comes exactly where the text is that of a closed legal run of the document.
 abbrev pub replies : CommandLine → List ℕ → Reply → Type 0
 replies Solve input given = given ≡ document_reply solve_accepted input
 replies Check input given = given ≡ document_reply check_accepted input
@@ -22,7 +23,7 @@ replies (Run readers reads) input given = IsRunReply readers reads (document inp
 replies (Make seed groups tasks) input given = given ≡ make_reply (record { seed = seed; groups = groups; tasks = tasks })
 replies (Bulk seed groups tasks) input given = given ≡ bulk_reply (record { seed = seed; groups = groups; tasks = tasks })
 replies (Estimate window headroom) input given = given ≡ parts_reply (estimate_accepted window headroom) input
-replies Audit input given = given ≡ parts_reply audit_accepted input
+replies Audit input given = IsReplyBehind IsAuditReply (accepted_parts input) given
 replies Tiers input given = given ≡ parts_reply tiers_accepted input
 replies Enforce input given = given ≡ parts_reply enforce_accepted input
 

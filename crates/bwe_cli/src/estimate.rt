@@ -36,7 +36,7 @@ pub(crate) fn estimate(
         ≡ parts_reply (estimate_accepted window headroom) input.now) }
 {
     match read_parts(alloc, input)? {
-        Parted::Read { document, part, .. } => {
+        Parted::Read { document, part } => {
             estimate_document(alloc, document, part, window, headroom)
         }
         Parted::Refused { answer } => Ok(answer),

@@ -1,5 +1,6 @@
-//! What a status tells of a call, each law the contract of a function that does nothing.
+//! What a status tells of a call, and what joins two lines, each law the contract of a function that does nothing.
 
+ghost use Rattle.bwe_cli.specs.Laws.{RunsAreLegal};
 ghost use Rattle.bwe_cli.specs.Statuses.{AcceptedIsAnswered, AnAnswerIsWhole, NothingIsWritten};
 
 use bwe_io::{Sink, Source};
@@ -19,4 +20,9 @@ pub fn nothing_is_written<S: Source, K: Sink>()
 /// may get for it is a refusal, the status is 0 or 1, or 6 where memory is wanting.
 pub fn accepted_is_answered<S: Source, K: Sink>()
     ensures { AcceptedIsAnswered S K }
+{}
+
+/// What `run` wrote with status 0, behind its document, gets `legal` and status 0 from `audit`.
+pub fn runs_are_legal()
+    ensures { RunsAreLegal }
 {}

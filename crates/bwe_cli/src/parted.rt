@@ -14,15 +14,8 @@ use two_part::find_parts;
 /// The parts of an input, or what is written for a refused one.
 #[derive(Drop)]
 pub(crate) enum Parted<'a> {
-    Read {
-        document: Document,
-        /// The bytes that the document was read from.
-        bytes: &'a [u8],
-        part: &'a [u8],
-    },
-    Refused {
-        answer: Answer,
-    },
+    Read { document: Document, part: &'a [u8] },
+    Refused { answer: Answer },
 }
 
 /// The document of the input and the bytes behind it. An input without parts is refused before a document is read.
@@ -34,13 +27,8 @@ pub(crate) fn read_parts(alloc: Global, input: &[u8]) -> Result<Parted<'_>, OutO
         return Ok(Parted::Refused { answer });
     };
     let (front, part) = (&input[..parts.end as usize], &input[parts.end as usize..]);
-    let bytes = &front[parts.start as usize..];
-    match read_document(alloc, bytes) {
-        Ok(document) => Ok(Parted::Read {
-            document,
-            bytes,
-            part,
-        }),
+    match read_document(alloc, &front[parts.start as usize..]) {
+        Ok(document) => Ok(Parted::Read { document, part }),
         Err(error) => {
             let answer = refused(alloc, &error)?;
             Ok(Parted::Refused { answer })

@@ -22,7 +22,7 @@ pub(crate) fn tiers(alloc: Global, input: &[u8]) -> Result<Answer, OutOfMemory>
     ensures { IfOk result (λ answer. answer ≡ parts_reply tiers_accepted input.now) }
 {
     match read_parts(alloc, input)? {
-        Parted::Read { document, part, .. } => tiers_of_document(alloc, document, part),
+        Parted::Read { document, part } => tiers_of_document(alloc, document, part),
         Parted::Refused { answer } => Ok(answer),
     }
 }

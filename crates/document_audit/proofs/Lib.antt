@@ -3,3 +3,4 @@ pub mod DocumentTree
 pub mod DocumentTotals
 pub mod Audited
 pub mod Verdicts
+pub mod DocumentLaw

@@ -1,19 +1,62 @@
 -- The verdict on a text for a document, by scripts that are its script split by reporter.
-use Rattle.std.proofs.Common.{◌≡◌, ℕ, List, Vec, Global, ap}
+use Rattle.std.proofs.Common.{◌≡◌, ◌∙◌, ℕ, List, Vec, Global, length, ap, ap₂, sym, subst}
+use Rattle.std.proofs.lemmas.List.{length-replicate}
 use Rattle.bwe_specs.specs.declared.report.Report.{Report}
-use Rattle.bwe_specs.specs.Allocation.{allocation}
+use Rattle.bwe_specs.specs.Allocation.{Plan, allocation}
+use Rattle.bwe_specs.specs.Paths.{PathGroups}
+use Rattle.bwe_specs.specs.Tree.{Cluster}
+use Rattle.allocator.specs.Frames.{task_count}
+use Rattle.document_run.specs.Runs.{items_of, scripts_of}
 use Rattle.limit_table.specs.Tables.{total_of}
-use Rattle.plan_doc.specs.declared.document.Document.{Document}
+use Rattle.plan_doc.specs.declared.document.Document as read
+use Rattle.plan_doc.specs.Accepted.{IsDocumentOf}
+use Rattle.plan_doc.specs.Conditions.{link_count, tasks_in}
+use Rattle.plan_doc.specs.Document.{Accepted}
+use Rattle.plan_doc.specs.Plans.{plan_in, plan_of}
+use Rattle.policy_tree.specs.Trees.{task_numbers}
 use Rattle.run_audit.specs.Verdict.{verdict_of}
-use Rattle.run_text.specs.RunText.{run_names_of}
-use Rattle.table_text.specs.TableText.{text_of, texts_of}
-use Rattle.audit_law.specs.ClosedRun.{line_names}
+use Rattle.run_text.specs.RunText.{RunNames, run_names_of}
+use Rattle.table_text.specs.TableText.{text_of}
+use Rattle.audit_law.specs.ClosedRun.{IsClosedRun, line_names}
 use Rattle.audit_law.specs.Laws.{verdict_on}
-use Rattle.document_audit.specs.Laws.{AreScriptsOf, document_verdict}
-use Rattle.plan_doc.specs.Plans.{plan_in}
+use Rattle.document_audit.specs.DocumentRun.{document_verdict, run_names}
+use Rattle.document_audit.specs.Laws.{AreScriptsOf}
 
-pub verdict_is : (document : Document) (scripts : List (Vec Report Global)) (text : List ℕ) → AreScriptsOf document scripts
-    → verdict_on (run_names_of document.names) (allocation (plan_in document)) (allocation (plan_in document) document.script.items) scripts text ≡ document_verdict document text
-verdict_is document scripts text split =
-    ap (λ (lists : List (List Report)). verdict_of (line_names (run_names_of document.names)) lists (λ reports. total_of (allocation (plan_in document) reports))
-    (text_of (texts_of document.names) (allocation (plan_in document) document.script.items)) text) split
+abbrev plan_parts : ℕ → List Cluster → List PathGroups → List ℕ → Plan
+plan_parts top clusters groups capacities = record { top = top; clusters = clusters; groups = groups; capacities = capacities }
+
+module _ (accepted : Accepted) (document : read.Document) (is : IsDocumentOf accepted document) where
+  pub plan-is : plan_in document ≡ plan_of accepted
+  plan-is =
+      ap (λ tree. plan_parts tree.top tree.clusters document.plan document.topology.capacities) is.tree
+      ∙ ap₂ (λ plan topology. plan_parts accepted.top accepted.clusters plan topology.capacities) is.plan is.topology
+
+  pub names-are : run_names_of document.names ≡ run_names accepted.names
+  names-are = ap run_names is.names
+
+  pub tasks-are : tasks_in document ≡ task_count (plan_of accepted)
+  tasks-are = ap (λ tree. length tree.demands) is.tree ∙ length-replicate (length (task_numbers accepted.clusters)) 0
+
+  pub links-are : link_count document ≡ length (plan_of accepted).capacities
+  links-are = ap (λ topology. length topology.capacities) is.topology
+
+  module _ (scripts : List (Vec Report Global)) where
+    -- the scripts of the parts of the code are those of the definition
+    pub split-is : AreScriptsOf document scripts ≡ (items_of scripts ≡ scripts_of (length accepted.names.reporters) accepted.script)
+    split-is = ap₂ (λ names script. items_of scripts ≡ scripts_of (length names.reporters) script) is.names is.script
+
+    -- a closed run of the parts of the code is one of the definition
+    pub run-is : (text : List ℕ) → IsClosedRun (run_names_of document.names) (allocation (plan_in document)) (tasks_in document) (link_count document) scripts text
+        ≡ IsClosedRun (run_names accepted.names) (allocation (plan_of accepted)) (task_count (plan_of accepted)) (length (plan_of accepted).capacities) scripts text
+    run-is text =
+        ap₂ (λ names plan. IsClosedRun names (allocation plan) (tasks_in document) (link_count document) scripts text) names-are plan-is
+        ∙ ap₂ (λ tasks links. IsClosedRun (run_names accepted.names) (allocation (plan_of accepted)) tasks links scripts text) tasks-are links-are
+
+    -- and so is the verdict
+    pub verdict-is : (text : List ℕ) → AreScriptsOf document scripts
+        → verdict_on (run_names_of document.names) (allocation (plan_in document)) (allocation (plan_in document) document.script.items) scripts text ≡ document_verdict accepted text
+    verdict-is text split =
+        ap₂ (λ names plan. verdict_on names (allocation plan) (allocation plan document.script.items) scripts text) names-are plan-is
+        ∙ ap (λ script. verdict_on (run_names accepted.names) (allocation (plan_of accepted)) (allocation (plan_of accepted) script) scripts text) is.script
+        ∙ ap (λ lists. verdict_of (line_names (run_names accepted.names)) lists (λ reports. total_of (allocation (plan_of accepted) reports))
+        (text_of (run_names accepted.names).table (allocation (plan_of accepted) accepted.script)) text) (subst (λ (T : Type 0). T) split-is split)

@@ -1,1 +1,2 @@
+pub mod DocumentRun
 pub mod Laws

@@ -7,12 +7,12 @@ pub fn accepted_document_is_audited()
     ensures { AcceptedDocumentIsAudited }
 {}
 
-/// The text of each closed legal run of an accepted document is legal.
+/// The text of each closed legal run of a document that was read is legal.
 pub fn document_run_is_legal()
     ensures { DocumentRunIsLegal }
 {}
 
-/// Each text that is legal for an accepted document is that of a closed legal run of it.
+/// Each text that is legal for a document that was read is that of a closed legal run of it.
 pub fn legal_text_is_a_document_run()
     ensures { LegalTextIsADocumentRun }
 {}

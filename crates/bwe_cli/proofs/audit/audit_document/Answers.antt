@@ -1,11 +1,36 @@
-use Rattle.std.proofs.Common.{◌∙◌}
-use Rattle.plan_doc.specs.Document.{document}
-use Rattle.bwe_cli.proofs.Audits.{same-plan, tasks-are}
+use Rattle.std.proofs.Common.{◌≡◌, ℕ, List, ap, ap₂, ◌∙◌}
+use Rattle.bwe_specs.specs.declared.report.Report.{Report}
+use Rattle.bwe_specs.specs.Allocation.{Plan, allocation}
+use Rattle.one_run.specs.Endings.{Reply}
+use Rattle.plan_doc.specs.Links.{names_view}
+use Rattle.run_audit.specs.AuditText.{verdict_line}
+use Rattle.bwe_cli.specs.AuditReply.{audit_status}
+use Rattle.document_audit.specs.DocumentRun.{script_verdict}
+use Rattle.plan_doc.specs.Plans.{plan_in}
+use Rattle.bwe_cli.proofs.Audits.{are-few, are-fit, verdict-is}
 use Rattle.bwe_cli.proofs.audit.audit_document.Goals as goal
 
-pub audit_by-requires-clause-tasks : goal.audit_by-requires-clause-tasks
-audit_by-requires-clause-tasks c = tasks-are (document c.args.input.now) c.args.document c.requires.accepted
+abbrev reply_parts : ℕ → List ℕ → Reply
+reply_parts status text = record { status = status; text = text }
 
-pub audit_by-requires-clause-plan : goal.audit_by-requires-clause-plan
-audit_by-requires-clause-plan c =
-    c.open.ensures.plan ∙ same-plan (document c.args.input.now) c.args.document c.in-Ok.again c.requires.accepted c.in-Ok.ensures.exact
+pub audit-requires-clause-fit : goal.audit-requires-clause-fit
+audit-requires-clause-fit c =
+    rw (c.deref-3.ensures.value) (are-fit c.args.document _ (c.in_ok-solved.ensures.plan ∙ c.open-allocator.ensures.plan) c.in_ok-scripts.scripts.items c.requires.tasks c.in_ok-scripts.ensures.scripts)
+
+pub audit-requires-clause-few : goal.audit-requires-clause-few
+audit-requires-clause-few c =
+    rw (c.deref-3.ensures.value) (are-few c.args.document _ (c.in_ok-solved.ensures.plan ∙ c.open-allocator.ensures.plan) c.in_ok-scripts.scripts.items c.in_ok-scripts.ensures.room)
+
+pub returns : goal.returns
+returns c =
+    let document = c.args.document in
+    let text = c.args.text.now in
+    let same = c.in_ok-solved.ensures.plan ∙ c.open-allocator.ensures.plan in
+    let solved : c.in_ok-solved.solved ≡ allocation (plan_in document) document.script.items =
+    c.in_ok-solved.ensures.table
+    ∙ ap₂ (λ (plan : Plan) (script : List Report). allocation plan script) c.open-allocator.ensures.plan (c.deref.ensures.value ∙ ap (λ script. script.items) c.open-allocator.ensures.script) in
+    let found = rw (c.deref-3.ensures.value, c.deref-4.ensures.value) at c.in_ok-verdict.ensures in
+    let judged : c.in_ok-verdict.verdict ≡ script_verdict (names_view document.names) (plan_in document) document.script.items text =
+    found ∙ verdict-is document _ same c.in_ok-scripts.scripts.items c.open-allocator.result.names c.open-allocator.ensures.names c.in_ok-scripts.ensures.split
+    c.in_ok-solved.solved solved c.in_ok-table.table.items c.in_ok-table.ensures text in
+    ap₂ reply_parts (c.status_of.ensures ∙ ap audit_status judged) (c.in_ok-audit_text.ensures ∙ ap verdict_line judged)

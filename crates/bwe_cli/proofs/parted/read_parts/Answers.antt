@@ -9,4 +9,4 @@ returns-in-Ok c =
     let parts = c.in-Some.parts in
     let front = take_rest (take parts.end c.args.input.now) parts.start in
     let behind = take_rest c.args.input.now parts.end in
-    (read.0, accepted_behind c.args.input.now parts _ _ read.0 c.in-Some.ensures.exact read.1 front behind, read.1, read.2, c.in-Ok.ensures.usable)
+    (read.0, accepted_behind c.args.input.now parts _ _ read.0 c.in-Some.ensures.exact read.1 front behind, (_, read.1), read.2, c.in-Ok.ensures.usable)

@@ -15,4 +15,4 @@ returns g c =
     let run = rw (c.from.ensures) at c.in_ok-log.ensures.log in
     let printed = c.in_ok-run_text.ensures ∙ ap (λ names. run_text_of (run_names_of names) c.in_ok-log.log) c.in_ok-log.ensures.names in
     subst (λ answer. IsRunReply c.args.readers c.args.reads answer (record { status = 0; text = c.in_ok-run_text.field-0.items })) (sym read.1)
-    (run-reply read.0 c.in-Ok.document read.2 c.args.readers c.args.reads c.in_ok-log.log run c.in_ok-run_text.field-0.items printed)
+    (run-reply read.0 c.in-Ok.document read.2 c.args.readers c.args.reads c.in_ok-log.log run c.in_ok-log.ensures.closed c.in_ok-run_text.field-0.items printed)
