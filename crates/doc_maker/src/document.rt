@@ -17,6 +17,7 @@ use std::alloc::{AllocError, Global};
 
 // Bytes of a group with its link, and of a task with its report: somewhat more than there are.
 const GROUP_ROOM: usize = 512;
+
 const TASK_ROOM: usize = 96;
 
 /// The made document of a seed, a number of groups and a number of tasks.
@@ -40,11 +41,7 @@ pub fn make_document(
     Ok(out.into_inner())
 }
 
-fn write_document(
-    alloc: Global,
-    out: &mut Writer,
-    size: &DocumentSize,
-) -> Result<(), AllocError>
+fn write_document(alloc: Global, out: &mut Writer, size: &DocumentSize) -> Result<(), AllocError>
     ensures { Adds result out.old out.new (tokens_of (document_value (made size.now))) }
 {
     out.begin_object()?;

@@ -69,12 +69,7 @@ pub(crate) fn write_path_groups(
 }
 
 // A path over one link.
-fn write_path(
-    alloc: Global,
-    out: &mut Writer,
-    weight: u64,
-    link: u32,
-) -> Result<(), AllocError>
+fn write_path(alloc: Global, out: &mut Writer, weight: u64, link: u32) -> Result<(), AllocError>
     ensures { Adds result out.old out.new (tokens_of (path_value (made_path weight link))) }
 {
     out.begin_object()?;

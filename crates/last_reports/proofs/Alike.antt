@@ -2,7 +2,6 @@
 use Rattle.std.proofs.Common.{◌≡◌, ℕ, Bool, true, false, List, [], ◌∷◌, Option, Some, None, map, length, slice_index, is_some, if◌then◌else◌, refl, sym, ◌∙◌, ap, ap₂, eqb-true}
 use Rattle.std.specs.Option.{option_map, option_or, unwrap_or}
 use mathlib.Core.Path.{fun_ext}
-
 use Rattle.bwe_specs.specs.declared.report.Report.{Report}
 use Rattle.bwe_specs.specs.declared.report.Target.{Target}
 use Rattle.bwe_specs.specs.declared.report.Target.TheVariants.{Task, Link}

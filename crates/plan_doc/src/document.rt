@@ -35,9 +35,9 @@ use doc_names::Names;
 use doc_passes::{
     DocumentNumbers, NameTable, check_ranges, document_numbers, fill_tables, find_overrun,
 };
+use json::Scratch;
 use path_groups::{GroupSpec, PathError, PathPlan};
 use policy_tree::{ClusterSpec, PolicyTree, TreeError, TreeSpec};
-use json::Scratch;
 use raw_document::{JsonError, RawDocument, RawGroup, RawLink, read_json, read_shape};
 use raw_reader::read_straight;
 use serde_json::Value;

@@ -42,4 +42,3 @@ returns c =
     (wrote c.args.out.now c.begin_array.new.self begin_array c.in_ok-begin_array.ensures)
     (all, c.loop-task.invariant.before)
     c.end_array.ensures
-
