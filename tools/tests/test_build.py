@@ -264,8 +264,6 @@ def made_two_programs(project):
     source = project / "crates/bwe_live/src/main.rt"
     source.parent.mkdir(parents=True)
     source.write_text("right\n")
-    (project / "crates/bwe_live/args").write_text("")
-    (project / "crates/bwe_live/stdin").write_text("")
     with (project / "crates.txt").open("a") as lines:
         lines.write("# top\nbwe_live: words\n")
     old_files(project)
