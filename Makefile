@@ -1,6 +1,7 @@
-# Proves and builds the programs, and checks them.
+# Proves and builds the programs bwe and bwe-live, and checks them.
 #
-## make          proves and builds bwe, on all processors; what has not changed is left as it is
+## make          proves and builds both, on all processors; what has not changed is left as it is
+## make bwe      proves and builds bwe alone
 ## make check    every proof, every edit that has to be refused, every test, then the whole cases
 ## make cases    the whole cases alone, on the built program
 ## make tools    the tests of tools/
@@ -48,7 +49,7 @@ check:
 	@tools/packages && $(MAKE) tools || [ $$? = 3 ]
 	@tools/cases.py
 
-cases: bwe
+cases: $(programs)
 	@tools/cases.py
 
 tools:

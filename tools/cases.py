@@ -1,21 +1,31 @@
 #!/usr/bin/python3
-"""tools/cases.py [PROGRAM [CASE..]]: runs whole cases on a built program, side by side on all
+"""tools/cases.py [PROGRAM [CASE..]]: runs whole cases on the built programs, side by side on all
 processors.
 
-PROGRAM is crates/bwe/out/bwe where it is left out. A CASE is a folder of cases/, as solve/drain
-(cases/README.md). Every byte of standard output and the status have to be those of the case, and
-nothing may come on standard error. Where no case is named, these follow:
+Where PROGRAM is left out these are crates/bwe/out/bwe and, where crates.txt has it,
+crates/bwe_live/out/bwe_live. A program with `live` in its name runs the cases of cases/live, any
+other one all others. A CASE is a folder of cases/, as solve/drain (cases/README.md). Every byte of
+standard output and the status have to be those of the case, and nothing may come on standard error;
+a conversation is held over two pipes (tools/conversations.py). Where no case is named, these
+follow, for `bwe`:
 
 - examples: each text of examples/ is what the program writes;
 - documents: made documents get the answers of a second implementation (tools/compare.py);
 - runs: made documents are run on threads, and each printed run is checked (tools/runs.py);
-- summaries: `bulk` ends with the total of the table that `solve` writes of the made document.
+- summaries: `bulk` ends with the total of the table that `solve` writes of the made document;
+
+and for `bwe-live`:
+
+- examples: the conversations of examples/live/ are held;
+- followed: made conversations, in which each table that is kept by changes has to be the one that
+  `bwe solve` writes (tools/follow.py).
 
 A line for each kind says how many passed, and the last line how many in all; the status is 0
 where all did.
 """
 
 import os
+import re
 import shutil
 import subprocess
 import sys
@@ -24,11 +34,14 @@ from concurrent.futures import ThreadPoolExecutor
 from pathlib import Path
 
 import compare
+import conversations
+import follow
 import runs
 
 TOP = Path(__file__).resolve().parent.parent
 CASES, EXAMPLES = TOP / "cases", TOP / "examples"
-DOCUMENTS, RUNS = 200, 3
+BWE, LIVE = TOP / "crates/bwe/out/bwe", TOP / "crates/bwe_live/out/bwe_live"
+DOCUMENTS, RUNS, FOLLOWED = 200, 3, 40
 SUMMED = ["1", "200", "4000"]
 SECONDS = 120
 
@@ -44,6 +57,15 @@ def stream(folder, name):
             ["/usr/bin/python3", script], stdout=subprocess.PIPE, check=True
         ).stdout
     return (folder / name).read_bytes()
+
+
+def fault_of_folder(program, folder):
+    """What is wrong with the case and the conversation of a folder, or None."""
+    faults = [fault_of_case(program, folder)] if (folder / "args").exists() else []
+    for name in ("conversation", "conversation.py"):
+        if (folder / name).exists():
+            faults.append(conversations.fault_of(program, folder / name))
+    return next((fault for fault in faults if fault is not None), None)
 
 
 def fault_of_case(program, folder):
@@ -123,40 +145,68 @@ def side_by_side(fault_of, program, items, name_of):
         return [(name_of(item), fault) for item, fault in zip(items, faults)]
 
 
+def copied(built, room):
+    """A copy, which no later build changes, and which runs where the program has lost its mode."""
+    if built.suffix:
+        return built
+    program = shutil.copyfile(built, f"{room}/{built.name}")
+    os.chmod(program, 0o755)
+    return program
+
+
+def folders_for(built):
+    """The folders of cases that are for this program."""
+    files = [*CASES.glob("*/*/args"), *CASES.glob("*/*/conversation*")]
+    is_live = "live" in built.name
+    return sorted({file.parent for file in files if (file.parent.parent.name == "live") == is_live})
+
+
+def counts_of(built, named, room):
+    """How many passed and failed of each kind, for a program."""
+    program = copied(built, room)
+    folders = named or folders_for(built)
+    found = side_by_side(fault_of_folder, program, folders, lambda it: str(it.relative_to(CASES)))
+    yield told("live" if "live" in built.name else "cases", found)
+    if named:
+        return
+    if "live" in built.name:
+        talks = sorted(EXAMPLES.glob("live/*.conversation"))
+        found = side_by_side(conversations.fault_of, program, talks, lambda it: it.name)
+        yield told("examples", found)
+        yield told("followed", follow.results(program, solver(room), FOLLOWED))
+        return
+    texts = list(examples())
+    yield told("examples", side_by_side(fault_of_example, program, texts, lambda it: it[0].name))
+    yield told("documents", compare.results(program, DOCUMENTS))
+    yield told("runs", runs.results(program, RUNS))
+    yield told("summaries", [(" ".join(SUMMED), fault_of_summary(program, SUMMED))])
+
+
+def solver(room):
+    """The program whose `solve` says what a table has to be."""
+    return copied(BWE, room)
+
+
+def built_programs():
+    """The programs of crates.txt that are to be run, and a line for the one that it has not."""
+    if re.search("^bwe_live[ :]", (TOP / "crates.txt").read_text(), re.MULTILINE):
+        return [BWE, LIVE]
+    print("live: skipped, since crates.txt has no bwe_live", flush=True)
+    return [BWE]
+
+
 def main(words):
     if words[:1] == ["--help"]:
         print(__doc__)
         return 0
-    built = Path(words[0]) if words else TOP / "crates/bwe/out/bwe"
-    if not built.is_file():
-        sys.exit(f"cases: no program at {built}")
+    programs = [Path(words[0])] if words else built_programs()
     named = [CASES / name for name in words[1:]]
-    folders = named or sorted(args.parent for args in CASES.glob("*/*/args"))
+    counts = []
     with tempfile.TemporaryDirectory() as room:
-        # A copy, which no later build changes, and which runs where the program has lost its mode.
-        program = shutil.copyfile(built, f"{room}/bwe")
-        os.chmod(program, 0o755)
-        counts = [
-            told(
-                "cases",
-                side_by_side(
-                    fault_of_case, program, folders, lambda it: str(it.relative_to(CASES))
-                ),
-            )
-        ]
-        if not named:
-            texts = list(examples())
-            counts.append(
-                told(
-                    "examples",
-                    side_by_side(fault_of_example, program, texts, lambda it: it[0].name),
-                )
-            )
-            counts.append(told("documents", compare.results(program, DOCUMENTS)))
-            counts.append(told("runs", runs.results(program, RUNS)))
-            counts.append(
-                told("summaries", [(" ".join(SUMMED), fault_of_summary(program, SUMMED))])
-            )
+        for built in programs:
+            if not built.is_file():
+                sys.exit(f"cases: no program at {built}")
+            counts += counts_of(built, named, room)
     passed, failed = map(sum, zip(*counts))
     print(f"{passed} passed, {failed} failed")
     return 1 if failed else 0

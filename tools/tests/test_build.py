@@ -19,6 +19,17 @@ CRATES = {
     "bwe": ["tables"],
 }
 
+COPIED = [
+    "Makefile",
+    "bwe",
+    "bwe-live",
+    "tools/prove",
+    "tools/launcher.bash",
+    "HANDLES",
+    "README.md",
+    "CHANGELOG.md",
+]
+
 # Builds a library where those below are built, and refuses a crate whose source says `wrong`.
 RT = r"""#!/bin/bash
 echo "$1 ${PWD##*/}" >>"$CALLS"
@@ -39,8 +50,8 @@ if grep -q wrong src/*; then
 fi
 case $1 in
 lib) mkdir -p out/rlib && cat src/* >out/rlib/stamp ;;
-run) printf '#!/bin/bash\necho "words: $*"\n[ "$1" = make ] || cat\nexit 3\n' >out/bwe
-     chmod +x out/bwe; touch out/bwe.stamp ;;
+run) printf '#!/bin/bash\necho "words: $*"\n[ "$1" = make ] || cat\nexit 3\n' >out/$name
+     chmod +x out/$name; touch out/$name.stamp ;;
 esac
 """
 
@@ -49,7 +60,7 @@ esac
 def made_project(tmp_path, monkeypatch):
     """A repository of four libraries, of which the program `bwe` needs three."""
     top = tmp_path / "project"
-    for name in ("Makefile", "bwe", "tools/prove", "HANDLES", "README.md", "CHANGELOG.md"):
+    for name in COPIED:
         (top / name).parent.mkdir(parents=True, exist_ok=True)
         shutil.copy(TOP / name, top / name)
     lines = [f"{name}: {' '.join([*below, 'itertools'])}\n" for name, below in CRATES.items()]
@@ -245,6 +256,52 @@ def test_words_without_a_file_reach_the_program(project, words):
     told = run(project, "./bwe", *words)
     assert told.stdout == f"words: {' '.join(words)}\n"
     assert ("no file" in told.stderr) == (words == ["solve", "absent"])
+
+
+@pytest.fixture(name="two_programs")
+def made_two_programs(project):
+    """The project with a second program, which echoes what it reads."""
+    source = project / "crates/bwe_live/src/main.rt"
+    source.parent.mkdir(parents=True)
+    source.write_text("right\n")
+    with (project / "crates.txt").open("a") as lines:
+        lines.write("# top\nbwe_live: words\n")
+    old_files(project)
+    return project
+
+
+def test_make_builds_both_programs_and_bwe_alone(two_programs):
+    assert run(two_programs, "make", "bwe").returncode == 0
+    assert proved(two_programs) == ["words", "numbers", "tables", "bwe"]
+    assert run(two_programs, "make").returncode == 0
+    assert proved(two_programs) == ["bwe_live"]
+    assert run(two_programs, "make").returncode == 0
+    assert proved(two_programs) == []
+
+
+def test_the_launcher_of_bwe_live_builds_what_it_needs(two_programs):
+    told = run(two_programs, "./bwe-live", given="a document")
+    assert (told.returncode, told.stdout) == (3, "words: \na document")
+    assert told.stderr.startswith("bwe-live: not built yet")
+    assert proved(two_programs) == ["words", "bwe_live"]
+    version = run(two_programs, "./bwe-live", "--version").stdout.splitlines()
+    assert version[0].startswith("bwe-live ") and version[2].endswith("of these very sources")
+    assert "\n  post " in run(two_programs, "./bwe-live", "--help").stdout
+
+
+def test_a_document_goes_before_the_lines_of_bwe_live(two_programs, tmp_path):
+    run(two_programs, "make")
+    (tmp_path / "a document").write_text("{}\n")
+    told = run(two_programs, "./bwe-live", str(tmp_path / "a document"), given="post\n")
+    assert (told.returncode, told.stdout, told.stderr) == (3, "words: \n3\n{}\npost\n", "")
+
+
+@pytest.mark.parametrize("words", [["absent"], ["crates.txt", "x"], ["crates"]])
+def test_words_without_a_file_reach_bwe_live(two_programs, words):
+    run(two_programs, "make")
+    told = run(two_programs, "./bwe-live", *words)
+    assert told.stdout == f"words: {' '.join(words)}\n"
+    assert ("no file" in told.stderr) == (len(words) == 1)
 
 
 def test_links_are_followed(project, tmp_path):

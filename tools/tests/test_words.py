@@ -41,6 +41,13 @@ def test_bash_completes_the_lines_of_bwe():
     assert completed("bwe.bash", "_bwe", "bwe", "make", "") == []
 
 
+def test_bash_completes_the_words_of_bwe_live():
+    assert completed("bwe-live.bash", "_bwe_live", "bwe-live", "--") == ["--help", "--version"]
+    assert completed("bwe-live.bash", "_bwe_live", "bwe-live", "examples/shared-link.js") == [
+        "examples/shared-link.json"
+    ]
+
+
 def test_bash_completes_the_commands_of_bwe_tools():
     tool = "tools/bwe-tools"
     assert completed("bwe-tools.bash", "_bwe_tools", tool, "what") == ["whatif"]
@@ -48,7 +55,7 @@ def test_bash_completes_the_commands_of_bwe_tools():
 
 
 @pytest.mark.skipif(shutil.which("zsh") is None, reason="there is no zsh")
-@pytest.mark.parametrize("name", ["_bwe", "_bwe-tools"])
+@pytest.mark.parametrize("name", ["_bwe", "_bwe-live", "_bwe-tools"])
 def test_zsh_reads_its_completions(name):
     subprocess.run(["zsh", "-n", ROOT / "completions" / name], check=True)
 
@@ -124,3 +131,13 @@ def test_the_plot_says_what_is_no_program(tmp_path):
     child = subprocess.run([script, *words], capture_output=True, text=True)
     assert child.returncode == 2 and child.stderr.count("\n") == 1
     assert child.stderr.startswith("bwe-tools: ")
+
+
+def test_the_manual_has_each_line_and_status_of_bwe_live():
+    manual = (ROOT / "man" / "bwe-live.1").read_text()
+    for line in ("demand", "capacity", "post", "state"):
+        assert re.search(rf"^\.It Cm {line}\b", manual, re.MULTILINE), line
+    assert re.findall(r"^\.It ([0-9]+)$", manual, re.MULTILINE) == [
+        *(str(status) for status in range(9) if status != 1),
+        "70",
+    ]
