@@ -1,2 +1,3 @@
 pub mod ChangeFacts
 pub mod LawFacts
+pub mod StateFacts

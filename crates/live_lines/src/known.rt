@@ -71,8 +71,8 @@ impl Known {
         &self.names
     }
 
-    /// What a line means that stands before its line feed, or the first cause for which it is refused ("The lines",
-    /// docs/FORMAT.md). `None` is a line that is none, whatever it says: a line that is too long, or ends with the input.
+    /// What a line means that stands before its line feed, or the first cause for which it is refused ("What it
+    /// reads", docs/FORMAT.md). `None` is a line that is none, whatever it says: a line that is too long, or ends with the input.
     #[tactic(auto, unfolding(crate::specs::Meaning::meaning_of))]
     pub fn meaning(&self, line: Option<&[u8]>) -> LineMeaning
         ensures exact { result ≡ spec.meaning_of self.now (option_map (λ text. text.now) line.entry) }
