@@ -11,8 +11,6 @@ mod change;
 mod laws;
 mod refused;
 mod state;
-#[cfg(test)]
-mod tests;
 
 pub use change::change_text;
 pub use laws::{
