@@ -1,7 +1,8 @@
-//! A group's amount, handed down to its tasks.
+//! Groups' amounts, handed down to their tasks.
 //!
-//! The allocator and `tiers` call `distribute` for each group. It goes down the tree level by level: a node's amount is
-//! given to its children by the Distribution rule, and what is left over goes to them in their order.
+//! The allocator calls `all_limits` once for a table, also for one of tiers: each group's amount is handed down by
+//! `distribute`, and the limits stand in the order of the tasks' numbers. `distribute` goes down the tree level by level:
+//! a node's amount is given to its children by the Distribution rule, and what is left over goes to them in their order.
 //! The limits add up to the amount (the Conservation law). Of a job the common share of its tasks is told by the index of
 //! their demands, without a search; of another node it is looked for along the outline of its children, with at most 62
 //! looks at them. Then each child is asked for its value there, and at the next share while something is left.
@@ -18,12 +19,14 @@ ghost use Rattle.policy_tree.specs.Trees.{demand_in, value_in, cluster_numbers};
 ghost use Rattle.push_down.specs.Limits.{limits_of_job, limits_of_user, limits_of_cluster, tasks_in, limits_in};
 
 mod children;
+mod groups;
 mod share;
 #[cfg(test)]
 mod tests;
 
 use bwe_specs::{MAX_SHARE, MAX_TASKS, MAX_TOTAL, OutOfMemory};
 use children::Tasks;
+pub use groups::all_limits;
 use policy_tree::{ClusterNode, JobNode, PolicyTree, UserNode};
 use share::shared_out;
 use std::alloc::Global;

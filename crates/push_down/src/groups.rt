@@ -4,9 +4,9 @@ ghost use Rattle.std.specs.Prelude.{◌≡◌, ◌++◌, ◌<◌, ◌≤◌, ℕ
 ghost use Rattle.bwe_specs.specs.Tree.{cluster_limits};
 ghost use Rattle.policy_tree.specs.Trees.{demand_in, value_in};
 
+use crate::{TaskLimit, distribute};
 use bwe_specs::OutOfMemory;
 use policy_tree::PolicyTree;
-use push_down::{TaskLimit, distribute};
 use std::alloc::{AllocError, Global};
 
 /// Each task's limit, in the order of their numbers, where the groups have these amounts. All are kilobits per second.
@@ -21,7 +21,8 @@ pub fn all_limits(
     requires within { (group : ℕ) → group < length tree.now.clusters
         → slice_index amounts.now group ≤ value_in tree.now group tree.now.top }
     ensures { IfOk result (λ limits. limits.items
-        ≡ flat_map (λ given. cluster_limits tree.now.top (demand_in tree.now) given.0 given.1) (zip tree.now.clusters amounts.now)) }
+        ≡ flat_map (λ given. cluster_limits tree.now.top (demand_in tree.now) given.0 given.1)
+        (zip tree.now.clusters amounts.now)) }
 {
     let mut limits = Vec::new(alloc);
     for group in 0..tree.groups() {

@@ -1,2 +1,0 @@
-mod Zipped
-mod Steps
