@@ -1,21 +1,20 @@
 -- What a filling keeps, read row by row.
-use Rattle.std.proofs.Common.{◌≡◌, ℕ, zero, suc, ◌+◌, ◌<◌, ◌≤◌, ◌^◌, List, [], ◌∷◌, length, map, reverse, sum, sum_by, get_or, slice_index, slice_index_or, Option, None, le_refl, ap₂, refl, sym, ap, ◌∙◌, subst, arith, zero-add, le_trans}
+use Rattle.std.proofs.Common.{◌≡◌, ℕ, zero, suc, ◌+◌, ◌<◌, ◌≤◌, List, [], length, map, reverse, sum, sum_by, get_or, slice_index, slice_index_or, Option, None, le_refl, ap₂, refl, sym, ap, ◌∙◌, subst, arith, zero-add, le_trans}
 use Rattle.std.proofs.lemmas.List.FromFn.{fill_by_all, length-map-range_with_len, get_or-map-range_with_len, sum_by-map-range_with_len_more}
 use Rattle.std.proofs.lemmas.List.{length-map, get_or-map, reverse-reverse}
 use Rattle.bwe_specs.specs.Bounded.{sum_below}
-use Rattle.bwe_specs.specs.Paths.{PathGroups, path_group_at, path_group_count, link_load, load_on}
-use Rattle.bwe_specs.specs.Filling.{Wan, State, filling, group_stop, group_amount, closed_by}
+use Rattle.bwe_specs.specs.Paths.{path_group_at, path_group_count, link_load, load_on}
+use Rattle.bwe_specs.specs.Filling.{Wan, filling, group_stop, group_amount, closed_by}
 use Rattle.bwe_specs.specs.Reports.{numbers}
 use Rattle.bwe_specs.specs.Values.{NeverFalls}
 use Rattle.bwe_specs.specs.Allocation.{GroupLine, PlaceLine, group_line}
-use Rattle.bwe_specs.proofs.Bounds.{sum_below-same, sum_below-term, sum_below-more}
+use Rattle.bwe_specs.proofs.Bounds.{sum_below-same, sum_below-term}
 use Rattle.bwe_specs.proofs.Certificates.{filling-right, filling-amounts, last_share-le}
-use Rattle.bwe_specs.proofs.Loads.{link_load-same}
 use Rattle.bwe_specs.proofs.Totals.{group_amount-le, total, total-le}
 use Rattle.link_sums.specs.Sums.{AreRowsOf, amount_at, rows_in, total_of}
 use Rattle.mpfa_fill.specs.declared.steps.Filling.{Filling}
 use Rattle.mpfa_fill.specs.Filling.{IsFilling}
-use Rattle.allocator.specs.Lines.{HasRows, line_in, line_of_group, line_of_place}
+use Rattle.allocator.specs.Lines.{HasRows, line_in, line_of_place}
 
 abbrev place_parts : ℕ → Option ℕ → PlaceLine
 place_parts amount closed = record { amount = amount; closed = closed }

@@ -1,20 +1,20 @@
 -- No report changes which path groups are fitted to a network and a tree, nor the plan of the tables.
-use Rattle.std.proofs.Common.{◌≡◌, ℕ, zero, suc, ◌+◌, ◌<◌, List, [], ◌∷◌, ◌++◌, length, get_or, append-nil, ap₂, append_assoc, set, replicate, take, true, ◌&&◌, refl, sym, ap, ◌∙◌, subst, arith, zero-add}
+use Rattle.std.proofs.Common.{◌≡◌, ℕ, zero, suc, ◌<◌, List, [], ◌∷◌, length, get_or, ap₂, replicate, ◌&&◌, refl, sym, ap, ◌∙◌, subst}
 use Rattle.std.specs.Str.{bytes_eq}
 use mathlib.Core.Path.{fun_ext}
-use Rattle.std.proofs.lemmas.List.{length-set, length_push, take_more}
+use Rattle.std.proofs.lemmas.List.{length-set}
 use Rattle.std.proofs.lemmas.List.FromFn.{fill_by_all, length-range_with_len}
 use Rattle.bwe_specs.specs.declared.report.Report.{Report}
 use Rattle.bwe_specs.specs.declared.report.Target.{Target}
 use Rattle.bwe_specs.specs.declared.report.Target.TheVariants.{Task, Link}
 use Rattle.bwe_specs.specs.Paths.{Path, PathGroups, path_group_at}
-use Rattle.bwe_specs.specs.Reports.{numbers, last_amount, demand_after, capacity_after, capacities_after}
+use Rattle.bwe_specs.specs.Reports.{last_amount, demand_after, capacity_after, capacities_after}
 use Rattle.bwe_specs.specs.Allocation.{allocation, table_under, wan_after, wan_under}
 use Rattle.mpfa_fill.specs.GroupValues.{wan_of}
 use Rattle.allocator.specs.Values.{values_of}
 use Rattle.wan_topology.specs.Network.{Network, sites_of}
 use Rattle.path_groups.specs.Plan.{IsBuiltOn, IsPathOf, IsPlan, is_linked}
-use Rattle.policy_tree.specs.Trees.{Tree, IsTree, demand_in, task_numbers}
+use Rattle.policy_tree.specs.Trees.{Tree, IsTree, demand_in}
 use Rattle.allocator.specs.Reported.{Reported, IsAfter, told, with_report, with_capacity}
 use Rattle.allocator.specs.Allocators.{IsFitted, plan_by, table_by}
 

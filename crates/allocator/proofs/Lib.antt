@@ -7,3 +7,4 @@ pub mod Put
 pub mod Made
 pub mod Pieces
 pub mod Lawful
+pub mod Told

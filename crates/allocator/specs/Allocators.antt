@@ -1,5 +1,5 @@
 -- An allocator, as contracts see it.
-use Rattle.std.specs.Prelude.{◌≡◌, ℕ, List, length}
+use Rattle.std.specs.Prelude.{◌≡◌, List, length}
 use Rattle.bwe_specs.specs.Paths.{PathGroups}
 use Rattle.bwe_specs.specs.Allocation.{Plan, Table, table_under}
 use Rattle.path_groups.specs.Plan.{IsBuiltOn, IsPlan}

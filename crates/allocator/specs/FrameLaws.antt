@@ -1,5 +1,5 @@
 -- All tables of a plan have one frame, cover their reports and have the tasks of the plan: the laws of a maker.
-use Rattle.std.proofs.Common.{◌≡◌, ℕ, suc, ◌+◌, ◌-◌, List, [], ◌∷◌, ◌++◌, flat_map, length, map, min, zip, sum_by, refl, sym, ◌∙◌, ap, ap₂, arith}
+use Rattle.std.proofs.Common.{◌≡◌, ℕ, suc, ◌+◌, ◌-◌, List, [], ◌∷◌, flat_map, length, map, min, zip, sum_by, refl, sym, ◌∙◌, ap, ap₂, arith}
 use Rattle.std.proofs.lemmas.List.{length-append, length-map}
 use Rattle.std.proofs.lemmas.List.Concat.{flat_map-cons, length-flat_map}
 use Rattle.std.proofs.lemmas.List.FromFn.{length-map-range_with_len}
@@ -9,11 +9,11 @@ use Rattle.bwe_specs.specs.Distribution.{children_sum, common_share, handed_out,
 use Rattle.bwe_specs.specs.Tree.{Job, User, Cluster, task_values, job_values, user_values, job_limits, user_limits, cluster_limits}
 use Rattle.bwe_specs.specs.Filling.{Wan, State, filling, group_amount}
 use Rattle.bwe_specs.specs.Paths.{path_group_count}
-use Rattle.bwe_specs.specs.Reports.{numbers, demand_after, capacities_after}
-use Rattle.bwe_specs.specs.Allocation.{Plan, Table, wan_after, group_line, limits_of, allocation}
+use Rattle.bwe_specs.specs.Reports.{numbers, demand_after}
+use Rattle.bwe_specs.specs.Allocation.{Plan, wan_after, group_line, limits_of, allocation}
 use Rattle.bwe_specs.proofs.Plans.{length-capacities_after}
 use Rattle.limit_table.specs.Tables.{Frame, frame_of}
-use Rattle.policy_tree.specs.Trees.{job_numbers, user_numbers, cluster_numbers, task_numbers}
+use Rattle.policy_tree.specs.Trees.{job_numbers, user_numbers, cluster_numbers}
 use Rattle.allocator.specs.Frames.{task_count, frame_of_plan}
 
 length-handed_out : (children : List (ℕ → ℕ)) (share rest : ℕ) → length (handed_out children share rest) ≡ length children

@@ -1,5 +1,5 @@
 -- What no report changes of the tables of a plan.
-use Rattle.std.specs.Prelude.{ℕ, List, length, map}
+use Rattle.std.specs.Prelude.{ℕ, length, map}
 use Rattle.bwe_specs.specs.Paths.{path_group_count}
 use Rattle.bwe_specs.specs.Reports.{numbers}
 use Rattle.bwe_specs.specs.Allocation.{Plan}

@@ -1,7 +1,7 @@
 -- What holds of every table.
 use Rattle.std.specs.Prelude.{◌≡◌, ℕ, ◌<◌, ◌≤◌, List, length, map, reverse, slice_index, sum}
 use Rattle.bwe_specs.specs.declared.network.Closing.{Closing}
-use Rattle.bwe_specs.specs.Paths.{path_group_count}
+use Rattle.bwe_specs.specs.Paths.{PathGroups, path_group_count}
 use Rattle.bwe_specs.specs.Filling.{Wan}
 use Rattle.bwe_specs.specs.Laws.{IsHeldBy}
 use Rattle.bwe_specs.specs.Allocation.{Table}
@@ -9,6 +9,10 @@ use Rattle.policy_tree.specs.Trees.{Tree, cluster_numbers, demand_in}
 use Rattle.policy_tree.specs.Nodes.{cluster_in}
 use Rattle.table_laws.specs.Tasks.{AreAskedFor}
 use Rattle.table_laws.specs.Tables.{IsSharedAlike, IsWithoutWaste}
+use Rattle.table_laws.specs.Order.{IsInAnyOrder}
+use Rattle.table_laws.specs.Printing.{IsToldByItsText}
+use Rattle.allocator.specs.Reported.{Reported}
+use Rattle.allocator.specs.Allocators.{plan_by}
 
 -- what a group gets
 abbrev pub amount_in : Table → ℕ → ℕ
@@ -43,3 +47,13 @@ IsShared wan table = IsSharedAlike wan table.groups (reverse table.closings)
 -- whole share
 abbrev pub IsUnwasted : Wan → Table → Type 0
 IsUnwasted wan table = IsWithoutWaste wan table.groups table.loads (reverse table.closings)
+
+-- Nobody's place matters: the table of every plan that has the groups in another order, with their tasks, is this one in
+-- that order
+abbrev pub IsTheSameInAnyOrder : Reported → List PathGroups → Table → Type 0
+IsTheSameInAnyOrder reported groups table =
+    IsInAnyOrder (plan_by reported groups) reported.prefix (demand_in reported.tree) reported.network.capacities table
+
+-- One text, one table: under names that tell the links apart each table that is written as the same text is this one
+abbrev pub IsTold : Reported → Table → Type 0
+IsTold reported table = IsToldByItsText (length reported.network.capacities) table

@@ -1,6 +1,6 @@
 -- Amounts that were put on the path groups of a plan one after the other.
 use Rattle.std.specs.Prelude.{◌≡◌, ℕ, ◌<◌, ◌≤◌, List, length}
-use Rattle.bwe_specs.specs.Paths.{PathGroups, path_group_count, link_load}
+use Rattle.bwe_specs.specs.Paths.{PathGroups, path_group_count}
 use Rattle.link_sums.specs.Sums.{Sums, IsSummedOver, amount_at}
 
 -- all amounts of the groups below one, and those of that group below a place, are there; no other is

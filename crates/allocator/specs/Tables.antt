@@ -1,8 +1,7 @@
 -- What a table of what now stands is made of.
-use Rattle.std.specs.Prelude.{List, None, []}
+use Rattle.std.specs.Prelude.{List}
 use Rattle.bwe_specs.specs.Paths.{PathGroups}
 use Rattle.bwe_specs.specs.Filling.{Wan}
-use Rattle.bwe_specs.specs.Allocation.{GroupLine}
 use Rattle.mpfa_fill.specs.GroupValues.{wan_of}
 use Rattle.allocator.specs.Reported.{Reported}
 use Rattle.allocator.specs.Values.{values_of}

@@ -7,7 +7,7 @@ ghost use Rattle.bwe_specs.specs.Values.{AreValues};
 ghost use Rattle.policy_tree.specs.Trees.{demand_in, value_in, IsTree};
 ghost use Rattle.mpfa_fill.specs.Filling.{IsFilling};
 ghost use Rattle.allocator.specs.Allocators.{IsFitted, table_by};
-ghost use Rattle.allocator.specs.Laws.{IsNoMoreThanAsked, IsConserved, IsShared, IsFeasible, IsHeldBack, IsUnwasted};
+ghost use Rattle.allocator.specs.Laws.{IsNoMoreThanAsked, IsConserved, IsShared, IsFeasible, IsHeldBack, IsTold, IsUnwasted, IsTheSameInAnyOrder};
 ghost use Rattle.allocator.specs.Tables.{wan_by};
 
 use crate::line::group_lines;
@@ -20,11 +20,11 @@ use link_solver::solve_by_links;
 use mpfa_fill::Filling;
 use path_groups::PathPlan;
 use policy_tree::PolicyTree;
+use push_down::all_limits;
 use std::alloc::Global;
-use task_limits::all_limits;
 
 /// The table under the demands and capacities that now stand: the allocation ("Allocation", docs/DEFINITIONS.md), for
-/// which six laws hold ("Laws" and "Laws of a table" there).
+/// which eight laws hold ("Laws" and "Laws of a table" there).
 pub fn make_table(
     alloc: Global,
     reported: &Reported,
@@ -51,7 +51,15 @@ pub fn make_table(
 
     // No waste: a closed link has less free than those who grew over it would have put there with one share more
     ensures unwasted { IfOk result (IsUnwasted (wan_by reported.now plan.now)) }
+
+    // Nobody's place matters: the table of the plan with its groups in another order is this one in that order
+    ensures in_any_order { IfOk result (IsTheSameInAnyOrder reported.now plan.now) }
+
+    // One text, one table: under names that tell the links apart, a table that is written as the same text is this one
+    ensures told { IfOk result (IsTold reported.now) }
 {
+    // Who asks for the network learns what is true of its capacities, and the number of reports has 64 bits.
+    let (_topology, _prefix) = (reported.topology(), reported.prefix());
     let filling = filling_of(alloc, reported, plan)?;
     table_of_filling(alloc, reported, plan, filling)
 }

@@ -1,7 +1,8 @@
 //! A table of limits.
 
-ghost use Rattle.std.specs.Prelude.{◌≡◌, ◌<◌, ◌≤◌, ◌^◌, List, length, slice_index, sum_by, IfOk};
+ghost use Rattle.std.specs.Prelude.{◌≡◌, ◌<◌, ◌≤◌, ◌^◌, List, length, slice_index, sum_by, IfOk, OnErr, OnOk};
 ghost use Rattle.bwe_specs.specs.Allocation.{Table};
+ghost use Rattle.limit_table.specs.Following.{IsKeptAlong, with_change};
 ghost use Rattle.limit_table.specs.Tables.{Frame, Change, IsTable, Leads, frame_of, total_of};
 
 use crate::change::{TableChange, change_between};
@@ -98,11 +99,26 @@ impl Posted for LimitTable {
         })
     }
 
-    fn change_to(&self, alloc: Global, later: &LimitTable) -> Result<TableChange, OutOfMemory> {
+    fn change_to(&self, alloc: Global, later: &LimitTable) -> Result<TableChange, OutOfMemory>
+        requires one_plan { frame_of self.now ≡ frame_of later.now }
+        ensures leads { IfOk result (λ change. Leads self.now change later.now) }
+
+        // Kept by changes: with this change and with those along any list of tables behind the later one, the table is
+        // the last of them
+        ensures kept { IfOk result (IsKeptAlong self.now later.now) }
+    {
         change_between(alloc, self, later)
     }
 
-    fn apply(&mut self, alloc: Global, change: &TableChange) -> Result<(), OutOfMemory> {
+    fn apply(&mut self, alloc: Global, change: &TableChange) -> Result<(), OutOfMemory>
+        requires leads { (later : Table) × Leads self.old change.now later }
+        ensures frame { frame_of self.new ≡ frame_of self.old }
+        ensures ok { OnOk result ((later : Table) → Leads self.old change.now later → self.new ≡ later) }
+
+        // The table has what the change says, and what it had else
+        ensures written { OnOk result (self.new ≡ with_change self.old change.now) }
+        ensures refused { OnErr result (self.new ≡ self.old) }
+    {
         // What takes memory comes first, so that a refusal leaves the table as it was.
         let copied = change.copy(alloc)?;
         copied.write_to(self);

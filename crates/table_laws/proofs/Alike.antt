@@ -51,7 +51,7 @@ module _ (plan : Plan) (group_at place_of renumber : ℕ → ℕ) (prefix : ℕ)
 
   -- the limits of the tasks of a cluster, by its amount
   limits-are : AreNumbered plan.clusters → (group : ℕ) → group < n
-      → limits_at plan (table_under plan prefix demand capacities) group ≡ cluster_limits plan.top demand (cluster_at plan group) (group_line wan (filling wan) group).amount
+      → limits_at plan (table_under plan prefix demand capacities).limits group ≡ cluster_limits plan.top demand (cluster_at plan group) (group_line wan (filling wan) group).amount
   limits-are numbered group lt =
       let amount : ℕ → ℕ = group_amount wan (filling wan).amounts in
       let clusters = length plan.clusters in
@@ -59,7 +59,7 @@ module _ (plan : Plan) (group_at place_of renumber : ℕ → ℕ) (prefix : ℕ)
       ∙ ap (cluster_limits plan.top demand (cluster_at plan group)) (get_or-map-range_with_len amount 0 clusters group group 0 (omega (arith, one_each, lt)) (zero-add group))
 
   moved-limits-are : AreNumbered moved_plan.clusters → (place : ℕ) → place < n
-      → limits_at moved_plan (table_under moved_plan prefix other capacities) place ≡ cluster_limits plan.top other (cluster_at moved_plan place) (group_line moved (filling moved) place).amount
+      → limits_at moved_plan (table_under moved_plan prefix other capacities).limits place ≡ cluster_limits plan.top other (cluster_at moved_plan place) (group_line moved (filling moved) place).amount
   moved-limits-are numbered place lt =
       let amount : ℕ → ℕ = group_amount moved (filling moved).amounts in
       let clusters = length moved_plan.clusters in
@@ -68,7 +68,7 @@ module _ (plan : Plan) (group_at place_of renumber : ℕ → ℕ) (prefix : ℕ)
       ∙ ap (cluster_limits plan.top other (cluster_at moved_plan place)) (get_or-map-range_with_len amount 0 clusters place place 0 (omega (arith, many, lt)) (zero-add place))
 
   limits-same : AreNumbered plan.clusters → AreNumbered moved_plan.clusters → (place : ℕ) → place < n
-      → limits_at moved_plan (table_under moved_plan prefix other capacities) place ≡ limits_at plan (table_under plan prefix demand capacities) (group_at place)
+      → limits_at moved_plan (table_under moved_plan prefix other capacities).limits place ≡ limits_at plan (table_under plan prefix demand capacities).limits (group_at place)
   limits-same numbered moved_numbered place lt =
       moved-limits-are moved_numbered place lt
       ∙ ap₂ (cluster_limits plan.top other) (same_cluster place lt) (ap (λ line. line.amount) (lines-same place lt))

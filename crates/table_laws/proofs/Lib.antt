@@ -2,7 +2,6 @@ pub mod Asked
 pub mod Closings
 pub mod Shared
 pub mod Wasted
-pub mod Followed
 pub mod Sums
 pub mod Numbers
 pub mod Pieces
@@ -11,3 +10,4 @@ pub mod Alike
 pub mod Walks
 pub mod Reading
 pub mod Printed
+pub mod Named

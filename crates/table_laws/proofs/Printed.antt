@@ -7,9 +7,10 @@ use Rattle.std.proofs.lemmas.List.Elements.{All-head, All-tail}
 use Rattle.bwe_specs.specs.declared.network.Closing.{Closing}
 use Rattle.bwe_specs.specs.Allocation.{GroupLine, PlaceLine, Table}
 use Rattle.bwe_specs.specs.Reports.{numbers}
-use Rattle.table_text.specs.TableText.{NameTexts, name_at, closing_line, link_line, closed_text, place_line, group_lines, task_line, text_of}
+use Rattle.doc_names.specs.NameTexts.{NameTexts}
+use Rattle.table_text.specs.TableText.{name_at, closing_line, link_line, closed_text, place_line, group_lines, task_line, text_of}
 use Rattle.table_laws.specs.Printing.{AreTelling, IsNamed, IsNamedClosing, IsNamedLine, IsNamedPlace}
-use Rattle.table_laws.proofs.Followed.{same-parts}
+use Rattle.limit_table.proofs.Followed.{same-parts}
 use Rattle.table_laws.proofs.Reading.{in_word, IsWord, word-read, number-read, nest5, nest8, nest10, walk, walk-is, walk-plain, walk-mark, walk-read}
 
 -- a text that begins with this byte, or has it as its second

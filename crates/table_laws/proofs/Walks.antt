@@ -37,8 +37,12 @@ user-numbers user = children-numbers tasks_of_job numbers_of_job job-numbers use
 cluster-numbers : (cluster : Cluster) → map number_of (tasks_of_cluster cluster) ≡ numbers_of_cluster cluster
 cluster-numbers cluster = children-numbers tasks_of_user numbers_of_user user-numbers cluster.users
 
+-- and of all clusters
+pub walk-numbers : (clusters : List Cluster) → map number_of (tasks_of clusters) ≡ flat_map numbers_of_cluster clusters
+walk-numbers clusters = children-numbers tasks_of_cluster numbers_of_cluster cluster-numbers clusters
+
 -- clusters whose numbers are a row from 0 are numbered
 pub numbered : (clusters : List Cluster) (count : ℕ) → flat_map numbers_of_cluster clusters ≡ range_with_len 0 count → AreNumbered clusters
 numbered clusters count are =
-    let walk : map number_of (tasks_of clusters) ≡ range_with_len 0 count = children-numbers tasks_of_cluster numbers_of_cluster cluster-numbers clusters ∙ are in
+    let walk : map number_of (tasks_of clusters) ≡ range_with_len 0 count = walk-numbers clusters ∙ are in
     walk ∙ ap numbers (sym (length-range_with_len 0 count) ∙ sym (ap length walk) ∙ length-map (tasks_of clusters) number_of)

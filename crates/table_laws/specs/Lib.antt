@@ -1,7 +1,6 @@
 pub mod Tasks
 pub mod Growing
 pub mod Tables
-pub mod Following
 pub mod Order
 pub mod Printing
 pub mod Laws

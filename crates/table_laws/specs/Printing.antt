@@ -1,8 +1,9 @@
 -- Tables whose text says what they are.
-use Rattle.std.specs.Prelude.{ℕ, ◌<◌, ◌^◌, ◌≢◌, length, All, IfSome}
+use Rattle.std.specs.Prelude.{◌≡◌, ℕ, ◌<◌, ◌≤◌, ◌^◌, ◌≢◌, ◌++◌, List, [], length, All, IfSome}
 use Rattle.bwe_specs.specs.declared.network.Closing.{Closing}
 use Rattle.bwe_specs.specs.Allocation.{GroupLine, PlaceLine, Table}
-use Rattle.table_text.specs.TableText.{NameTexts, name_at}
+use Rattle.doc_names.specs.NameTexts.{NameTexts}
+use Rattle.table_text.specs.TableText.{name_at, text_of}
 
 -- no name of a link has a line feed (10) or a space (32), and no two links have one name
 pub record AreTelling (names : NameTexts) : Type 0 where
@@ -29,3 +30,11 @@ pub record IsNamed (names : NameTexts) (table : Table) : Type 0 where
   pub loads : All (λ load. load < 2 ^ 64) table.loads
   pub groups : All (IsNamedLine names) table.groups
   pub limits : All (λ limit. limit < 2 ^ 64) table.limits
+
+-- One text, one table: under names that tell so many links apart, each table that is written as the same text is this one,
+-- and no text of a table goes on behind this one's, nor this one's behind it
+pub record IsToldByItsText (links : ℕ) (table : Table) : Type 0 where
+  pub alone : (names : NameTexts) → AreTelling names → links ≤ length names.links → (other : Table) → IsNamed names other
+      → (more : List ℕ) → text_of names table ≡ text_of names other ++ more → (table ≡ other) × (more ≡ [])
+  pub whole : (names : NameTexts) → AreTelling names → links ≤ length names.links → (other : Table) → IsNamed names other
+      → (more : List ℕ) → text_of names other ≡ text_of names table ++ more → (other ≡ table) × (more ≡ [])

@@ -13,10 +13,14 @@ use Rattle.path_groups.specs.Plan.{IsPlan}
 use Rattle.wan_topology.specs.Network.{Network, IsNetwork}
 use Rattle.allocator.specs.FrameLaws.{length-limits_of}
 use Rattle.table_laws.specs.Tasks.{AreAskedFor}
+use Rattle.table_laws.specs.Order.{reordered}
+use Rattle.table_laws.proofs.Walks.{numbered}
 use Rattle.tiers.specs.Tiered.{Tiered, tier_closings, tier_count, tiered_amounts, tiered_line, tiered_under}
 use Rattle.tiers.specs.Tables.{IsTierTable, plan_of}
+use Rattle.tiers.specs.Places.{AreAlike, IsInAnyOrder, tiers_reordered}
 use Rattle.tiers.specs.TierLaws.{IsNoMoreThanAsked, IsShared, IsUnwasted}
 use Rattle.tiers.specs.Fillings.{Fillings, AreFilled, line_in_tier, wan_by}
+use Rattle.tiers.proofs.Alike.{tiers-alike}
 use Rattle.tiers.proofs.Step.{step-never, step-bound}
 use Rattle.tiers.proofs.Lawful.{tiers-asked, tiers-shared, tiers-unwasted}
 use Rattle.tiers.proofs.Made.{made-lines, made-count, made-amounts, made-total, made-loads, made-feasible}
@@ -103,6 +107,16 @@ module _ (tree : Tree) (initial : Network) (groups : List PathGroups) (tiers : L
   whole-unwasted prefix =
       subst (λ (table : Tiered). IsUnwasted wan tiers table) (sym (whole-table prefix))
       (tiers-unwasted wan tiers (step-never tree initial groups tiers clusters values) values.starts (step-bound tree initial groups tiers clusters values) one_each tree.clusters (demand_in tree) prefix)
+
+  -- and no group's place matters
+  pub whole-in_any_order : (prefix : ℕ) → IsTree tree
+      → IsInAnyOrder (plan_of tree initial groups) prefix (demand_in tree) initial.capacities tiers (table_parts prefix closings limits lines loads)
+  whole-in_any_order prefix is_tree group_at place_of renumber other order moved same =
+      subst (λ (table : Tiered). AreAlike (plan_of tree initial groups) (reordered group_at renumber (plan_of tree initial groups)) group_at table
+      (tiered_under (reordered group_at renumber (plan_of tree initial groups)) prefix other initial.capacities (tiers_reordered group_at tiers)))
+      (sym (whole-table prefix))
+      (tiers-alike (plan_of tree initial groups) tiers group_at place_of renumber (demand_in tree) other initial.capacities clusters one_each order same prefix
+      (numbered tree.clusters (length tree.demands) is_tree.numbers) moved)
 
   -- no link's load exceeds its capacity
   pub whole-feasible : (link : ℕ) → link < length initial.capacities → slice_index loads link ≤ slice_index initial.capacities link

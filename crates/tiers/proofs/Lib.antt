@@ -8,3 +8,4 @@ pub mod Agreeing
 pub mod Lower
 pub mod Lawful
 pub mod Complete
+pub mod Alike

@@ -3,3 +3,4 @@ pub mod Tables
 pub mod Fillings
 pub mod Laws
 pub mod TierLaws
+pub mod Places

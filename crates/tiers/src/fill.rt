@@ -6,6 +6,7 @@ ghost use Rattle.path_groups.specs.Plan.{IsBuiltOn};
 ghost use Rattle.policy_tree.specs.Trees.{demand_in};
 ghost use Rattle.tiers.specs.Tiered.{tiered_under};
 ghost use Rattle.tiers.specs.Tables.{IsFeasible, plan_of};
+ghost use Rattle.tiers.specs.Places.{IsInAnyOrder};
 ghost use Rattle.tiers.specs.TierLaws.{IsNoMoreThanAsked, IsShared, IsUnwasted};
 ghost use Rattle.tiers.specs.Fillings.{HasLine, line_in_tier, wan_by};
 
@@ -50,6 +51,10 @@ pub fn fill_tiers(
     // No waste: a closed link has less free than those of the tier who grew over it would have put there with one
     // share more
     ensures unwasted { IfOk result (IsUnwasted (wan_by tree.now topology plan.now) tiers.now) }
+
+    // Nobody's place matters: the table of tiers of the plan with its groups in another order is this one in that order
+    ensures in_any_order { IfOk result (IsInAnyOrder (plan_of tree.now topology plan.now) prefix
+        (demand_in tree.now) topology.capacities tiers.now) }
 {
     // Who asks a tree, a plan and a network for these learns what is true of each.
     let (_top, _groups, _links) = (tree.top(), plan.groups(), topology.links());

@@ -1,6 +1,5 @@
-use Rattle.std.proofs.Common.{◌≡◌, ◌<◌, ◌∙◌, length, get_or, slice_index, slice_index_or, subst, sym, ap, arith}
-use Rattle.std.proofs.lemmas.List.{get_or_default}
-use Rattle.link_sums.specs.Sums.{amount_at, rows_in}
+use Rattle.std.proofs.Common.{◌∙◌, length, arith}
+use Rattle.link_sums.specs.Sums.{rows_in}
 use Rattle.allocator.proofs.Rows.{amount-read}
 use Rattle.allocator.proofs.Put.{put-room, put-more}
 use Rattle.allocator.proofs.loads.put_group.Goals as goal

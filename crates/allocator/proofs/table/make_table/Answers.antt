@@ -1,7 +1,9 @@
+use Rattle.std.proofs.Common.{arith}
 use Rattle.allocator.specs.Allocators.{table_by}
-use Rattle.allocator.specs.Laws.{IsNoMoreThanAsked, IsConserved, IsShared, IsFeasible, IsHeldBack, IsUnwasted}
+use Rattle.allocator.specs.Laws.{IsNoMoreThanAsked, IsConserved, IsShared, IsFeasible, IsHeldBack, IsTold, IsUnwasted, IsTheSameInAnyOrder}
 use Rattle.allocator.specs.Tables.{wan_by}
 use Rattle.allocator.proofs.Lawful.{table-asked, table-conserved, table-feasible, table-held_back, table-shared, table-unwasted, ok-where}
+use Rattle.allocator.proofs.Told.{table-told, table-in_any_order}
 use Rattle.allocator.proofs.table.make_table.Goals as goal
 
 pub returns-clause-feasible : goal.returns-clause-feasible
@@ -33,3 +35,14 @@ pub returns-clause-unwasted : goal.returns-clause-unwasted
 returns-clause-unwasted c =
     ok-where c.table_of_filling.result (IsUnwasted (wan_by c.args.reported.now c.args.plan.now)) (table_by c.args.reported.now c.args.plan.now)
     (table-unwasted c.args.reported.now c.args.plan.now c.requires c.filling_of.ensures.values) c.table_of_filling.ensures
+
+pub returns-clause-in_any_order : goal.returns-clause-in_any_order
+returns-clause-in_any_order c =
+    ok-where c.table_of_filling.result (IsTheSameInAnyOrder c.args.reported.now c.args.plan.now) (table_by c.args.reported.now c.args.plan.now)
+    (table-in_any_order c.args.reported.now c.args.plan.now c.requires c.filling_of.ensures.values c.filling_of.ensures.tree) c.table_of_filling.ensures
+
+pub returns-clause-told : goal.returns-clause-told
+returns-clause-told c =
+    ok-where c.table_of_filling.result (IsTold c.args.reported.now) (table_by c.args.reported.now c.args.plan.now)
+    (table-told c.args.reported.now c.args.plan.now c.requires c.filling_of.ensures.values c.filling_of.ensures.tree
+    (rw (c.topology-topology.ensures.same) at c.topology-topology.ensures.network) (omega (arith, c.prefix-prefix.ensures))) c.table_of_filling.ensures

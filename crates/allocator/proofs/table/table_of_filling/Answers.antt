@@ -1,4 +1,4 @@
-use Rattle.std.proofs.Common.{◌≡◌, length, refl, sym, ap, arith, subst}
+use Rattle.std.proofs.Common.{refl}
 use Rattle.allocator.proofs.Made.{made-rows, made-shaped, made-total, made-count, made-within, made-table, made-is_table}
 use Rattle.allocator.proofs.table.table_of_filling.Goals as goal
 

@@ -2,7 +2,7 @@ use Rattle.std.proofs.Common.{◌∙◌, ap, sym, arith}
 use Rattle.tiers.specs.Fillings.{Fillings, lists_in, wan_by}
 use Rattle.tiers.proofs.Step.{step-never, step-bound}
 use Rattle.tiers.proofs.Made.{own-has_line, made-count, made-within}
-use Rattle.tiers.proofs.Complete.{whole-is_table, whole-table, whole-feasible, whole-asked, whole-shared, whole-unwasted}
+use Rattle.tiers.proofs.Complete.{whole-is_table, whole-table, whole-feasible, whole-asked, whole-shared, whole-unwasted, whole-in_any_order}
 use Rattle.tiers.proofs.fill.fill_tiers.Goals as goal
 
 pub tiered_lines-requires-clause-has : goal.tiered_lines-requires-clause-has
@@ -78,6 +78,15 @@ returns-clause-unwasted c =
 pub returns-clause-asked : goal.returns-clause-asked
 returns-clause-asked c =
     whole-asked c.args.tree.now c.args.topology c.args.plan.now c.args.tiers.now c.requires.groups c.top-top.ensures.values
+    c.in_ok-fillings.fillings c.in_ok-fillings.ensures c.requires.one_each
+    (lists_in c.fillings.inside.closings.items) (ap (λ (fillings : Fillings). fillings.closings) c.fillings.view_is)
+    c.fillings.inside.loads.items (ap (λ (fillings : Fillings). fillings.loads) c.fillings.view_is)
+    c.in_ok-groups.groups.items c.in_ok-groups.ensures c.in_ok-limits.limits.items (rw (c.deref.ensures.value) at c.in_ok-limits.ensures)
+    c.args.prefix c.top-top.ensures.tree
+
+pub returns-clause-in_any_order : goal.returns-clause-in_any_order
+returns-clause-in_any_order c =
+    whole-in_any_order c.args.tree.now c.args.topology c.args.plan.now c.args.tiers.now c.requires.groups c.top-top.ensures.values
     c.in_ok-fillings.fillings c.in_ok-fillings.ensures c.requires.one_each
     (lists_in c.fillings.inside.closings.items) (ap (λ (fillings : Fillings). fillings.closings) c.fillings.view_is)
     c.fillings.inside.loads.items (ap (λ (fillings : Fillings). fillings.loads) c.fillings.view_is)

@@ -1,5 +1,5 @@
 -- A table that is kept up to date by changes.
-use Rattle.std.specs.Prelude.{ℕ, List, [], ◌∷◌, fold, slice_set, unwrap_or}
+use Rattle.std.specs.Prelude.{◌≡◌, ℕ, List, [], ◌∷◌, fold, slice_set, unwrap_or}
 use Rattle.bwe_specs.specs.Allocation.{Table}
 use Rattle.limit_table.specs.Tables.{Change, Leads}
 
@@ -32,3 +32,9 @@ LeadAlong table (change ∷ changes) (later ∷ tables) = Leads table change lat
 abbrev pub last_of : Table → List Table → Table
 last_of table [] = table
 last_of table (later ∷ tables) = last_of later tables
+
+-- Kept by changes: along any list of later tables, the table with the change to the first of them and with all changes
+-- that follow is the last of them
+abbrev pub IsKeptAlong : Table → Table → Change → Type 0
+IsKeptAlong table later change = (changes : List Change) (tables : List Table) → LeadAlong later changes tables
+    → with_changes table (change ∷ changes) ≡ last_of later tables

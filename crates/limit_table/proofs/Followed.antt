@@ -1,11 +1,11 @@
 -- A table with the changes of later tables is the last of them.
-use Rattle.std.proofs.Common.{◌≡◌, ℕ, List, [], ◌∷◌, ◌++◌, length, Option, Some, None, unwrap_or, refl, ◌∙◌, ap, arith, append_assoc}
+use Rattle.std.proofs.Common.{◌≡◌, ℕ, List, [], ◌∷◌, ◌++◌, length, Option, Some, None, unwrap_or, Result, Ok, Err, IfOk, refl, ◌∙◌, ap, arith, append_assoc}
 use Rattle.std.proofs.lemmas.List.{set_at, length-append}
 use Rattle.bwe_specs.specs.declared.network.Closing.{Closing}
 use Rattle.bwe_specs.specs.Allocation.{GroupLine, Table}
 use Rattle.limit_table.specs.Changes.{Changes, IsChanged, none, same, differs}
 use Rattle.limit_table.specs.Tables.{Change, Leads}
-use Rattle.table_laws.specs.Following.{with_entries, with_change, with_changes, LeadAlong, last_of}
+use Rattle.limit_table.specs.Following.{IsKeptAlong, with_entries, with_change, with_changes, LeadAlong, last_of}
 
 module _ {X : Type 0} where
   entries-lead : {at : ℕ} {old new : List X} {entries : List (ℕ × X)} → Changes at old new entries
@@ -30,7 +30,7 @@ pub same-parts : (prefix prefix' : ℕ) (limits limits' : List ℕ) (groups grou
     → parts prefix limits groups loads closings ≡ parts prefix' limits' groups' loads' closings'
 same-parts prefix prefix' limits limits' groups groups' loads loads' closings closings' a b c d e = rw (a, b, c, d, e) refl
 
-change-leads : (table : Table) (change : Change) (later : Table) → Leads table change later → with_change table change ≡ later
+pub change-leads : (table : Table) (change : Change) (later : Table) → Leads table change later → with_change table change ≡ later
 change-leads table change later leads =
     same-parts _ _ _ _ _ _ _ _ _ _ leads.prefix (entries-lead leads.limits [] refl) (entries-lead leads.groups [] refl) (entries-lead leads.loads [] refl)
     (closings-lead table.closings later.closings change.closings leads.closings)
@@ -41,3 +41,8 @@ kept-by-changes table [] (later ∷ tables) lead = absurd lead
 kept-by-changes table (change ∷ changes) [] lead = absurd lead
 kept-by-changes table (change ∷ changes) (later ∷ tables) lead =
     ap (λ table. with_changes table changes) (change-leads table change later lead.0) ∙ kept-by-changes later changes tables lead.1
+
+-- so a change that leads to a later table keeps the table along every list of tables behind that one
+pub kept-along : {E : Type 0} (table later : Table) (answer : Result Change E) → IfOk answer (λ change. Leads table change later) → IfOk answer (IsKeptAlong table later)
+kept-along table later (Ok change) leads = λ changes tables lead. kept-by-changes table (change ∷ changes) (later ∷ tables) (leads, lead)
+kept-along table later (Err error) leads = tt
