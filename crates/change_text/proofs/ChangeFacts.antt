@@ -1,14 +1,13 @@
 -- A number that is the same is printed the same, and one that differs is not.
-use Rattle.std.proofs.Common.{◌≡◌, ◌≢◌, ℕ, ◌+◌, ◌<◌, ◌^◌, Bool, true, false, cond, List, [], ◌∷◌, ◌++◌, length, get_or, refl, sym, ap, ◌∙◌, arith, flat_map}
+use Rattle.std.proofs.Common.{◌≡◌, ◌≢◌, ℕ, ◌<◌, ◌^◌, Bool, true, false, cond, List, [], ◌++◌, length, get_or, refl, sym, ap, ◌∙◌}
 use Rattle.std.specs.Prelude.{codes, decimal, slice_index, Result, Ok, Err, OnOk, is_ok, if◌then◌else◌}
 use Rattle.std.specs.Str.{bytes_eq}
 use Rattle.std.proofs.lemmas.Fmt.{decimal_injective}
-use Rattle.std.proofs.lemmas.List.{append-nil, append_cancel_left, append_cancel_right, flat_map_more, get_or_default, map-id}
-use Rattle.std.proofs.lemmas.List.FromFn.{map-range_with_len_more}
+use Rattle.std.proofs.lemmas.List.{append-nil, append_cancel_left, append_cancel_right, get_or_default}
 use Rattle.std.proofs.lemmas.Slice.Eq.{bytes_eq-Decides}
 use Rattle.bwe_specs.specs.Allocation.{GroupLine}
-use Rattle.bwe_specs.specs.Reports.{numbers}
-use Rattle.table_text.specs.TableText.{NameTexts, name_at, group_lines, link_line, task_line}
+use Rattle.doc_names.specs.NameTexts.{NameTexts}
+use Rattle.table_text.specs.TableText.{name_at, group_lines, value_line}
 use Rattle.change_text.specs.ChangeText.{changed}
 
 -- ---- what is printed the same, and what is not
@@ -61,35 +60,14 @@ apart : (before after : List ℕ) (m n : ℕ) → m < 2 ^ 64 → n < 2 ^ 64 → 
 apart before after m n small few e =
     decimal_injective m n small few (append_cancel_left before (decimal m) (decimal n) (append_cancel_right (before ++ decimal m) (before ++ decimal n) after e))
 
-pub same_load : (names : NameTexts) (earlier later : List ℕ) (link : ℕ) → slice_index earlier link ≡ slice_index later link
-    → changed (link_line names earlier) (link_line names later) link ≡ []
-same_load names earlier later link e =
-    same_lines (link_line names earlier) (link_line names later) link (ap (λ (n : ℕ). codes "link " ++ name_at names.links link ++ codes " load " ++ decimal n ++ codes "\n") e)
+pub same_value : (word between : List ℕ) (names : List (List ℕ)) (earlier later : List ℕ) (number : ℕ) → slice_index earlier number ≡ slice_index later number
+    → changed (value_line word between names earlier) (value_line word between names later) number ≡ []
+same_value word between names earlier later number e =
+    same_lines (value_line word between names earlier) (value_line word between names later) number (ap (λ (n : ℕ). word ++ name_at names number ++ between ++ decimal n ++ codes "\n") e)
 
-pub other_load : (names : NameTexts) (earlier later : List ℕ) (link : ℕ) → slice_index earlier link < 2 ^ 64 → slice_index later link < 2 ^ 64
-    → slice_index earlier link ≢ slice_index later link → changed (link_line names earlier) (link_line names later) link ≡ link_line names later link
-other_load names earlier later link small few differ =
-    other_lines (link_line names earlier) (link_line names later) link
-    (λ e. differ (apart (codes "link " ++ name_at names.links link ++ codes " load ") (codes "\n") (slice_index earlier link) (slice_index later link) small few e))
-
-pub same_limit : (names : NameTexts) (earlier later : List ℕ) (task : ℕ) → slice_index earlier task ≡ slice_index later task
-    → changed (task_line names earlier) (task_line names later) task ≡ []
-same_limit names earlier later task e =
-    same_lines (task_line names earlier) (task_line names later) task (ap (λ (n : ℕ). codes "task " ++ name_at names.tasks task ++ codes " limit " ++ decimal n ++ codes "\n") e)
-
-pub other_limit : (names : NameTexts) (earlier later : List ℕ) (task : ℕ) → slice_index earlier task < 2 ^ 64 → slice_index later task < 2 ^ 64
-    → slice_index earlier task ≢ slice_index later task → changed (task_line names earlier) (task_line names later) task ≡ task_line names later task
-other_limit names earlier later task small few differ =
-    other_lines (task_line names earlier) (task_line names later) task
-    (λ e. differ (apart (codes "task " ++ name_at names.tasks task ++ codes " limit ") (codes "\n") (slice_index earlier task) (slice_index later task) small few e))
-
--- ---- one number more
-
-numbers-more : (n : ℕ) → numbers n ++ n ∷ [] ≡ numbers (n + 1)
-numbers-more n =
-    ap (λ list. list ++ n ∷ []) (sym (map-id (numbers n))) ∙ sym (map-range_with_len_more (λ x. x) 0 n n (omega arith)) ∙ map-id (numbers (n + 1))
-
--- with the piece of one number more, the text has the pieces of all numbers up to it
-pub one_more : (piece : ℕ → List ℕ) (before old text : List ℕ) (n : ℕ) → old ≡ before ++ flat_map piece (numbers n) → text ≡ old ++ piece n → text ≡ before ++ flat_map piece (numbers (n + 1))
-one_more piece before old text n e f =
-    f ∙ ap (λ list. list ++ piece n) e ∙ flat_map_more piece before (numbers n) n ∙ ap (λ list. before ++ flat_map piece list) (numbers-more n)
+pub other_value : (word between : List ℕ) (names : List (List ℕ)) (earlier later : List ℕ) (number : ℕ) → slice_index earlier number < 2 ^ 64 → slice_index later number < 2 ^ 64
+    → slice_index earlier number ≢ slice_index later number
+    → changed (value_line word between names earlier) (value_line word between names later) number ≡ value_line word between names later number
+other_value word between names earlier later number small few differ =
+    other_lines (value_line word between names earlier) (value_line word between names later) number
+    (λ e. differ (apart (word ++ name_at names number ++ between) (codes "\n") (slice_index earlier number) (slice_index later number) small few e))

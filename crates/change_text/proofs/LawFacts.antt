@@ -9,7 +9,8 @@ use Rattle.bwe_specs.specs.declared.network.Closing.{Closing}
 use Rattle.bwe_specs.specs.Allocation.{Table, GroupLine}
 use Rattle.bwe_specs.specs.Reports.{numbers}
 use Rattle.limit_table.specs.Tables.{Frame, frame_of}
-use Rattle.table_text.specs.TableText.{NameTexts, link_line, group_lines, task_line, text_of}
+use Rattle.doc_names.specs.NameTexts.{NameTexts}
+use Rattle.table_text.specs.TableText.{link_line, group_lines, task_line, text_of}
 use Rattle.change_text.specs.ChangeText.{changed, changed_closings, closing_lines}
 use Rattle.change_text.specs.Laws.{is_nothing, kept, kept_closings, kept_text, KeptTablesAreMadeTables, ChangesStandWhereLinesDiffer}
 use Rattle.change_text.proofs.ChangeFacts.{same_lines, other_lines}

@@ -26,7 +26,7 @@ use Rattle.live_lines.specs.Known.{Known, owner_of}
 use Rattle.live_lines.specs.Cutting.{within}
 use Rattle.live_lines.specs.Meaning.{amount_of, meaning_of, meaning_of_words, report_of, reported, target_named}
 use Rattle.change_text.specs.StateText.{report_words}
-use Rattle.change_text.specs.StateLaw.{is_plain, AreReadable, StateLinesAreRead, names_of}
+use Rattle.change_text.specs.StateLaw.{is_plain, AreReadable, StateLinesAreRead}
 
 abbrev Text : Type 0
 Text = List ℕ
@@ -124,7 +124,7 @@ said known report a b c d pa pb pc pd is = rw (four_are_text a b c d pa pb pc pd
 some_word : (text : Text) → 1 ≤ length text → nat_lt 0 (length text) ≡ true
 some_word text some = lt-ltb 0 (length text) (omega (arith, some))
 
-demand_of : (known : Known) (reporter task amount : ℕ) (r t : Text) → 1 ≤ length r → 1 ≤ length t → number_of_name known.reporters r ≡ Some reporter → number_of_name known.tasks t ≡ Some task
+demand_of : (known : Known) (reporter task amount : ℕ) (r t : Text) → 1 ≤ length r → 1 ≤ length t → number_of_name known.names.reporters r ≡ Some reporter → number_of_name known.names.tasks t ≡ Some task
     → amount ≤ MAX_AMOUNT → owner_of known.task_owners known.link_owners (Task task) ≡ Some reporter
     → report_of known (codes "demand") r t (decimal amount) ≡ Ok (record { reporter = reporter; target = Task task; amount = amount })
 unfolding report_of target_named
@@ -132,7 +132,7 @@ demand_of known reporter task amount r t some_r some_t is_r is_t few owned =
     let small : amount < 2 ^ 64 = omega (arith, few) in
     rw (some_word r some_r, some_word t some_t, printed_is_number amount small, is_r, is_t, printed_amount amount few, owned, eq-eqb reporter reporter refl) refl
 
-capacity_of : (known : Known) (reporter link amount : ℕ) (r t : Text) → 1 ≤ length r → 1 ≤ length t → number_of_name known.reporters r ≡ Some reporter → number_of_name known.links t ≡ Some link
+capacity_of : (known : Known) (reporter link amount : ℕ) (r t : Text) → 1 ≤ length r → 1 ≤ length t → number_of_name known.names.reporters r ≡ Some reporter → number_of_name known.names.links t ≡ Some link
     → amount ≤ MAX_AMOUNT → owner_of known.task_owners known.link_owners (Link link) ≡ Some reporter
     → report_of known (codes "capacity") r t (decimal amount) ≡ Ok (record { reporter = reporter; target = Link link; amount = amount })
 unfolding report_of target_named
@@ -154,9 +154,9 @@ short a b c d la lb lc ld =
 abbrev IsRead : Known → Report → Text → Type 0
 IsRead known report line = (within line ≡ Some line) × (meaning_of known (Some line) ≡ NewReport report)
 
-by_target : (known : Known) (reporter amount : ℕ) (target : Target) → AreReadable known → reporter < length known.reporters
-    → IsInRange (length known.tasks) (length known.links) target → amount ≤ MAX_AMOUNT → owner_of known.task_owners known.link_owners target ≡ Some reporter
-    → IsRead known (record { reporter = reporter; target = target; amount = amount }) (report_words (names_of known) reporter target ++ codes " " ++ decimal amount)
+by_target : (known : Known) (reporter amount : ℕ) (target : Target) → AreReadable known → reporter < length known.names.reporters
+    → IsInRange (length known.names.tasks) (length known.names.links) target → amount ≤ MAX_AMOUNT → owner_of known.task_owners known.link_owners target ≡ Some reporter
+    → IsRead known (record { reporter = reporter; target = target; amount = amount }) (report_words known.names reporter target ++ codes " " ++ decimal amount)
 unfolding report_words
 by_target known reporter amount (Task task) names there in_range few owned =
     let small : amount < 2 ^ 64 = omega (arith, few) in
@@ -164,10 +164,10 @@ by_target known reporter amount (Task task) names there in_range few owned =
     let t = names.tasks task in_range in
     let digits = plain_digits (decimal amount) (digits_decimal own amount small) in
     subst (λ (line : Text). IsRead known (record { reporter = reporter; target = Task task; amount = amount }) line)
-    (sym (shape (codes "demand") (name_at known.reporters reporter) (name_at known.tasks task) (decimal amount))) (
-      short (codes "demand") (name_at known.reporters reporter) (name_at known.tasks task) (decimal amount) (omega arith) r.0.few t.0.few (length-decimal-le 20 amount (omega arith) (omega (arith, small)) small),
-      said known (record { reporter = reporter; target = Task task; amount = amount }) (codes "demand") (name_at known.reporters reporter) (name_at known.tasks task) (decimal amount) refl r.0.plain t.0.plain digits
-          (demand_of known reporter task amount (name_at known.reporters reporter) (name_at known.tasks task) r.0.some t.0.some r.1 t.1 few owned),
+    (sym (shape (codes "demand") (name_at known.names.reporters reporter) (name_at known.names.tasks task) (decimal amount))) (
+      short (codes "demand") (name_at known.names.reporters reporter) (name_at known.names.tasks task) (decimal amount) (omega arith) r.0.few t.0.few (length-decimal-le 20 amount (omega arith) (omega (arith, small)) small),
+      said known (record { reporter = reporter; target = Task task; amount = amount }) (codes "demand") (name_at known.names.reporters reporter) (name_at known.names.tasks task) (decimal amount) refl r.0.plain t.0.plain digits
+          (demand_of known reporter task amount (name_at known.names.reporters reporter) (name_at known.names.tasks task) r.0.some t.0.some r.1 t.1 few owned),
     )
 by_target known reporter amount (Link link) names there in_range few owned =
     let small : amount < 2 ^ 64 = omega (arith, few) in
@@ -175,10 +175,10 @@ by_target known reporter amount (Link link) names there in_range few owned =
     let t = names.links link in_range in
     let digits = plain_digits (decimal amount) (digits_decimal own amount small) in
     subst (λ (line : Text). IsRead known (record { reporter = reporter; target = Link link; amount = amount }) line)
-    (sym (shape (codes "capacity") (name_at known.reporters reporter) (name_at known.links link) (decimal amount))) (
-      short (codes "capacity") (name_at known.reporters reporter) (name_at known.links link) (decimal amount) (omega arith) r.0.few t.0.few (length-decimal-le 20 amount (omega arith) (omega (arith, small)) small),
-      said known (record { reporter = reporter; target = Link link; amount = amount }) (codes "capacity") (name_at known.reporters reporter) (name_at known.links link) (decimal amount) refl r.0.plain t.0.plain digits
-          (capacity_of known reporter link amount (name_at known.reporters reporter) (name_at known.links link) r.0.some t.0.some r.1 t.1 few owned),
+    (sym (shape (codes "capacity") (name_at known.names.reporters reporter) (name_at known.names.links link) (decimal amount))) (
+      short (codes "capacity") (name_at known.names.reporters reporter) (name_at known.names.links link) (decimal amount) (omega arith) r.0.few t.0.few (length-decimal-le 20 amount (omega arith) (omega (arith, small)) small),
+      said known (record { reporter = reporter; target = Link link; amount = amount }) (codes "capacity") (name_at known.names.reporters reporter) (name_at known.names.links link) (decimal amount) refl r.0.plain t.0.plain digits
+          (capacity_of known reporter link amount (name_at known.names.reporters reporter) (name_at known.names.links link) r.0.some t.0.some r.1 t.1 few owned),
     )
 
 pub lines_are_read : StateLinesAreRead

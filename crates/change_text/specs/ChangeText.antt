@@ -4,7 +4,8 @@ use Rattle.std.specs.Str.{bytes_eq}
 use Rattle.bwe_specs.specs.declared.network.Closing.{Closing}
 use Rattle.bwe_specs.specs.Allocation.{Table}
 use Rattle.bwe_specs.specs.Reports.{numbers}
-use Rattle.table_text.specs.TableText.{NameTexts, closing_line, link_line, group_lines, task_line}
+use Rattle.doc_names.specs.NameTexts.{NameTexts}
+use Rattle.table_text.specs.TableText.{closing_line, link_line, group_lines, task_line}
 
 -- what a number has in the later table, exactly where it is printed otherwise than in the earlier one
 unfoldable pub changed : (ℕ → List ℕ) → (ℕ → List ℕ) → ℕ → List ℕ

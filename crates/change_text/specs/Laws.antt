@@ -4,7 +4,8 @@ use Rattle.bwe_specs.specs.declared.network.Closing.{Closing}
 use Rattle.bwe_specs.specs.Allocation.{Table}
 use Rattle.bwe_specs.specs.Reports.{numbers}
 use Rattle.limit_table.specs.Tables.{frame_of}
-use Rattle.table_text.specs.TableText.{NameTexts, link_line, group_lines, task_line, text_of}
+use Rattle.doc_names.specs.NameTexts.{NameTexts}
+use Rattle.table_text.specs.TableText.{link_line, group_lines, task_line, text_of}
 use Rattle.change_text.specs.ChangeText.{changed, changed_closings, closing_lines}
 
 abbrev pub is_nothing : List ℕ → Bool

@@ -9,7 +9,7 @@ use Rattle.live_lines.specs.declared.line.LineMeaning.TheVariants.{NewReport}
 use Rattle.live_lines.specs.Known.{Known, IsByOwner}
 use Rattle.live_lines.specs.Cutting.{within}
 use Rattle.live_lines.specs.Meaning.{meaning_of}
-use Rattle.change_text.specs.StateText.{ReportNames, report_text}
+use Rattle.change_text.specs.StateText.{report_text}
 
 -- a byte of ASCII above the space (32)
 abbrev pub is_plain : ℕ → Bool
@@ -26,16 +26,13 @@ abbrev pub AreNames : List (List ℕ) → Type 0
 AreNames names = (number : ℕ) → number < length names → IsName (name_at names number) × (number_of_name names (name_at names number) ≡ Some number)
 
 pub record AreReadable (known : Known) : Type 0 where
-  pub reporters : AreNames known.reporters
-  pub tasks : AreNames known.tasks
-  pub links : AreNames known.links
-
-abbrev pub names_of : Known → ReportNames
-names_of known = record { reporters = known.reporters; tasks = known.tasks; links = known.links }
+  pub reporters : AreNames known.names.reporters
+  pub tasks : AreNames known.names.tasks
+  pub links : AreNames known.names.links
 
 -- the line of a report by the owner is no longer than a line may be, and means that report
 abbrev pub StateLinesAreRead : Type 0
-StateLinesAreRead = (known : Known) (report : Report) → AreReadable known → report.reporter < length known.reporters
-    → IsFit (length known.tasks) (length known.links) report → IsByOwner known report
-    → (within (report_text (names_of known) report) ≡ Some (report_text (names_of known) report))
-    × (meaning_of known (Some (report_text (names_of known) report)) ≡ NewReport report)
+StateLinesAreRead = (known : Known) (report : Report) → AreReadable known → report.reporter < length known.names.reporters
+    → IsFit (length known.names.tasks) (length known.names.links) report → IsByOwner known report
+    → (within (report_text known.names report) ≡ Some (report_text known.names report))
+    × (meaning_of known (Some (report_text known.names report)) ≡ NewReport report)

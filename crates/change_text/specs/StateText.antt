@@ -1,36 +1,23 @@
 -- The text of the reports that count: one line for each, as a line of the input, and how many reports were accepted.
-use Rattle.std.specs.Prelude.{ℕ, ◌++◌, List, map, flat_map, codes, decimal, string_bytes}
+use Rattle.std.specs.Prelude.{ℕ, ◌++◌, List, flat_map, codes, decimal}
 use Rattle.bwe_specs.specs.declared.report.Report.{Report}
 use Rattle.bwe_specs.specs.declared.report.Target.{Target}
 use Rattle.bwe_specs.specs.declared.report.Target.TheVariants.{Task, Link}
-use Rattle.doc_names.specs.declared.Names.{Names}
+use Rattle.doc_names.specs.NameTexts.{NameTexts}
 use Rattle.table_text.specs.TableText.{name_at}
 
--- the names that reports have, each list in the order of the numbers
-pub record ReportNames : Type 0 where
-  pub reporters : List (List ℕ)
-  pub tasks : List (List ℕ)
-  pub links : List (List ℕ)
-
-abbrev pub report_names : Names → ReportNames
-report_names names = record {
-  reporters = map string_bytes names.reporters.items;
-  tasks = map string_bytes names.tasks.items;
-  links = map string_bytes names.links.items;
-}
-
 -- `demand REPORTER TASK`, or `capacity REPORTER LINK`
-unfoldable pub report_words : ReportNames → ℕ → Target → List ℕ
+unfoldable pub report_words : NameTexts → ℕ → Target → List ℕ
 report_words names reporter (Task task) = codes "demand " ++ name_at names.reporters reporter ++ codes " " ++ name_at names.tasks task
 report_words names reporter (Link link) = codes "capacity " ++ name_at names.reporters reporter ++ codes " " ++ name_at names.links link
 
 -- a report as a line of the input, without its line feed
-abbrev pub report_text : ReportNames → Report → List ℕ
+abbrev pub report_text : NameTexts → Report → List ℕ
 report_text names report = report_words names report.reporter report.target ++ codes " " ++ decimal report.amount
 
-abbrev pub report_line : ReportNames → Report → List ℕ
+abbrev pub report_line : NameTexts → Report → List ℕ
 report_line names report = report_text names report ++ codes "\n"
 
 -- a line for each report, and the number of reports accepted
-unfoldable pub state_text_of : ReportNames → List Report → ℕ → List ℕ
+unfoldable pub state_text_of : NameTexts → List Report → ℕ → List ℕ
 state_text_of names reports count = flat_map (report_line names) reports ++ codes "state " ++ decimal count ++ codes "\n"

@@ -1,20 +1,22 @@
 //! The text of what a later table has otherwise.
 
-ghost use Rattle.std.specs.Prelude.{◌≡◌, ◌++◌, ◌<◌, ◌^◌, IfOk, OnOk, flat_map, length, string_bytes};
+ghost use Rattle.std.specs.Prelude.{◌≡◌, ◌++◌, ◌<◌, ◌^◌, IfOk, OnOk, flat_map, length, map, string_bytes};
 ghost use Rattle.bwe_specs.specs.Reports.{numbers};
 ghost use Rattle.limit_table.specs.Tables.{frame_of};
-ghost use Rattle.table_text.specs.TableText.{closing_line, group_lines, link_line, task_line, texts_of};
+ghost use Rattle.doc_names.specs.NameTexts.{texts_of};
+ghost use Rattle.table_text.specs.TableText.{closing_line, group_lines, value_line};
 ghost use Rattle.change_text.specs.ChangeText.{change_text_of, changed, changed_closings, closing_lines};
 
 use bwe_specs::{Closing, OutOfMemory};
 use doc_names::Names;
 use limit_table::{GroupLine, LimitTable};
 use std::alloc::{AllocError, Global};
-use table_text::{push_closings, push_group, push_line, push_link, push_task, total};
+use table_text::{end_with_number, push_closings, push_group, push_value, total};
 
 /// The text of what has changed from the earlier table to the later one, which is of the same plan.
 ///
-/// A number that has no name is printed as an empty text; the names of a document have one for each number of its tables.
+/// A number that has no name is printed as an empty text; the names of a document have one for each
+/// number of its tables.
 #[tactic(auto, unfolding(crate::specs::ChangeText::change_text_of))]
 pub fn change_text(
     alloc: Global,
@@ -26,12 +28,26 @@ pub fn change_text(
     ensures { IfOk result (λ text. text.items ≡ change_text_of (texts_of names.now) earlier.now later.now) }
 {
     let mut text = String::new(alloc);
-    push_line(alloc, &mut text, "change ", later.prefix)?;
+    end_with_number(&mut text, "change ", later.prefix)?;
     push_changed_closings(alloc, &mut text, names, &earlier.closings, &later.closings)?;
-    push_changed_links(alloc, &mut text, names, &earlier.loads, &later.loads)?;
+    push_changed_values(
+        &mut text,
+        "link ",
+        &names.links,
+        " load ",
+        &earlier.loads,
+        &later.loads,
+    )?;
     push_changed_groups(alloc, &mut text, names, &earlier.groups, &later.groups)?;
-    push_changed_tasks(alloc, &mut text, names, &earlier.limits, &later.limits)?;
-    push_line(alloc, &mut text, "total ", total(&later.groups))?;
+    push_changed_values(
+        &mut text,
+        "task ",
+        &names.tasks,
+        " limit ",
+        &earlier.limits,
+        &later.limits,
+    )?;
+    end_with_number(&mut text, "total ", total(&later.groups))?;
     Ok(text.into_bytes())
 }
 
@@ -51,7 +67,7 @@ fn push_changed_closings(
     if earlier_lines.as_str() == later_lines.as_str() {
         return Ok(());
     }
-    push_line(alloc, text, "closings ", later.len() as u64)?;
+    end_with_number(text, "closings ", later.len() as u64)?;
     text.push_str(later_lines.as_str())
 }
 
@@ -59,46 +75,50 @@ fn closings_text(alloc: Global, names: &Names, closings: &[Closing]) -> Result<S
     ensures { IfOk result (λ text. string_bytes text ≡ closing_lines (texts_of names.now) closings.now) }
 {
     let mut text = String::new(alloc);
-    push_closings(alloc, &mut text, names, closings)?;
+    push_closings(&mut text, names, closings)?;
     Ok(text)
 }
 
-#[tactic(auto, using(crate::proofs::ChangeFacts::same_load, crate::proofs::ChangeFacts::other_load))]
-fn push_changed_link(
-    alloc: Global,
+#[tactic(auto, using(crate::proofs::ChangeFacts::other_value))]
+fn push_changed_value(
     text: &mut String,
-    names: &Names,
+    word: &str,
+    names: &[String],
+    between: &str,
     earlier: &[u64],
     later: &[u64],
-    link: usize,
+    number: usize,
 ) -> Result<(), AllocError>
-    requires load { link < length later.now }
+    requires number { number < length later.now }
     requires same_length { length earlier.now ≡ length later.now }
     requires few { length later.now < 2 ^ 32 }
     ensures { OnOk result (string_bytes text.new ≡ string_bytes text.old
-        ++ changed (link_line (texts_of names.now) earlier.now) (link_line (texts_of names.now) later.now) link) }
+        ++ changed (value_line word.now between.now (map string_bytes names.now) earlier.now)
+        (value_line word.now between.now (map string_bytes names.now) later.now) number) }
 {
-    if earlier[link] == later[link] {
+    if earlier[number] == later[number] {
         return Ok(());
     }
-    push_link(alloc, text, names, later, link)
+    push_value(text, word, names, between, later, number)
 }
 
-#[tactic(auto, using(crate::proofs::ChangeFacts::one_more))]
-fn push_changed_links(
-    alloc: Global,
+#[tactic(auto, using(table_text::proofs::Lines::one_line_more))]
+fn push_changed_values(
     text: &mut String,
-    names: &Names,
+    word: &str,
+    names: &[String],
+    between: &str,
     earlier: &[u64],
     later: &[u64],
 ) -> Result<(), AllocError>
     requires same_length { length earlier.now ≡ length later.now }
     requires few { length later.now < 2 ^ 32 }
     ensures { OnOk result (string_bytes text.new ≡ string_bytes text.old
-        ++ flat_map (changed (link_line (texts_of names.now) earlier.now) (link_line (texts_of names.now) later.now)) (numbers (length later.now))) }
+        ++ flat_map (changed (value_line word.now between.now (map string_bytes names.now) earlier.now)
+        (value_line word.now between.now (map string_bytes names.now) later.now)) (numbers (length later.now))) }
 {
-    for link in 0..later.len() {
-        push_changed_link(alloc, text, names, earlier, later, link)?;
+    for number in 0..later.len() {
+        push_changed_value(text, word, names, between, earlier, later, number)?;
     }
     Ok(())
 }
@@ -114,7 +134,7 @@ fn group_text(
     ensures { IfOk result (λ text. string_bytes text ≡ group_lines (texts_of names.now) lines.now group) }
 {
     let mut text = String::new(alloc);
-    push_group(alloc, &mut text, names, lines, group)?;
+    push_group(&mut text, names, lines, group)?;
     Ok(text)
 }
 
@@ -144,7 +164,7 @@ fn push_changed_group(
     text.push_str(after.as_str())
 }
 
-#[tactic(auto, using(crate::proofs::ChangeFacts::one_more))]
+#[tactic(auto, using(table_text::proofs::Lines::one_line_more))]
 fn push_changed_groups(
     alloc: Global,
     text: &mut String,
@@ -159,46 +179,6 @@ fn push_changed_groups(
 {
     for group in 0..later.len() {
         push_changed_group(alloc, text, names, earlier, later, group)?;
-    }
-    Ok(())
-}
-
-#[tactic(auto, using(crate::proofs::ChangeFacts::same_limit, crate::proofs::ChangeFacts::other_limit))]
-fn push_changed_task(
-    alloc: Global,
-    text: &mut String,
-    names: &Names,
-    earlier: &[u64],
-    later: &[u64],
-    task: usize,
-) -> Result<(), AllocError>
-    requires task { task < length later.now }
-    requires same_length { length earlier.now ≡ length later.now }
-    requires few { length later.now < 2 ^ 32 }
-    ensures { OnOk result (string_bytes text.new ≡ string_bytes text.old
-        ++ changed (task_line (texts_of names.now) earlier.now) (task_line (texts_of names.now) later.now) task) }
-{
-    if earlier[task] == later[task] {
-        return Ok(());
-    }
-    push_task(alloc, text, names, later, task)
-}
-
-#[tactic(auto, using(crate::proofs::ChangeFacts::one_more))]
-fn push_changed_tasks(
-    alloc: Global,
-    text: &mut String,
-    names: &Names,
-    earlier: &[u64],
-    later: &[u64],
-) -> Result<(), AllocError>
-    requires same_length { length earlier.now ≡ length later.now }
-    requires few { length later.now < 2 ^ 32 }
-    ensures { OnOk result (string_bytes text.new ≡ string_bytes text.old
-        ++ flat_map (changed (task_line (texts_of names.now) earlier.now) (task_line (texts_of names.now) later.now)) (numbers (length later.now))) }
-{
-    for task in 0..later.len() {
-        push_changed_task(alloc, text, names, earlier, later, task)?;
     }
     Ok(())
 }

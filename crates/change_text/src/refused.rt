@@ -6,7 +6,7 @@ ghost use Rattle.change_text.specs.RefusedText.{cause_number as number_of, refus
 use bwe_specs::OutOfMemory;
 use live_lines::LineCause;
 use std::alloc::Global;
-use table_text::{push_line, push_word_and_number};
+use table_text::{end_with_number, push_number};
 
 /// The answer to a line that is refused. Lines are counted from 1.
 #[tactic(auto, unfolding(crate::specs::RefusedText::refused_text_of))]
@@ -14,8 +14,8 @@ pub fn refused_text(alloc: Global, line: u64, cause: LineCause) -> Result<Vec<u8
     ensures { IfOk result (λ text. text.items ≡ refused_text_of line cause) }
 {
     let mut text = String::new(alloc);
-    push_word_and_number(alloc, &mut text, "refused line ", line)?;
-    push_line(alloc, &mut text, " cause ", cause_number(cause))?;
+    push_number(&mut text, "refused line ", line)?;
+    end_with_number(&mut text, " cause ", cause_number(cause))?;
     Ok(text.into_bytes())
 }
 

@@ -1,14 +1,14 @@
 -- Written events are meant for the worlds that they meet, and what was played is a run of them.
-use Rattle.std.proofs.Common.{◌≡◌, ℕ, ◌+◌, ◌≤◌, List, [], ◌∷◌, ◌++◌, length, take, refl, sym, ◌∙◌, ap, subst, arith, append_assoc}
+use Rattle.std.proofs.Common.{◌≡◌, ℕ, ◌≤◌, List, [], ◌∷◌, ◌++◌, length, take, refl, sym, ◌∙◌, ap, subst, arith, append_assoc}
 use Rattle.std.proofs.lemmas.List.{append-nil, length-take-le}
 use Rattle.bwe_specs.specs.declared.report.Report.{Report}
 use Rattle.enforcer_core.specs.declared.event.WorldEvent.{WorldEvent}
 use Rattle.enforcer_core.specs.World.{World, first_world, world_after, IsMeant}
 use Rattle.enforcer_core.specs.Laws.{AreMeant, IsLawful, run}
 use Rattle.enforcer_core.proofs.Runs.{law}
-use Rattle.event_lines.specs.declared.EventLine.{EventLine}
-use Rattle.event_lines.specs.declared.EventLine.TheVariants.{Post, Send, Deliver, Reply, Restart}
-use Rattle.event_lines.specs.EventLines.{AreThere}
+use Rattle.enforce_run.specs.declared.event.EventLine.{EventLine}
+use Rattle.enforce_run.specs.declared.event.EventLine.TheVariants.{Post, Send, Deliver, Reply, Restart}
+use Rattle.enforce_run.specs.EventLines.{AreThere}
 use Rattle.world_laws.specs.Laws.{HasTakenPosted}
 use Rattle.world_laws.proofs.Settling.{settles}
 use Rattle.enforce_run.specs.Playing.{Played, IsIn, event_in, played_from, played_of, played_on, prefix_of}

@@ -1,3 +1,4 @@
+pub mod EventFacts
 pub mod Texts
 pub mod Owners
 pub mod Plays

@@ -10,7 +10,7 @@ use Rattle.std.proofs.lemmas.List.Elements.{All-map, All-filter, filter-append}
 use Rattle.bwe_specs.specs.Reports.{numbers}
 use Rattle.enforcer_core.specs.World.{rows_of}
 use Rattle.enforce_run.specs.Playing.{owned_below, owned_by, regions_of}
-use Rattle.enforce_run.proofs.Texts.{numbers-more}
+use Rattle.table_text.proofs.Lines.{numbers-more}
 
 pub no_task : (owners : List ℕ) (reporter : ℕ) → owned_below owners reporter 0 ≡ []
 unfolding owned_below

@@ -5,9 +5,9 @@ use Rattle.std.proofs.lemmas.List.Sums.{sum_by_push}
 use Rattle.bwe_specs.specs.declared.report.Report.{Report}
 use Rattle.enforcer_core.specs.declared.event.WorldAnswer.{WorldAnswer}
 use Rattle.enforcer_core.specs.World.{World, answer_to, first_world, world_after}
-use Rattle.event_lines.specs.declared.EventLine.{EventLine}
-use Rattle.event_lines.specs.declared.EventLine.TheVariants.{Post, Send, Deliver, Reply, Restart}
-use Rattle.event_lines.specs.EventLines.{AreThere, IsThere, downs_of, ups_of, is_send, is_deliver}
+use Rattle.enforce_run.specs.declared.event.EventLine.{EventLine}
+use Rattle.enforce_run.specs.declared.event.EventLine.TheVariants.{Post, Send, Deliver, Reply, Restart}
+use Rattle.enforce_run.specs.EventLines.{AreThere, IsThere, downs_of, ups_of, is_send, is_deliver}
 use Rattle.enforce_run.specs.Playing.{Played, IsIn, IsOnScript, event_in, played_from, played_of, played_on}
 
 -- the world has as many regions and messages as the events before say

@@ -6,7 +6,7 @@ use Rattle.enforcer_core.specs.declared.event.WorldAnswer.TheVariants.{Posted, S
 use Rattle.enforcer_core.specs.World.{World, acked_at, limit_in_force, prefix_in_force, region_at, settled_of, tasks_at}
 use Rattle.table_text.specs.TableText.{name_at}
 use Rattle.bwe_specs.specs.declared.report.Report.{Report}
-use Rattle.event_lines.specs.declared.EventLine.{EventLine}
+use Rattle.enforce_run.specs.declared.event.EventLine.{EventLine}
 use Rattle.enforce_run.specs.Playing.{played_of}
 
 -- what an event was answered

@@ -4,8 +4,8 @@ use Rattle.bwe_specs.specs.declared.report.Report.{Report}
 use Rattle.enforcer_core.specs.declared.event.WorldEvent.{WorldEvent}
 use Rattle.enforcer_core.specs.World.{World, first_world, world_after}
 use Rattle.enforcer_core.specs.Laws.{IsLawful}
-use Rattle.event_lines.specs.declared.EventLine.{EventLine}
-use Rattle.event_lines.specs.EventLines.{AreThere}
+use Rattle.enforce_run.specs.declared.event.EventLine.{EventLine}
+use Rattle.enforce_run.specs.EventLines.{AreThere}
 use Rattle.world_laws.specs.Laws.{HasTakenPosted, IsInForce}
 use Rattle.enforce_run.specs.Playing.{event_in, played_of}
 

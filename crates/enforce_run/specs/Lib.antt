@@ -1,3 +1,5 @@
+pub mod EventLines
+pub mod RefusalLine
 pub mod Playing
 pub mod EnforceText
 pub mod Lawful

@@ -7,8 +7,8 @@ use Rattle.enforcer_core.specs.declared.event.WorldEvent.{WorldEvent}
 use Rattle.enforcer_core.specs.declared.event.WorldEvent.TheVariants as event
 use Rattle.enforcer_core.specs.declared.event.WorldAnswer.{WorldAnswer}
 use Rattle.enforcer_core.specs.World.{World, answer_to, first_world, world_after}
-use Rattle.event_lines.specs.declared.EventLine.{EventLine}
-use Rattle.event_lines.specs.declared.EventLine.TheVariants.{Post, Send, Deliver, Reply, Restart}
+use Rattle.enforce_run.specs.declared.event.EventLine.{EventLine}
+use Rattle.enforce_run.specs.declared.event.EventLine.TheVariants.{Post, Send, Deliver, Reply, Restart}
 
 -- ---- regions
 

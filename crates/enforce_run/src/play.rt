@@ -4,13 +4,13 @@ ghost use Rattle.std.specs.Prelude.{◌≡◌, ◌<◌, ◌≤◌, ◌^◌, [], 
 ghost use Rattle.std.specs.List.{All};
 ghost use Rattle.demand_book.specs.Fit.{IsFit};
 ghost use Rattle.enforcer_core.specs.World.{IsMeant, answer_to, rows_of, world_after};
-ghost use Rattle.event_lines.specs.EventLines.{AreThere};
+ghost use Rattle.enforce_run.specs.EventLines.{AreThere};
 ghost use Rattle.enforce_run.specs.Playing.{IsIn, IsOnScript, event_in, played_of};
 
+use crate::event::EventLine;
 use bwe_specs::{MAX_REPORTS, OutOfMemory, Report};
 use demand_book::{Maker, Posted};
 use enforcer_core::{World, WorldAnswer, WorldEvent};
-use event_lines::EventLine;
 use std::alloc::Global;
 
 /// The answers to all events, in order, and the world after them, with the maker's tables of the script's first reports.

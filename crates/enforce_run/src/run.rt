@@ -3,17 +3,17 @@
 ghost use Rattle.std.specs.Prelude.{◌≡◌, ◌<◌, ◌≤◌, ◌^◌, [], IfOk, length, map, string_bytes};
 ghost use Rattle.std.specs.List.{All};
 ghost use Rattle.demand_book.specs.Fit.{IsFit};
-ghost use Rattle.event_lines.specs.EventLines.{AreThere};
+ghost use Rattle.enforce_run.specs.EventLines.{AreThere};
 ghost use Rattle.enforce_run.specs.EnforceText.{enforced_text};
 ghost use Rattle.enforce_run.specs.Lawful.{AreLawful, DoSettle};
 ghost use Rattle.enforce_run.specs.Playing.{regions_of as regions_of_owners};
 
+use crate::event::EventLine;
 use crate::play::play;
 use crate::regions::regions_of;
 use crate::text::enforce_text;
 use bwe_specs::{MAX_REPORTS, OutOfMemory, Report};
 use demand_book::Maker;
-use event_lines::EventLine;
 use std::alloc::Global;
 
 /// The text of the events on a world with a region for each reporter ("Enforce text", docs/FORMAT.md).

@@ -6,12 +6,11 @@ ghost use Rattle.std.specs.List.{All};
 ghost use Rattle.enforcer_core.specs.World.{tasks_at};
 ghost use Rattle.enforce_run.specs.EnforceText.{answer_line, enforce_text_of, limit_line, limit_text, region_line, region_lines};
 
-use crate::line::{end_with_number, push_number};
 use bwe_specs::OutOfMemory;
 use demand_book::Posted;
 use enforcer_core::{World, WorldAnswer};
 use std::alloc::{AllocError, Global};
-use table_text::name_of;
+use table_text::{end_with_number, name_of, push_number};
 
 /// The text of the answers to all events and of the world after them, with the names of tasks
 /// ("Enforce text", docs/FORMAT.md).
@@ -69,7 +68,7 @@ fn push_answer(text: &mut String, answer: WorldAnswer) -> Result<(), AllocError>
     }
 }
 
-#[tactic(auto, using(crate::proofs::Texts::one_line_more))]
+#[tactic(auto, using(table_text::proofs::Lines::one_line_more))]
 fn push_regions<T: Posted>(
     text: &mut String,
     names: &[String],
@@ -125,7 +124,7 @@ fn push_region_line(
     }
 }
 
-#[tactic(auto, using(crate::proofs::Texts::one_line_more))]
+#[tactic(auto, using(table_text::proofs::Lines::one_line_more))]
 fn push_limits<T: Posted>(
     text: &mut String,
     names: &[String],

@@ -1,28 +1,23 @@
 -- What is known of a document: its names, and who owns each task and link.
-use Rattle.std.specs.Prelude.{◌≡◌, ℕ, ◌==◌, Bool, false, List, map, string_bytes, slice_get, Option, Some, None, option_and_then}
+use Rattle.std.specs.Prelude.{◌≡◌, ℕ, ◌==◌, Bool, false, List, slice_get, Option, Some, None, option_and_then}
 use Rattle.bwe_specs.specs.declared.report.Target.{Target}
 use Rattle.bwe_specs.specs.declared.report.Target.TheVariants.{Task, Link}
 use Rattle.bwe_specs.specs.declared.report.Report.{Report}
 use Rattle.doc_names.specs.declared.Names.{Names}
+use Rattle.doc_names.specs.NameTexts.{NameTexts, texts_of}
 
 abbrev pub Text : Type 0
 Text = List ℕ
 
 -- names and owners, each list in the order of the numbers; a link may have no owner
 pub record Known : Type 0 where
-  pub links : List Text
-  pub groups : List Text
-  pub tasks : List Text
-  pub reporters : List Text
+  pub names : NameTexts
   pub task_owners : List ℕ
   pub link_owners : List (Option ℕ)
 
 abbrev pub known_by : Names → List ℕ → List (Option ℕ) → Known
 known_by names task_owners link_owners = record {
-  links = map string_bytes names.links.items;
-  groups = map string_bytes names.groups.items;
-  tasks = map string_bytes names.tasks.items;
-  reporters = map string_bytes names.reporters.items;
+  names = texts_of names;
   task_owners = task_owners;
   link_owners = link_owners;
 }

@@ -1,12 +1,11 @@
 -- What a line means under the names and owners of a document, or the first cause for which it is refused.
-use Rattle.std.specs.Prelude.{ℕ, Bool, true, false, ◌&&◌, ◌||◌, List, [], ◌∷◌, length, codes, nat_le, nat_lt, Option, Some, None, Result, Ok, Err, option_map, option_and_then, if◌then◌else◌, ⊤}
+use Rattle.std.specs.Prelude.{ℕ, Bool, true, false, ◌&&◌, ◌||◌, List, [], ◌∷◌, length, codes, nat_lt, Option, Some, None, Result, Ok, Err, option_map, option_and_then, if◌then◌else◌, ⊤}
 use Rattle.std.specs.Str.{bytes_eq, is_utf8}
-use Rattle.bwe_specs.specs.declared.limits.TheConstants.{MAX_AMOUNT}
 use Rattle.bwe_specs.specs.declared.report.Target.{Target}
 use Rattle.bwe_specs.specs.declared.report.Target.TheVariants.{Task, Link}
 use Rattle.bwe_specs.specs.declared.report.Report.{Report}
 use Rattle.text_scan.specs.Names.{number_of_name}
-use Rattle.text_scan.specs.Numbers.{is_number, number_of}
+use Rattle.text_scan.specs.Numbers.{amount_in_range, is_number, number_of}
 use Rattle.text_scan.specs.Words.{words_of}
 use Rattle.live_lines.specs.declared.line.LineCause.{LineCause}
 use Rattle.live_lines.specs.declared.line.LineCause.TheVariants.{NoLine, UnknownName, AmountOutOfRange, NotOwner}
@@ -43,21 +42,18 @@ is_report kind reporter name amount =
 -- a demand is of a task, and a capacity of a link
 unfoldable pub target_named : Known → Text → Text → Option Target
 target_named known kind name =
-    if bytes_eq kind (codes "demand") then option_map (λ task. Task task) (number_of_name known.tasks name)
-    else option_map (λ link. Link link) (number_of_name known.links name)
-
-abbrev pub if_in_range : ℕ → Option ℕ
-if_in_range amount = if nat_le amount MAX_AMOUNT then Some amount else None
+    if bytes_eq kind (codes "demand") then option_map (λ task. Task task) (number_of_name known.names.tasks name)
+    else option_map (λ link. Link link) (number_of_name known.names.links name)
 
 -- the amount of digits, where it is not above the greatest
 unfoldable pub amount_of : Text → Option ℕ
-amount_of digits = option_and_then if_in_range (number_of digits)
+amount_of digits = option_and_then amount_in_range (number_of digits)
 
 -- the report of four words, or the first cause against it
 unfoldable pub report_of : Known → Text → Text → Text → Text → Result Report LineCause
 report_of known kind reporter name amount = do
   is_form ← unless NoLine (is_report kind reporter name amount)
-  reporter_number ← or_else UnknownName (number_of_name known.reporters reporter)
+  reporter_number ← or_else UnknownName (number_of_name known.names.reporters reporter)
   target ← or_else UnknownName (target_named known kind name)
   kilobits ← or_else AmountOutOfRange (amount_of amount)
   is_owned ← unless NotOwner (is_owner (owner_of known.task_owners known.link_owners target) reporter_number)

@@ -4,16 +4,17 @@ ghost use Rattle.std.specs.Prelude.{◌≡◌, ◌≤◌, codes, length, option_
 ghost use Rattle.std.specs.Str.{bytes_eq};
 ghost use Rattle.bwe_specs.specs.declared.limits.TheConstants.{MAX_AMOUNT};
 ghost use Rattle.demand_book.specs.Fit.{IsFit};
+ghost use Rattle.doc_names.specs.NameTexts.{texts_of};
 ghost use Rattle.text_scan.specs.Words.{words_of};
 ghost use Rattle.live_lines.specs.Known.{IsByOwner, is_owner as is_owner_of, known_by, owner_of as owner_in};
 ghost use Rattle.live_lines.specs.Meaning as spec;
 
 use crate::line::{LineCause, LineMeaning};
-use bwe_specs::{MAX_AMOUNT, OutOfMemory, Report, Target};
+use bwe_specs::{OutOfMemory, Report, Target};
 use doc_names::Names;
 use std::alloc::Global;
 use std::marker::Model;
-use text_scan::{NameIndex, Words, is_number, number_of};
+use text_scan::{NameIndex, Words, amount_in_range, is_number, number_of};
 
 /// The names of a document, and the number of the reporter who owns each task and link; a link may have no owner.
 #[derive(Drop)]
@@ -27,8 +28,8 @@ pub struct Known {
 }
 
 impl Model for Known {
-    ghost use Rattle.std.specs.Prelude.{◌≡◌, ℕ, List, map, string_bytes};
-    ghost use Rattle.text_scan.specs.Names.{number_in, number_of_name};
+    ghost use Rattle.doc_names.specs.NameTexts.{texts_of};
+    ghost use Rattle.text_scan.specs.Names.{IsIndexOf};
     ghost use Rattle.live_lines.specs.Known.{Known, known_by};
 
     ghost Value = { Known };
@@ -36,9 +37,9 @@ impl Model for Known {
     ghost view = { λ known. known_by known.names known.task_owners.items known.link_owners.items };
 
     ghost invariant = { λ known.
-        ((name : List ℕ) → number_in known.reporters name ≡ number_of_name (map string_bytes known.names.reporters.items) name)
-        × ((name : List ℕ) → number_in known.tasks name ≡ number_of_name (map string_bytes known.names.tasks.items) name)
-        × ((name : List ℕ) → number_in known.links name ≡ number_of_name (map string_bytes known.names.links.items) name) };
+        IsIndexOf (texts_of known.names).reporters known.reporters
+        × IsIndexOf (texts_of known.names).tasks known.tasks
+        × IsIndexOf (texts_of known.names).links known.links };
 }
 
 impl Known {
@@ -66,7 +67,7 @@ impl Known {
 
     /// The names of the document.
     pub fn names(&self) -> &Names
-        ensures { known_by result.now self.now.task_owners self.now.link_owners ≡ self.now }
+        ensures { texts_of result.now ≡ self.now.names }
     {
         &self.names
     }
@@ -229,9 +230,5 @@ fn amount_of(digits: &str) -> Option<u64>
     ensures exact { result ≡ spec.amount_of digits.now }
     ensures range { IfSome result (λ amount. amount ≤ MAX_AMOUNT) }
 {
-    let amount = number_of(digits.as_bytes())?;
-    if amount > MAX_AMOUNT {
-        return None;
-    }
-    Some(amount)
+    amount_in_range(number_of(digits.as_bytes())?)
 }

@@ -1,9 +1,8 @@
 -- What holds of every sample that was read, and of every report.
-use Rattle.std.proofs.Common.{◌≡◌, ℕ, suc, ◌≤◌, Bool, true, false, cond, ◌&&◌, List, [], ◌∷◌, ◌++◌, length, Option, Some, None, Result, Ok, Err, String, Global, string_bytes, refl, sym, ap, subst, ◌∙◌, nat_le, nat_lt, arith, length-append}
+use Rattle.std.proofs.Common.{◌≡◌, ℕ, suc, ◌≤◌, Bool, true, false, cond, List, [], ◌∷◌, ◌++◌, length, Option, Some, None, Ok, String, Global, string_bytes, refl, sym, ap, subst, ◌∙◌, nat_le, nat_lt, arith, length-append}
 use Rattle.std.specs.Prelude.{option_and_then, position, slice_get, All}
 use Rattle.std.specs.Str.{bytes_eq}
-use Rattle.std.specs.Str.Parse.{digits_value}
-use Rattle.std.proofs.lemmas.Bool.{eqb-true, leb-true, ltb-true, and_parts}
+use Rattle.std.proofs.lemmas.Bool.{eqb-true, leb-true, ltb-true}
 use Rattle.std.proofs.lemmas.List.{length-map}
 use Rattle.std.proofs.lemmas.List.Elements.{All-nil, All-push, All-cons, All-head, All-tail}
 use Rattle.std.proofs.lemmas.List.Quantifiers.{position-Some}
@@ -12,11 +11,15 @@ use Rattle.bwe_specs.specs.declared.report.Report.{Report}
 use Rattle.demand_book.specs.Fit.{IsFit}
 use Rattle.demand_estimate.specs.Estimate.{estimate, with_headroom}
 use Rattle.sample_lines.specs.declared.sample.Sample.{Sample}
-use Rattle.sample_lines.specs.SampleLine.{Known, Text, Fields, amount_of, cut_at, fields_of, is_owner, is_printed_number, sample_of}
-use Rattle.sample_lines.specs.SampleLines.{lines_of, read_on, sample_on}
+use Rattle.text_scan.specs.Items.{items_of}
+use Rattle.text_scan.specs.Lines.{left_of, lines_of}
+use Rattle.text_scan.specs.Numbers.{amount_in_range, printed_number_of}
+use Rattle.text_scan.proofs.ItemFacts.{items_keep}
+use Rattle.sample_lines.specs.Known.{Known, known_by}
+use Rattle.sample_lines.specs.SampleLine.{Text, Fields, amount_of, fields_of, is_owner, sample_of}
+use Rattle.sample_lines.specs.SampleLines.{next_sample}
 use Rattle.sample_lines.specs.SampleReports.{amounts_of, report_of, reports_behind}
 use Rattle.doc_names.specs.declared.Names.{Names}
-use Rattle.sample_lines.specs.KnownView.{known_by}
 use Rattle.sample_lines.specs.Held.{IsHeld, IsByOwner}
 
 bind : {A B : Type 0} (o : Option A) (f : A → Option B) (y : B) → option_and_then f o ≡ Some y → (x : A) × (o ≡ Some x) × (f x ≡ Some y)
@@ -24,17 +27,6 @@ bind None f y e = absurd (let g : None ≡ Some y = e in cc)
 bind (Some x) f y e = (x, refl, e)
 
 -- ---- one sample
-
-amount_fits : (digits : Text) (amount : ℕ) → amount_of digits ≡ Some amount → amount ≤ MAX_AMOUNT
-unfolding amount_of
-amount_fits digits amount e = go (is_printed_number digits && nat_le (digits_value 10 digits) MAX_AMOUNT) refl e
-  where
-    go : (b : Bool) → (is_printed_number digits && nat_le (digits_value 10 digits) MAX_AMOUNT) ≡ b → cond b (Some (digits_value 10 digits)) None ≡ Some amount → amount ≤ MAX_AMOUNT
-    go true h is =
-        let same : digits_value 10 digits ≡ amount = cc in
-        let low : digits_value 10 digits ≤ MAX_AMOUNT = leb-true (digits_value 10 digits) MAX_AMOUNT (and_parts (is_printed_number digits) (nat_le (digits_value 10 digits) MAX_AMOUNT) h).1 in
-        omega arith
-    go false h is = absurd (let g : None ≡ Some amount = is in cc)
 
 owns : (owner : Option ℕ) (reporter : ℕ) → is_owner owner reporter ≡ true → owner ≡ Some reporter
 owns None reporter e = absurd (let g : false ≡ true = e in cc)
@@ -44,18 +36,25 @@ chosen : {A : Type 0} (b : Bool) (x y : A) → cond b (Some x) None ≡ Some y �
 chosen true x y e = (refl, let g : Some x ≡ Some y = e in cc)
 chosen false x y e = absurd (let g : None ≡ Some y = e in cc)
 
+amount_fits : (digits : Text) (amount : ℕ) → amount_of digits ≡ Some amount → amount ≤ MAX_AMOUNT
+unfolding amount_of
+amount_fits digits amount e =
+    let number = bind (printed_number_of digits) amount_in_range amount e in
+    let is = chosen (nat_le number.0 MAX_AMOUNT) number.0 amount number.2 in
+    omega (arith, is.1, leb-true number.0 MAX_AMOUNT is.0)
+
 sample_held : (known : Known) (text : Text) (sample : Sample) → sample_of known text ≡ Some sample → IsHeld known sample
 unfolding sample_of
 sample_held known text sample e =
-    let fields = bind (fields_of text) (λ (fields : Fields). option_and_then (λ reporter. option_and_then (λ task. option_and_then (λ amount. cond (is_owner (slice_get known.task_owners task) reporter) (let made : Sample = record { reporter = reporter; task = task; amount = amount } in Some made) None) (amount_of fields.amount)) (position (bytes_eq fields.task) known.tasks)) (position (bytes_eq fields.reporter) known.reporters)) sample e in
-    let reporter = bind (position (bytes_eq fields.0.reporter) known.reporters) (λ (reporter : ℕ). option_and_then (λ task. option_and_then (λ amount. cond (is_owner (slice_get known.task_owners task) reporter) (let made : Sample = record { reporter = reporter; task = task; amount = amount } in Some made) None) (amount_of fields.0.amount)) (position (bytes_eq fields.0.task) known.tasks)) sample fields.2 in
-    let task = bind (position (bytes_eq fields.0.task) known.tasks) (λ (task : ℕ). option_and_then (λ amount. cond (is_owner (slice_get known.task_owners task) reporter.0) (let made : Sample = record { reporter = reporter.0; task = task; amount = amount } in Some made) None) (amount_of fields.0.amount)) sample reporter.2 in
+    let fields = bind (fields_of text) (λ (fields : Fields). option_and_then (λ reporter. option_and_then (λ task. option_and_then (λ amount. cond (is_owner (slice_get known.task_owners task) reporter) (let made : Sample = record { reporter = reporter; task = task; amount = amount } in Some made) None) (amount_of fields.amount)) (position (bytes_eq fields.task) known.names.tasks)) (position (bytes_eq fields.reporter) known.names.reporters)) sample e in
+    let reporter = bind (position (bytes_eq fields.0.reporter) known.names.reporters) (λ (reporter : ℕ). option_and_then (λ task. option_and_then (λ amount. cond (is_owner (slice_get known.task_owners task) reporter) (let made : Sample = record { reporter = reporter; task = task; amount = amount } in Some made) None) (amount_of fields.0.amount)) (position (bytes_eq fields.0.task) known.names.tasks)) sample fields.2 in
+    let task = bind (position (bytes_eq fields.0.task) known.names.tasks) (λ (task : ℕ). option_and_then (λ amount. cond (is_owner (slice_get known.task_owners task) reporter.0) (let made : Sample = record { reporter = reporter.0; task = task; amount = amount } in Some made) None) (amount_of fields.0.amount)) sample reporter.2 in
     let amount = bind (amount_of fields.0.amount) (λ (amount : ℕ). cond (is_owner (slice_get known.task_owners task.0) reporter.0) (let made : Sample = record { reporter = reporter.0; task = task.0; amount = amount } in Some made) None) sample task.2 in
     let made : Sample = record { reporter = reporter.0; task = task.0; amount = amount.0 } in
     let last = chosen (is_owner (slice_get known.task_owners task.0) reporter.0) made sample amount.2 in
     let held : IsHeld known made = record {
-      task = (position-Some (bytes_eq fields.0.task) known.tasks task.0 [] task.1).0;
-      reporter = (position-Some (bytes_eq fields.0.reporter) known.reporters reporter.0 [] reporter.1).0;
+      task = (position-Some (bytes_eq fields.0.task) known.names.tasks task.0 [] task.1).0;
+      reporter = (position-Some (bytes_eq fields.0.reporter) known.names.reporters reporter.0 [] reporter.1).0;
       owner = owns (slice_get known.task_owners task.0) reporter.0 last.0;
       amount = amount_fits fields.0.amount amount.0 amount.1;
     } in
@@ -63,33 +62,25 @@ sample_held known text sample e =
 
 -- ---- all samples
 
-ok_same : (some found : List Sample) → ◌≡◌ {A = Result (List Sample) ℕ} (Ok some) (Ok found) → some ≡ found
-ok_same some found e = cc
-
 record Kept (known : Known) (room : ℕ) (samples : List Sample) : Type 0 where
   held : All (IsHeld known) samples
   few : length samples ≤ room
 
-sample_on_held : (known : Known) (line : Text) (sample : Sample) → sample_on known line ≡ Some sample → IsHeld known sample
-unfolding sample_on
-sample_on_held known line sample e = let ended = bind (cut_at 10 line) (λ ended. sample_of known ended.before) sample e in sample_held known ended.0.before sample ended.2
-
-read_kept : (known : Known) (room : ℕ) (samples : List Sample) (lines : List Text) (found : List Sample) → Kept known room samples → read_on known room samples lines ≡ Ok found → Kept known room found
-unfolding read_on
-read_kept known room samples [] found kept e = subst (λ (some : List Sample). Kept known room some) (ok_same samples found e) kept
-read_kept known room samples (line ∷ lines) found kept e = by_room (nat_lt (length samples) room) refl (sample_on known line) refl (λ sample more. read_kept known room (samples ++ sample ∷ []) lines found more)
+-- one sample more is held, and there was room for it
+next_kept : (known : Known) (room : ℕ) (samples : List Sample) (line : Text) (sample : Sample) → next_sample known room samples line ≡ Some sample → Kept known room samples → Kept known room (samples ++ sample ∷ [])
+next_kept known room samples line sample e kept = go (nat_lt (length samples) room) refl e
   where
-    by_room : (b : Bool) → nat_lt (length samples) room ≡ b → (o : Option Sample) → sample_on known line ≡ o
-        → ((sample : Sample) → Kept known room (samples ++ sample ∷ []) → read_on known room (samples ++ sample ∷ []) lines ≡ Ok found → Kept known room found) → Kept known room found
-    by_room false h o k rest = absurd (let g : Err (length samples) ≡ Ok found = sym (rw h refl) ∙ e in cc)
-    by_room true h None k rest = absurd (let g : Err (length samples) ≡ Ok found = sym (rw (h, k) refl) ∙ e in cc)
-    by_room true h (Some sample) k rest =
-        rest sample (record { held = All-push (IsHeld known) samples sample kept.held (sample_on_held known line sample k); few = omega (arith, ltb-true (length samples) room h, length-append samples (sample ∷ [])) })
-        (sym (rw (h, k) refl) ∙ e)
+    go : (b : Bool) → nat_lt (length samples) room ≡ b → cond b (sample_of known line) None ≡ Some sample → Kept known room (samples ++ sample ∷ [])
+    go false h is = absurd (let g : None ≡ Some sample = is in cc)
+    go true h is = record {
+      held = All-push (IsHeld known) samples sample kept.held (sample_held known line sample is);
+      few = omega (arith, ltb-true (length samples) room h, length-append samples (sample ∷ []));
+    }
 
-pub samples_kept : (known : Known) (room : ℕ) (part : Text) (found : List Sample) → read_on known room [] (lines_of part) ≡ Ok found → All (IsHeld known) found × (length found ≤ room)
+pub samples_kept : (known : Known) (room : ℕ) (part : Text) (found : List Sample) → items_of (next_sample known room) part ≡ Ok found → All (IsHeld known) found × (length found ≤ room)
 samples_kept known room part found e =
-    let kept = read_kept known room [] (lines_of part) found (record { held = All-nil (IsHeld known); few = omega arith }) e in
+    let none : Kept known room [] = record { held = All-nil (IsHeld known); few = omega arith } in
+    let kept = items_keep (next_sample known room) (Kept known room) (next_kept known room) [] (lines_of part) (left_of part) found none e in
     (kept.held, kept.few)
 
 pub amounts_held : (known : Known) (samples : List Sample) → All (IsHeld known) samples → All (λ sample. sample.amount ≤ MAX_AMOUNT) samples
@@ -115,9 +106,9 @@ reports_hold P known window headroom one before (sample ∷ samples) held =
     (one before sample (All-head (IsHeld known) sample samples held))
     (reports_hold P known window headroom one (before ++ sample ∷ []) samples (All-tail (IsHeld known) sample samples held))
 
-pub reports_fit : (known : Known) (links window headroom : ℕ) (samples : List Sample) → All (IsHeld known) samples → All (IsFit (length known.tasks) links) (reports_behind window headroom [] samples)
+pub reports_fit : (known : Known) (links window headroom : ℕ) (samples : List Sample) → All (IsHeld known) samples → All (IsFit (length known.names.tasks) links) (reports_behind window headroom [] samples)
 reports_fit known links window headroom samples held =
-    reports_hold (IsFit (length known.tasks) links) known window headroom (λ before sample one. (one.task, estimate_fits window headroom (amounts_of sample.task before ++ sample.amount ∷ []))) [] samples held
+    reports_hold (IsFit (length known.names.tasks) links) known window headroom (λ before sample one. (one.task, estimate_fits window headroom (amounts_of sample.task before ++ sample.amount ∷ []))) [] samples held
 
 pub reports_owned : (known : Known) (window headroom : ℕ) (samples : List Sample) → All (IsHeld known) samples → All (IsByOwner known.task_owners) (reports_behind window headroom [] samples)
 reports_owned known window headroom samples held =
@@ -125,13 +116,13 @@ reports_owned known window headroom samples held =
 
 -- ---- of a document
 
-known_tasks : (names : Names) (task_owners : List ℕ) → length (known_by names task_owners).tasks ≡ length names.tasks.items
+known_tasks : (names : Names) (task_owners : List ℕ) → length (known_by names task_owners).names.tasks ≡ length names.tasks.items
 known_tasks names task_owners = length-map {A = String Global} {B = List ℕ} names.tasks.items string_bytes
 
 pub part_held : (known : Known) (names : Names) (task_owners : List ℕ) (room : ℕ) (part : Text) (found : List Sample) → known ≡ known_by names task_owners
-    → read_on known room [] (lines_of part) ≡ Ok found → All (IsHeld (known_by names task_owners)) found × (length found ≤ room)
+    → items_of (next_sample known room) part ≡ Ok found → All (IsHeld (known_by names task_owners)) found × (length found ≤ room)
 part_held known names task_owners room part found is e =
-    samples_kept (known_by names task_owners) room part found (sym (ap (λ (other : Known). read_on other room [] (lines_of part)) is) ∙ e)
+    samples_kept (known_by names task_owners) room part found (sym (ap (λ (other : Known). items_of (next_sample other room) part) is) ∙ e)
 
 pub reports_few : (window headroom room : ℕ) (samples : List Sample) (reports : List Report) → reports ≡ reports_behind window headroom [] samples → length samples ≤ room → length reports ≤ room
 reports_few window headroom room samples reports is few = let same : length reports ≡ length (reports_behind window headroom [] samples) = ap (λ (some : List Report). length some) is in omega (arith, length-reports window headroom [] samples)
@@ -140,7 +131,7 @@ pub fit_all : (names : Names) (task_owners : List ℕ) (links window headroom : 
     → All (IsHeld (known_by names task_owners)) samples → All (IsFit (length names.tasks.items) links) reports
 fit_all names task_owners links window headroom samples reports is held =
     subst (λ (n : ℕ). All (IsFit n links) reports) (known_tasks names task_owners)
-    (subst (λ (some : List Report). All (IsFit (length (known_by names task_owners).tasks) links) some) (sym is) (reports_fit (known_by names task_owners) links window headroom samples held))
+    (subst (λ (some : List Report). All (IsFit (length (known_by names task_owners).names.tasks) links) some) (sym is) (reports_fit (known_by names task_owners) links window headroom samples held))
 
 pub owned_all : (names : Names) (task_owners : List ℕ) (window headroom : ℕ) (samples : List Sample) (reports : List Report) → reports ≡ reports_behind window headroom [] samples
     → All (IsHeld (known_by names task_owners)) samples → All (IsByOwner task_owners) reports

@@ -1,5 +1,3 @@
-pub mod NameFacts
-pub mod DigitFacts
-pub mod LineFacts
 pub mod EstimatorFacts
+pub mod SampleFacts
 pub mod HeldFacts

@@ -1,9 +1,7 @@
-pub mod Names
-pub mod Digits
+pub mod Known
 pub mod SampleLine
 pub mod SampleLines
 pub mod SampleReports
 pub mod Estimators
 pub mod Held
 pub mod RefusalLine
-pub mod KnownView

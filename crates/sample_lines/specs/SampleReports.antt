@@ -4,7 +4,8 @@ use Rattle.bwe_specs.specs.declared.report.Report.{Report}
 use Rattle.bwe_specs.specs.declared.report.Target.TheVariants.{Task}
 use Rattle.demand_estimate.specs.Estimate.{estimate}
 use Rattle.sample_lines.specs.declared.sample.Sample.{Sample}
-use Rattle.sample_lines.specs.SampleLine.{Known, Text}
+use Rattle.sample_lines.specs.Known.{Known}
+use Rattle.sample_lines.specs.SampleLine.{Text}
 use Rattle.sample_lines.specs.SampleLines.{samples_in}
 
 -- the amounts of one task's samples, in order

@@ -1,9 +1,11 @@
 //! The second part of `estimate`: samples of what tasks sent, and the reports of their estimates.
 //!
-//! `estimate_reports` reads the part for the line `estimate`, which appends its reports to the document's script; the line
-//! that `sample_refusal_line` makes is printed for a part at fault. `exact` is the whole of it: the reports, or the first
-//! line at fault (`specs/SampleLine.antt`, `SampleLines.antt` and `SampleReports.antt`). `few`, `fit` and `owned` are the
-//! conditions of the calls that take reports. Each name is hashed once, and once for each line; nothing is promised of time.
+//! `estimate_reports` reads the part for the line `estimate`, which appends its reports to the
+//! document's script; the line that `sample_refusal_line` makes is printed for a part at fault.
+//! `exact` is the whole of it: the reports, or the first line at fault (`specs/SampleLine.antt`,
+//! `SampleLines.antt` and `SampleReports.antt`). `few`, `fit` and `owned` are the conditions of the
+//! calls that take reports. Lines, names and numbers are cut by `text_scan`. Each name is hashed
+//! once, and once for each line; nothing is promised of time.
 #![tactic(auto)]
 
 ghost use Rattle.std.specs.Prelude.{◌≡◌, ◌-◌, ◌≤◌, ℕ, All, IfOk, length};
@@ -11,15 +13,12 @@ ghost use Rattle.bwe_specs.specs.declared.limits.TheConstants.{MAX_REPORTS};
 ghost use Rattle.demand_book.specs.Fit.{IsFit};
 ghost use Rattle.demand_estimate.specs.declared.TheConstants.{MAX_WINDOW, MIN_HEADROOM, MAX_HEADROOM};
 ghost use Rattle.sample_lines.specs.Held.{IsByOwner};
-ghost use Rattle.sample_lines.specs.KnownView.{known_by};
+ghost use Rattle.sample_lines.specs.Known.{known_by};
 ghost use Rattle.sample_lines.specs.SampleLines.{Answers};
 ghost use Rattle.sample_lines.specs.SampleReports.{reports_in};
 
-mod amount;
-mod cut;
 mod error;
 mod lines;
-mod names;
 mod refusal_line;
 mod reports;
 mod sample;

@@ -1,30 +1,17 @@
 //! All lines of samples, up to the first at fault.
 
-ghost use Rattle.std.specs.Prelude.{◌≡◌, ◌<◌, [], length, IfSome};
+ghost use Rattle.std.specs.Prelude.{◌≡◌};
+ghost use Rattle.text_scan.specs.Items.{items_of};
 ghost use Rattle.sample_lines.specs.SampleLines as spec;
 
-use crate::cut::cut_at;
 use crate::error::SampleError;
 use crate::sample::{Known, Sample};
 use std::alloc::Global;
-use std::marker::Model;
+use text_scan::Lines;
 
-// The sample of the first line of some bytes, and the bytes behind that line.
-#[derive(Drop)]
-struct FirstLine<'a> {
-    sample: Sample,
-    more: &'a [u8],
-}
-
-impl<'a> Model for FirstLine<'a> {
-    ghost use Rattle.sample_lines.specs.SampleLines.{First};
-
-    ghost Value = { First };
-
-    ghost view = { λ line. record { sample = line.sample; more = line.more.now } };
-}
-
-/// The samples of the lines, where there is room for so many, or the number of the first line at fault.
+/// The samples of the lines, where there is room for so many, or the number of the first line at
+/// fault. A last line that no line feed ends is at fault.
+#[tactic(auto, using(text_scan::proofs::ItemFacts::ends, text_scan::proofs::ItemFacts::ends_open))]
 pub(crate) fn read_samples(
     alloc: Global,
     known: &Known,
@@ -32,35 +19,35 @@ pub(crate) fn read_samples(
     part: &[u8],
 ) -> Result<Vec<Sample>, SampleError>
     ensures { spec.Answers (λ samples. samples.items) result
-        (spec.read_on known.now room [] (spec.lines_of part.now)) }
+        (items_of (spec.next_sample known.now room) part.now) }
 {
     let mut samples = Vec::new(alloc);
-    let mut rest = part;
-    while !rest.is_empty() {
-        let number = samples.len() as u64;
-        match first_line(known, number < room, rest) {
-            Some(line) => {
-                samples.push(line.sample)?;
-                rest = line.more;
+    let mut rest = Lines::new(part);
+    'lines: while let Some(line) = rest.next_line() {
+        match next_sample(known, room, &samples, line) {
+            Some(sample) => samples.push(sample)?,
+            None => {
+                return Err(SampleError::Refused {
+                    line: samples.len() as u64,
+                });
             }
-            None => return Err(SampleError::Refused { line: number }),
         }
     }
-    Ok(samples)
+    if rest.is_empty() {
+        Ok(samples)
+    } else {
+        Err(SampleError::Refused {
+            line: samples.len() as u64,
+        })
+    }
 }
 
-#[tactic(auto, unfolding(crate::specs::SampleLines::first_line))]
-fn first_line<'a>(known: &Known, has_room: bool, part: &'a [u8]) -> Option<FirstLine<'a>>
-    ensures exact { result ≡ spec.first_line known.now has_room part.now }
-    ensures shorter { IfSome result (λ line. length line.more < length part.now) }
+// The sample of the next line, where there is room for one more.
+fn next_sample(known: &Known, room: u64, before: &[Sample], line: &[u8]) -> Option<Sample>
+    ensures { result ≡ spec.next_sample known.now room before.now line.now }
 {
-    let cut = cut_at(b'\n', part)?;
-    if !has_room {
+    if before.len() as u64 >= room {
         return None;
     }
-    let sample = known.sample(cut.before)?;
-    Some(FirstLine {
-        sample,
-        more: cut.behind,
-    })
+    known.sample(line)
 }

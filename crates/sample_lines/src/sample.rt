@@ -1,16 +1,14 @@
 //! One line of samples.
 
-ghost use Rattle.std.specs.Prelude.{◌≡◌, ◌≤◌, IfOk, IfSome};
+ghost use Rattle.std.specs.Prelude.{◌≡◌, IfOk, slice_get};
 ghost use Rattle.sample_lines.specs.SampleLine as spec;
-ghost use Rattle.sample_lines.specs.KnownView.{known_by};
+ghost use Rattle.sample_lines.specs.Known.{known_by};
 
-use crate::amount::amount_in;
-use crate::cut::cut_at;
-use crate::names::NameNumbers;
 use bwe_specs::OutOfMemory;
 use doc_names::Names;
 use std::alloc::Global;
 use std::marker::Model;
+use text_scan::{NameIndex, amount_in_range, cut_at, printed_number_of};
 
 /// What a task sent, in kilobits per second, as its owner told it.
 #[derive(Clone, Copy, Debug, PartialEq, Eq, Drop)]
@@ -20,23 +18,31 @@ pub struct Sample {
     pub amount: u64,
 }
 
-/// The names of a document's tasks and reporters, and who owns each task.
+/// The names of a document, and the number of each task's owner.
 #[derive(Drop)]
 pub(crate) struct Known<'a> {
-    tasks: NameNumbers<'a>,
-    reporters: NameNumbers<'a>,
+    names: &'a Names,
     task_owners: &'a [u32],
+    reporters: NameIndex,
+    tasks: NameIndex,
 }
 
 impl<'a> Model for Known<'a> {
-    ghost use Rattle.sample_lines.specs.SampleLine.{Known};
+    ghost use Rattle.doc_names.specs.NameTexts.{texts_of};
+    ghost use Rattle.text_scan.specs.Names.{IsIndexOf};
+    ghost use Rattle.sample_lines.specs.Known.{Known, known_by};
 
     ghost Value = { Known };
 
-    ghost view = { λ known. record { tasks = known.tasks; reporters = known.reporters; task_owners = known.task_owners.now } };
+    ghost view = { λ known. known_by known.names.now known.task_owners.now };
+
+    ghost invariant = { λ known.
+        IsIndexOf (texts_of known.names.now).reporters known.reporters
+        × IsIndexOf (texts_of known.names.now).tasks known.tasks };
 }
 
 impl<'a> Known<'a> {
+    /// Takes about the time of one hash for each name of a reporter or task, and one copy of each.
     pub(crate) fn new(
         alloc: Global,
         names: &'a Names,
@@ -44,10 +50,13 @@ impl<'a> Known<'a> {
     ) -> Result<Known<'a>, OutOfMemory>
         ensures { IfOk result (λ known. known ≡ known_by names.now task_owners.now) }
     {
+        let reporters = NameIndex::new(alloc, &names.reporters)?;
+        let tasks = NameIndex::new(alloc, &names.tasks)?;
         Ok(Known {
-            tasks: NameNumbers::new(alloc, &names.tasks)?,
-            reporters: NameNumbers::new(alloc, &names.reporters)?,
+            names,
             task_owners,
+            reporters,
+            tasks,
         })
     }
 
@@ -57,10 +66,10 @@ impl<'a> Known<'a> {
         ensures { result ≡ spec.sample_of self.now text.now }
     {
         let fields = fields_of(text)?;
-        let reporter = self.reporters.number(fields.reporter)?;
-        let task = self.tasks.number(fields.task)?;
-        let amount = amount_in(fields.amount)?;
-        if !is_owner(self.task_owners.get(task as usize).copied(), reporter) {
+        let reporter = self.reporters.number_of_bytes(fields.reporter)?;
+        let task = self.tasks.number_of_bytes(fields.task)?;
+        let amount = amount_of(fields.amount)?;
+        if !is_owner(owner_of(self.task_owners, task), reporter) {
             return None;
         }
         Some(Sample {
@@ -98,6 +107,19 @@ fn fields_of(text: &[u8]) -> Option<Fields<'_>>
         task: second.before,
         amount: second.behind,
     })
+}
+
+#[tactic(auto, unfolding(crate::specs::SampleLine::amount_of))]
+fn amount_of(digits: &[u8]) -> Option<u64>
+    ensures { result ≡ spec.amount_of digits.now }
+{
+    amount_in_range(printed_number_of(digits)?)
+}
+
+fn owner_of(task_owners: &[u32], task: u32) -> Option<u32>
+    ensures { result ≡ slice_get task_owners.now task }
+{
+    task_owners.get(task as usize).copied()
 }
 
 fn is_owner(owner: Option<u32>, reporter: u32) -> bool

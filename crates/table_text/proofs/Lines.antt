@@ -4,7 +4,8 @@ use Rattle.std.proofs.lemmas.List.{flat_map_more, map-id}
 use Rattle.std.proofs.lemmas.List.FromFn.{map-range_with_len_more}
 use Rattle.bwe_specs.specs.Reports.{numbers}
 
-numbers-more : (n : ℕ) → numbers n ++ n ∷ [] ≡ numbers (n + 1)
+-- the numbers below the next one
+pub numbers-more : (n : ℕ) → numbers n ++ n ∷ [] ≡ numbers (n + 1)
 numbers-more n =
     ap (λ list. list ++ n ∷ []) (sym (map-id (numbers n))) ∙ sym (map-range_with_len_more (λ x. x) 0 n n (omega arith)) ∙ map-id (numbers (n + 1))
 

@@ -4,7 +4,8 @@ use Rattle.bwe_specs.specs.declared.network.Cause.{Cause}
 use Rattle.bwe_specs.specs.declared.network.Cause.TheVariants.{NoSuchLink, Reclosed, ShareFalls, ShareAtTop, OverBefore, FitsAfter, LowerLink, OverAtTop}
 use Rattle.bwe_specs.specs.declared.network.Verdict.{Verdict}
 use Rattle.bwe_specs.specs.declared.network.Verdict.TheVariants.{Right, Wrong}
-use Rattle.table_text.specs.TableText.{NameTexts, name_at}
+use Rattle.doc_names.specs.NameTexts.{NameTexts}
+use Rattle.table_text.specs.TableText.{name_at}
 
 -- what is wrong
 unfoldable pub cause_text : NameTexts → Cause → List ℕ

@@ -1,23 +1,9 @@
 -- The text of a table, line by line. A text is the list of its bytes.
-use Rattle.std.specs.Prelude.{ℕ, ◌++◌, List, [], length, map, flat_map, slice_index, slice_index_or, sum_by, codes, decimal, string_bytes, Option, Some, None}
+use Rattle.std.specs.Prelude.{ℕ, ◌++◌, List, [], length, flat_map, slice_index, slice_index_or, sum_by, codes, decimal, Option, Some, None}
 use Rattle.bwe_specs.specs.declared.network.Closing.{Closing}
 use Rattle.bwe_specs.specs.Allocation.{Table, GroupLine, PlaceLine}
 use Rattle.bwe_specs.specs.Reports.{numbers}
-use Rattle.doc_names.specs.declared.Names.{Names}
-
--- the names that a text prints, each list in the order of the numbers
-pub record NameTexts : Type 0 where
-  pub links : List (List ℕ)
-  pub groups : List (List ℕ)
-  pub tasks : List (List ℕ)
-
--- the texts of names
-abbrev pub texts_of : Names → NameTexts
-texts_of names = record {
-  links = map string_bytes names.links.items;
-  groups = map string_bytes names.groups.items;
-  tasks = map string_bytes names.tasks.items;
-}
+use Rattle.doc_names.specs.NameTexts.{NameTexts}
 
 -- the name of this number; an empty text where there is no such name
 abbrev pub name_at : List (List ℕ) → ℕ → List ℕ
@@ -28,10 +14,14 @@ abbrev pub closing_line : NameTexts → Closing → List ℕ
 closing_line names closing =
     codes "closing " ++ name_at names.links closing.link ++ codes " at " ++ decimal closing.share ++ codes "\n"
 
+-- a word, the name of a number, a second word, and what the number has
+abbrev pub value_line : List ℕ → List ℕ → List (List ℕ) → List ℕ → ℕ → List ℕ
+value_line word between names values number =
+    word ++ name_at names number ++ between ++ decimal (slice_index values number) ++ codes "\n"
+
 -- a link's load
 abbrev pub link_line : NameTexts → List ℕ → ℕ → List ℕ
-link_line names loads link =
-    codes "link " ++ name_at names.links link ++ codes " load " ++ decimal (slice_index loads link) ++ codes "\n"
+link_line names loads link = value_line (codes "link ") (codes " load ") names.links loads link
 
 -- whether a path group is open, or the link that closed it
 unfoldable pub closed_text : NameTexts → Option ℕ → List ℕ
@@ -53,15 +43,18 @@ group_lines names lines group =
 
 -- a task's limit
 abbrev pub task_line : NameTexts → List ℕ → ℕ → List ℕ
-task_line names limits task =
-    codes "task " ++ name_at names.tasks task ++ codes " limit " ++ decimal (slice_index limits task) ++ codes "\n"
+task_line names limits task = value_line (codes "task ") (codes " limit ") names.tasks limits task
+
+-- a text, and behind it the lines of all links, groups and tasks, and what the groups get together
+abbrev pub with_limits : NameTexts → List ℕ → List GroupLine → List ℕ → List ℕ → List ℕ
+with_limits names loads groups limits text =
+    text ++ flat_map (link_line names loads) (numbers (length loads))
+    ++ flat_map (group_lines names groups) (numbers (length groups))
+    ++ flat_map (task_line names limits) (numbers (length limits))
+    ++ codes "total " ++ decimal (sum_by (λ line. line.amount) groups) ++ codes "\n"
 
 -- the whole text
 unfoldable pub text_of : NameTexts → Table → List ℕ
 text_of names table =
-    codes "table " ++ decimal table.prefix ++ codes "\n"
-    ++ flat_map (closing_line names) table.closings
-    ++ flat_map (link_line names table.loads) (numbers (length table.loads))
-    ++ flat_map (group_lines names table.groups) (numbers (length table.groups))
-    ++ flat_map (task_line names table.limits) (numbers (length table.limits))
-    ++ codes "total " ++ decimal (sum_by (λ line. line.amount) table.groups) ++ codes "\n"
+    with_limits names table.loads table.groups table.limits
+    (codes "table " ++ decimal table.prefix ++ codes "\n" ++ flat_map (closing_line names) table.closings)

@@ -3,13 +3,14 @@
 ghost use Rattle.std.specs.Prelude.{◌≡◌, IfOk};
 ghost use Rattle.table_text.specs.BulkText.{bulk_text_of};
 
-use crate::line::push_line;
+use crate::line::end_with_number;
 use crate::table::total;
 use bwe_specs::OutOfMemory;
 use limit_table::LimitTable;
 use std::alloc::Global;
 
-/// The summary of the table of a document that has so many groups and tasks ("Bulk text", docs/FORMAT.md).
+/// The summary of the table of a document that has so many groups and tasks ("Bulk text",
+/// docs/FORMAT.md).
 #[tactic(auto, unfolding(crate::specs::BulkText::bulk_text_of))]
 pub fn bulk_text(
     alloc: Global,
@@ -20,9 +21,9 @@ pub fn bulk_text(
     ensures { IfOk result (λ text. text.items ≡ bulk_text_of groups tasks table.now) }
 {
     let mut text = String::new(alloc);
-    push_line(alloc, &mut text, "groups ", u64::from(groups))?;
-    push_line(alloc, &mut text, "tasks ", u64::from(tasks))?;
-    push_line(alloc, &mut text, "closings ", table.closings.len() as u64)?;
-    push_line(alloc, &mut text, "total ", total(&table.groups))?;
+    end_with_number(&mut text, "groups ", u64::from(groups))?;
+    end_with_number(&mut text, "tasks ", u64::from(tasks))?;
+    end_with_number(&mut text, "closings ", table.closings.len() as u64)?;
+    end_with_number(&mut text, "total ", total(&table.groups))?;
     Ok(text.into_bytes())
 }

@@ -2,9 +2,9 @@
 
 ghost use Rattle.std.specs.Prelude.{◌≡◌, ◌++◌, IfOk, OnOk, string_bytes};
 ghost use Rattle.table_text.specs.CheckText.{cause_text, verdict_line};
-ghost use Rattle.table_text.specs.TableText.{texts_of};
+ghost use Rattle.doc_names.specs.NameTexts.{texts_of};
 
-use crate::line::{push_word_and_name, push_word_and_number};
+use crate::line::name_of;
 use bwe_specs::{Cause, OutOfMemory, Verdict};
 use doc_names::Names;
 use std::alloc::{AllocError, Global};
@@ -16,25 +16,19 @@ pub fn check_text(alloc: Global, verdict: &Verdict, names: &Names) -> Result<Vec
     ensures { IfOk result (λ text. text.items ≡ verdict_line (texts_of names.now) verdict.now) }
 {
     let mut text = String::new(alloc);
-    push_verdict(alloc, &mut text, names, *verdict)?;
+    push_verdict(&mut text, names, *verdict)?;
     Ok(text.into_bytes())
 }
 
 #[tactic(auto, unfolding(crate::specs::CheckText::verdict_line))]
-fn push_verdict(
-    alloc: Global,
-    text: &mut String,
-    names: &Names,
-    verdict: Verdict,
-) -> Result<(), AllocError>
+fn push_verdict(text: &mut String, names: &Names, verdict: Verdict) -> Result<(), AllocError>
     ensures { OnOk result
         (string_bytes text.new ≡ string_bytes text.old ++ verdict_line (texts_of names.now) verdict) }
 {
     match verdict {
         Verdict::Right => text.push_str("right\n"),
         Verdict::Wrong { at, cause } => {
-            push_word_and_number(alloc, text, "wrong at ", at)?;
-            text.push_str(": ")?;
+            write!(text, "wrong at {at}: ")?;
             push_cause(text, names, cause)?;
             text.push_str("\n")
         }
@@ -52,17 +46,17 @@ fn push_cause(text: &mut String, names: &Names, cause: Cause) -> Result<(), Allo
         Cause::ShareFalls => text.push_str("share falls"),
         Cause::ShareAtTop => text.push_str("share at top"),
         Cause::OverBefore { link } => {
-            push_word_and_name(text, "link ", &names.links, link)?;
-            text.push_str(" is over at the share")
+            let link = name_of(&names.links, link);
+            write!(text, "link {link} is over at the share")
         }
         Cause::FitsAfter => text.push_str("link fits at the next share"),
         Cause::LowerLink { link } => {
-            push_word_and_name(text, "lower link ", &names.links, link)?;
-            text.push_str(" is over")
+            let link = name_of(&names.links, link);
+            write!(text, "lower link {link} is over")
         }
         Cause::OverAtTop { link } => {
-            push_word_and_name(text, "link ", &names.links, link)?;
-            text.push_str(" is over at top")
+            let link = name_of(&names.links, link);
+            write!(text, "link {link} is over at top")
         }
     }
 }

@@ -1,4 +1,6 @@
+pub mod CutFacts
 pub mod NumberFacts
 pub mod WordFacts
 pub mod LineFacts
 pub mod NameFacts
+pub mod ItemFacts

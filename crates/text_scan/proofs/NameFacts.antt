@@ -1,16 +1,19 @@
 -- The numbers of names, as one name more is numbered.
-use Rattle.std.proofs.Common.{◌≡◌, ℕ, ◌+◌, ◌<◌, ◌≤◌, Bool, true, false, cond, List, [], ◌∷◌, ◌++◌, length, get_or, take, map, Option, Some, None, String, Global, HashMap, BuildHasherDefault, string_bytes, refl, sym, ap, ◌∙◌, arith, add-one}
-use Rattle.std.specs.Prelude.{position, is_some}
+use Rattle.std.proofs.Common.{◌≡◌, ℕ, ◌+◌, ◌<◌, ◌≤◌, Bool, true, false, cond, List, [], ◌∷◌, ◌++◌, length, get_or, take, map, Option, Some, None, String, Global, HashMap, BuildHasherDefault, string_bytes, refl, sym, ap, subst, ◌∙◌, arith, add-one}
+use Rattle.std.specs.Prelude.{position, is_some, All}
 use Rattle.std.specs.HashMap.{get_by_text, UpdatesBy}
 use Rattle.std.specs.List.{position_from}
 use Rattle.std.specs.Option.{option_or}
-use Rattle.std.specs.Str.{bytes_eq}
+use Rattle.std.specs.Str.{bytes_eq, IsUtf8}
 use Rattle.std.specs.declared.hash.FoldHasher.{FoldHasher}
 use Rattle.std.proofs.Math.Seq.{take-suc}
 use Rattle.std.proofs.lemmas.Iterator.Adapters.{position_from-zero}
 use Rattle.std.proofs.lemmas.List.{map_push, take-map, length-map, length-take-le, take_all as whole}
+use Rattle.std.proofs.lemmas.List.Elements.{All-nil, All-cons}
+use Rattle.std.proofs.lemmas.List.Quantifiers.{position-Some}
 use Rattle.std.proofs.lemmas.Map.Text.{hash_map_updates_text}
 use Rattle.std.proofs.lemmas.Slice.Eq.{bytes_eq-Decides}
+use Rattle.std.proofs.lemmas.Str.{IsUtf8-string_bytes}
 use Rattle.std.specs.String.{string_eq}
 use Rattle.text_scan.specs.Names.{number_of_name}
 
@@ -103,3 +106,19 @@ take_all names i l = take-map string_bytes i names ∙ ap (λ (some : List (Stri
 
 pub length_before : (names : List (String Global)) (i : ℕ) → i < length names → length (take i (map string_bytes names)) ≡ i
 length_before names i l = length-take-le i (map string_bytes names) (omega (arith, length-map {A = String Global} {B = List ℕ} names))
+
+-- ---- a name of bytes
+
+are_text : (names : List (String Global)) → All IsUtf8 (map string_bytes names)
+are_text [] = All-nil IsUtf8
+are_text (name ∷ names) = All-cons IsUtf8 (string_bytes name) (map string_bytes names) (IsUtf8-string_bytes name) (are_text names)
+
+-- bytes that are no UTF-8 are no name
+pub no_number : (names : List (String Global)) (name : Text) → (IsUtf8 name → ⊥) → None ≡ number_of_name (map string_bytes names) name
+no_number names name none = go (position (bytes_eq name) (map string_bytes names)) refl
+  where
+    go : (o : Option ℕ) → position (bytes_eq name) (map string_bytes names) ≡ o → None ≡ number_of_name (map string_bytes names) name
+    go None e = sym e
+    go (Some place) e =
+        let found = position-Some (bytes_eq name) (map string_bytes names) place [] e in
+        absurd (none (subst IsUtf8 (sym (same_name name (get_or (map string_bytes names) place []) found.1)) (are_text names place [] found.0)))

@@ -1,8 +1,10 @@
 -- A list that is cut at the first element that passes, and the words of a line.
-use Rattle.std.proofs.Common.{◌≡◌, ℕ, suc, ◌+◌, ◌<◌, Bool, true, false, List, [], ◌∷◌, length, refl, arith, cond, not, ap, ◌∙◌, ◌==◌}
+use Rattle.std.proofs.Common.{◌≡◌, ℕ, suc, ◌+◌, ◌<◌, Bool, true, false, List, [], ◌∷◌, length, Some, None, refl, arith, cond, not, ap, ◌∙◌, ◌==◌}
 use Rattle.std.specs.List.{slice_split, onto_first, position_or_len, before_first, after_first}
 use Rattle.std.proofs.lemmas.List.Splits.{slice_split_first, slice_split-cons_no}
+use Rattle.text_scan.specs.Cuts.{Cut, cut_at}
 use Rattle.text_scan.specs.Words.{words_of}
+use Rattle.text_scan.proofs.CutFacts.{is_cut, no_cut}
 
 abbrev is_space : ℕ → Bool
 is_space byte = byte == 32
@@ -29,3 +31,13 @@ word_next line word rest within before behind = slice_split_first is_space line 
 pub word_last : (line : List ℕ) → position_or_len is_space line ≡ length line → words_of line ≡ line ∷ []
 unfolding words_of
 word_last line end = whole is_space line end
+
+-- ---- as a cut says it
+
+pub word_cut : (line : List ℕ) (cut : Cut) → Some cut ≡ cut_at 32 line → words_of line ≡ cut.before ∷ words_of cut.behind
+word_cut line cut e =
+    let is = is_cut 32 line cut e in
+    word_next line cut.before cut.behind is.within is.before is.behind
+
+pub word_uncut : (line : List ℕ) → None ≡ cut_at 32 line → words_of line ≡ line ∷ []
+word_uncut line e = word_last line (no_cut 32 line e)

@@ -3,3 +3,4 @@ pub mod Words
 pub mod Lines
 pub mod Cuts
 pub mod Names
+pub mod Items

@@ -2,6 +2,7 @@
 use Rattle.std.specs.Prelude.{ℕ, Bool, ◌&&◌, ◌==◌, List, length, slice_index, Option, Some, None, if◌then◌else◌, nat_le, nat_lt}
 use Rattle.std.specs.Str.{all_ascii_digits}
 use Rattle.std.specs.Str.Parse.{digits_value}
+use Rattle.bwe_specs.specs.declared.limits.TheConstants.{MAX_AMOUNT}
 
 -- one to 20 ASCII digits, the first of which may be zeros
 abbrev pub is_number : List ℕ → Bool
@@ -19,3 +20,7 @@ is_padded text = nat_lt 1 (length text) && (slice_index text 0 == 48)
 -- the number of a text that is written as texts print a number: without leading zeros
 unfoldable pub printed_number_of : List ℕ → Option ℕ
 printed_number_of text = if is_padded text then None else number_of text
+
+-- the number as an amount, where it is not above the greatest
+abbrev pub amount_in_range : ℕ → Option ℕ
+amount_in_range number = if nat_le number MAX_AMOUNT then Some number else None

@@ -1,7 +1,7 @@
 //! Names, each with its number.
 
-ghost use Rattle.std.specs.Prelude.{◌≡◌, ℕ, List, map, string_bytes, IfOk};
-ghost use Rattle.text_scan.specs.Names.{number_in, number_of_name};
+ghost use Rattle.std.specs.Prelude.{◌≡◌, map, string_bytes, IfOk};
+ghost use Rattle.text_scan.specs.Names.{number_in, IsIndexOf, IsNumberOf};
 
 use bwe_specs::OutOfMemory;
 use std::alloc::Global;
@@ -16,8 +16,7 @@ pub struct NameIndex {
 impl NameIndex {
     /// Numbers the names. Takes about the time of one hash for each, and keeps a copy of each.
     pub fn new(alloc: Global, names: &[String]) -> Result<NameIndex, OutOfMemory>
-        ensures { IfOk result (λ index.
-            (name : List ℕ) → number_in index name ≡ number_of_name (map string_bytes names.now) name) }
+        ensures { IfOk result (IsIndexOf (map string_bytes names.now)) }
     {
         let mut numbers = HashMap::new(alloc);
         for (number, name) in names.iter().enumerate() {
@@ -36,5 +35,15 @@ impl NameIndex {
         ensures { result ≡ number_in self.now name.now }
     {
         self.numbers.get(name).copied()
+    }
+
+    /// The number of a name of bytes, `None` where it does not stand, as where it is no UTF-8.
+    pub fn number_of_bytes(&self, name: &[u8]) -> Option<u32>
+        ensures { IsNumberOf self.now name.now result }
+    {
+        match std::str::from_utf8(name) {
+            Ok(name) => self.number(name),
+            Err(_) => None,
+        }
     }
 }

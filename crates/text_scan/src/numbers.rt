@@ -1,8 +1,11 @@
 //! The numbers that digits are.
 
-ghost use Rattle.std.specs.Prelude.{◌≡◌, true};
+ghost use Rattle.std.specs.Prelude.{◌≡◌, ◌≤◌, true, IfSome};
 ghost use Rattle.std.specs.Str.{all_ascii_digits};
+ghost use Rattle.bwe_specs.specs.declared.limits.TheConstants.{MAX_AMOUNT};
 ghost use Rattle.text_scan.specs.Numbers as spec;
+
+use bwe_specs::MAX_AMOUNT;
 
 /// Whether the text is one to 20 ASCII digits. Leading zeros are allowed, and so are numbers above 64 bits.
 pub fn is_number(text: &[u8]) -> bool
@@ -31,6 +34,17 @@ pub fn printed_number_of(text: &[u8]) -> Option<u64>
         return None;
     }
     number_of(text)
+}
+
+/// The number as an amount in kb/s, `None` where it is above `MAX_AMOUNT`.
+pub fn amount_in_range(number: u64) -> Option<u64>
+    ensures exact { result ≡ spec.amount_in_range number }
+    ensures range { IfSome result (λ amount. amount ≤ MAX_AMOUNT) }
+{
+    if number > MAX_AMOUNT {
+        return None;
+    }
+    Some(number)
 }
 
 fn are_digits(text: &[u8]) -> bool

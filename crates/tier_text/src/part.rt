@@ -5,7 +5,6 @@ ghost use Rattle.tier_text.specs.TierPart.{TellsFault, is_due, is_tier_digit, pa
 
 use bwe_specs::OutOfMemory;
 use std::alloc::{AllocFailed, Global};
-use table_text::push_word_and_number;
 use thiserror::Error;
 
 /// Why a part gives no tiers.
@@ -50,10 +49,7 @@ pub fn read_tiers(alloc: Global, part: &[u8], groups: u32) -> Result<Vec<u8>, Ti
 pub fn refused_tiers(alloc: Global, at: u64) -> Result<Vec<u8>, OutOfMemory>
     ensures { IfOk result (λ line. line.items ≡ tiers_line at) }
 {
-    let mut line = String::new(alloc);
-    push_word_and_number(alloc, &mut line, "refused 15 tiers at byte ", at)?;
-    line.push_str("\n")?;
-    Ok(line.into_bytes())
+    Ok(format!(in alloc; "refused 15 tiers at byte {at}\n")?.into_bytes())
 }
 
 // The first place at which the part has not what is due there.

@@ -2,53 +2,43 @@
 
 ghost use Rattle.std.specs.Prelude.{◌≡◌, ◌++◌, ◌<◌, IfOk, OnOk, flat_map, length, map, string_bytes};
 ghost use Rattle.bwe_specs.specs.Reports.{numbers};
-ghost use Rattle.table_text.specs.TableText.{texts_of};
+ghost use Rattle.doc_names.specs.NameTexts.{texts_of};
 ghost use Rattle.tiers.specs.Fillings.{lists_in};
 ghost use Rattle.tier_text.specs.TierText.{tier_lines, tier_text_of};
 
 use bwe_specs::{Closing, OutOfMemory};
 use doc_names::Names;
 use std::alloc::{AllocError, Global};
-use table_text::{push_closings, push_groups, push_links, push_tasks, push_word_and_number, total};
+use table_text::{end_with_number, push_closings, push_limits};
 use tiers::TierTable;
 
 /// The text of the table, with the names of its links, groups and tasks.
 ///
-/// A number that has no name is printed as an empty text; the names of a document have one for each number of its tables.
+/// A number that has no name is printed as an empty text; the names of a document have one for each
+/// number of its tables.
 #[tactic(auto, unfolding(crate::specs::TierText::tier_text_of))]
 pub fn tier_text(alloc: Global, table: &TierTable, names: &Names) -> Result<Vec<u8>, OutOfMemory>
     ensures { IfOk result (λ text. text.items ≡ tier_text_of (texts_of names.now) table.now) }
 {
     let mut text = String::new(alloc);
-    push_word_and_number(alloc, &mut text, "tiers ", table.prefix)?;
-    text.push_str("\n")?;
-    push_tiers(alloc, &mut text, names, &table.tiers)?;
-    push_links(alloc, &mut text, names, &table.loads)?;
-    push_groups(alloc, &mut text, names, &table.groups)?;
-    push_tasks(alloc, &mut text, names, &table.limits)?;
-    push_word_and_number(alloc, &mut text, "total ", total(&table.groups))?;
-    text.push_str("\n")?;
+    end_with_number(&mut text, "tiers ", table.prefix)?;
+    push_tiers(&mut text, names, &table.tiers)?;
+    push_limits(&mut text, names, &table.loads, &table.groups, &table.limits)?;
     Ok(text.into_bytes())
 }
 
 #[tactic(auto, using(table_text::proofs::Lines::one_line_more))]
-fn push_tiers(
-    alloc: Global,
-    text: &mut String,
-    names: &Names,
-    tiers: &[Vec<Closing>],
-) -> Result<(), AllocError>
+fn push_tiers(text: &mut String, names: &Names, tiers: &[Vec<Closing>]) -> Result<(), AllocError>
     ensures { OnOk result
         (string_bytes text.new ≡ string_bytes text.old ++ flat_map (tier_lines (texts_of names.now) (lists_in tiers.now)) (numbers (length (lists_in tiers.now)))) }
 {
     for tier in 0..tiers.len() {
-        push_tier(alloc, text, names, tiers, tier)?;
+        push_tier(text, names, tiers, tier)?;
     }
     Ok(())
 }
 
 fn push_tier(
-    alloc: Global,
     text: &mut String,
     names: &Names,
     tiers: &[Vec<Closing>],
@@ -58,7 +48,6 @@ fn push_tier(
     ensures { OnOk result
         (string_bytes text.new ≡ string_bytes text.old ++ tier_lines (texts_of names.now) (lists_in tiers.now) tier) }
 {
-    push_word_and_number(alloc, text, "tier ", tier as u64)?;
-    text.push_str("\n")?;
-    push_closings(alloc, text, names, &tiers[tier])
+    end_with_number(text, "tier ", tier as u64)?;
+    push_closings(text, names, &tiers[tier])
 }

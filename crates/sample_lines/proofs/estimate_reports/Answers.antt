@@ -2,7 +2,7 @@ use Rattle.std.proofs.Common.{◌≤◌, [], List, arith, ◌∙◌, ap, subst, 
 use Rattle.std.specs.Prelude.{All}
 use Rattle.bwe_specs.specs.declared.limits.TheConstants.{MAX_AMOUNT}
 use Rattle.sample_lines.specs.declared.sample.Sample.{Sample}
-use Rattle.sample_lines.specs.KnownView.{known_by}
+use Rattle.sample_lines.specs.Known.{known_by}
 use Rattle.sample_lines.specs.SampleReports.{reports_behind}
 use Rattle.sample_lines.proofs.HeldFacts.{part_held, amounts_held, reports_few, fit_all, owned_all}
 use Rattle.sample_lines.proofs.estimate_reports.Goals as goal

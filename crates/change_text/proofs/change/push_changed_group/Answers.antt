@@ -1,5 +1,6 @@
 use Rattle.std.proofs.Common.{rules, arith, string_bytes, sym, ◌∙◌}
-use Rattle.table_text.specs.TableText.{group_lines, texts_of}
+use Rattle.doc_names.specs.NameTexts.{texts_of}
+use Rattle.table_text.specs.TableText.{group_lines}
 use Rattle.change_text.proofs.ChangeFacts.{nothing_put, other_texts, piece_put, same_group, same_texts}
 use Rattle.change_text.proofs.change.push_changed_group.Goals as goal
 

@@ -1,8 +1,8 @@
 use Rattle.std.proofs.Common.{◌≡◌, ◌<◌, get_or, length, ◌∙◌, arith}
 use Rattle.std.proofs.lemmas.List.{get_or_default}
 use Rattle.enforcer_core.specs.World.{rows_of}
-use Rattle.event_lines.specs.declared.EventLine.{EventLine}
-use Rattle.event_lines.specs.declared.EventLine.TheVariants.{Post}
+use Rattle.enforce_run.specs.declared.event.EventLine.{EventLine}
+use Rattle.enforce_run.specs.declared.event.EventLine.TheVariants.{Post}
 use Rattle.enforce_run.specs.Playing.{played_of}
 use Rattle.enforce_run.proofs.Plays.{at_end, counted_more, played_more, rest_there, script_same, tasks_more}
 use Rattle.enforce_run.proofs.play.play.Goals as goal

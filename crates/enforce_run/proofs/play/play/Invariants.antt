@@ -1,5 +1,5 @@
 use Rattle.std.proofs.Common.{◌≡◌, drop, length, take}
-use Rattle.event_lines.specs.EventLines.{AreThere}
+use Rattle.enforce_run.specs.EventLines.{AreThere}
 use Rattle.enforcer_core.specs.World.{rows_of}
 use Rattle.enforce_run.specs.Playing.{IsOnScript, played_from, played_of}
 use Rattle.enforce_run.proofs.Plays.{IsCounted}

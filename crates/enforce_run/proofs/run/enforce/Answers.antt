@@ -2,7 +2,7 @@ use Rattle.std.proofs.Common.{◌≡◌, ℕ, [], Vec, length, sym, subst, arith
 use Rattle.std.specs.declared.alloc.Global.{Global}
 use Rattle.std.proofs.lemmas.List.{length-map}
 use Rattle.enforcer_core.specs.World.{rows_of}
-use Rattle.event_lines.specs.EventLines.{AreThere}
+use Rattle.enforce_run.specs.EventLines.{AreThere}
 use Rattle.enforce_run.proofs.Lawful.{written_on_regions}
 use Rattle.enforce_run.proofs.Owners.{regions_counted}
 use Rattle.enforce_run.proofs.run.enforce.Goals as goal

@@ -1,5 +1,6 @@
 use Rattle.std.proofs.Common.{◌≡◌, ◌++◌, drop, flat_map, string_bytes}
-use Rattle.table_text.specs.TableText.{closing_line, texts_of}
+use Rattle.doc_names.specs.NameTexts.{texts_of}
+use Rattle.table_text.specs.TableText.{closing_line}
 use Rattle.table_text.proofs.table.push_closings.Given as goal
 
 abbrev pub invariant-loop-closing : goal.invariant-loop-closing

@@ -1,6 +1,6 @@
 use Rattle.std.proofs.Common.{◌≡◌, ◌++◌, flat_map, string_bytes}
 use Rattle.bwe_specs.specs.Reports.{numbers}
-use Rattle.table_text.specs.TableText.{texts_of}
+use Rattle.doc_names.specs.NameTexts.{texts_of}
 use Rattle.tiers.specs.Fillings.{lists_in}
 use Rattle.tier_text.specs.TierText.{tier_lines}
 use Rattle.tier_text.proofs.text.push_tiers.Given as goal

@@ -1,6 +1,0 @@
-use Rattle.std.proofs.Common.{◌≡◌, drop}
-use Rattle.event_lines.specs.EventLines.{with_digits}
-use Rattle.event_lines.proofs.words.number_of_digits.Given as goal
-
-abbrev pub invariant-loop-digit : goal.invariant-loop-digit
-invariant-loop-digit l = with_digits 0 l.digits ≡ with_digits l.number (drop l.digit-index l.digits)

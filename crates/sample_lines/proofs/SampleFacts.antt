@@ -1,0 +1,16 @@
+-- The sample of a line, by its parts.
+use Rattle.std.proofs.Common.{◌≡◌, ℕ, Bool, cond, Option, Some, None, refl, sym}
+use Rattle.std.specs.Prelude.{slice_get}
+use Rattle.text_scan.specs.Names.{number_of_name}
+use Rattle.sample_lines.specs.declared.sample.Sample.{Sample}
+use Rattle.sample_lines.specs.Known.{Known}
+use Rattle.sample_lines.specs.SampleLine.{Text, Fields, amount_of, fields_of, is_owner, sample_of}
+
+abbrev pub sample_by : Bool → ℕ → ℕ → ℕ → Option Sample
+sample_by owns reporter task amount = cond owns (let made : Sample = record { reporter = reporter; task = task; amount = amount } in Some made) None
+
+pub sample_is : (known : Known) (text : Text) (fields : Fields) (reporter task amount : ℕ) (owns : Bool) → Some fields ≡ fields_of text → Some reporter ≡ number_of_name known.names.reporters fields.reporter
+    → Some task ≡ number_of_name known.names.tasks fields.task → Some amount ≡ amount_of fields.amount → owns ≡ is_owner (slice_get known.task_owners task) reporter
+    → sample_by owns reporter task amount ≡ sample_of known text
+unfolding sample_of
+sample_is known text fields reporter task amount owns cut by of much owned = sym (rw (sym cut, sym by, sym of, sym much, sym owned) refl)
