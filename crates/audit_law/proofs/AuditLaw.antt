@@ -5,10 +5,9 @@ use Rattle.bwe_specs.specs.declared.report.Report.{Report}
 use Rattle.limit_table.specs.Tables.{total_of}
 use Rattle.run_audit.specs.History.{scripts_of}
 use Rattle.run_audit.specs.Verdict.{verdict_of}
-use Rattle.run_audit.specs.Words.{left_of, lines_of}
+use Rattle.text_scan.specs.Lines.{left_of, lines_of}
 use Rattle.run_audit.specs.declared.verdict.AuditVerdict.TheVariants.{Legal, Wrong}
 use Rattle.table_text.specs.TableText.{text_of}
-use Rattle.audit_law.specs.ClosedRun.{line_names}
 use Rattle.audit_law.specs.FirstFault.{NoRunGoesOn, SomeRunBeginsSo}
 use Rattle.audit_law.specs.Laws.{LegalRunIsLegal, LegalTextIsARun, verdict_on}
 use Rattle.audit_law.proofs.Logs.{closed_of, run_of}
@@ -31,7 +30,7 @@ pub no-run-goes-on : NoRunGoesOn
 no-run-goes-on names table_of table tasks links scripts text line cause audited wrong within other run same =
     let legal : verdict_on names table_of table scripts other ≡ Legal = run-legal names table_of table tasks links scripts other audited run in
     let faulty : verdict_on names table_of table scripts other ≡ Wrong line cause =
-    same_verdict (line_names names) (scripts_of scripts) (λ reports. total_of (table_of reports)) (text_of names.table table) text other line cause within same wrong in
+    same_verdict names (scripts_of scripts) (λ reports. total_of (table_of reports)) (text_of names table) text other line cause within same wrong in
     absurd cc
 
 pub some-run-begins-so : SomeRunBeginsSo
@@ -40,8 +39,8 @@ some-run-begins-so names table_of table tasks links scripts text line cause audi
     let given = audited.scripts_so in
     let lists : List (List Report) = scripts_of scripts in
     let total : List Report → ℕ = λ reports. total_of (table_of reports) in
-    let ended = text_ends (line_names names) lists audited.names_so tasks links given (λ number within. omega (arith, script-le lists number within, given.few)) total audited.totals
-    (lines_of (text_of names.table table)) (table_begins names.table table) (left_of text) (lines_of text) line cause kind wrong in
+    let ended = text_ends names lists audited.names_so tasks links given (λ number within. omega (arith, script-le lists number within, given.few)) total audited.totals
+    (lines_of (text_of names table)) (table_begins names table) (left_of text) (lines_of text) line cause kind wrong in
     let made = run_of_lines names tasks links lists total table audited.names_so given audited.totals (take line (lines_of text) ++ ended.0) ended.2 in (
       made.0,
       closed_of names table_of table tasks links scripts audited made.0 made.1,

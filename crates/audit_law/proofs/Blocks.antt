@@ -6,15 +6,15 @@ use Rattle.std.proofs.lemmas.Bool.{and_from, and_parts, eq-eqb, eqb-true, leb-tr
 use Rattle.bwe_specs.specs.declared.report.Report.{Report}
 use Rattle.crew_log.specs.declared.log.ReadLine.{ReadLine}
 use Rattle.crew_log.specs.Lines.{NeverGoBack}
-use Rattle.run_audit.specs.Words.{words_of}
-use Rattle.run_audit.specs.Forms.{LineNames, shown_of}
+use Rattle.text_scan.specs.Words.{words_of}
+use Rattle.doc_names.specs.NameTexts.{NameTexts}
+use Rattle.run_audit.specs.Forms.{shown_of}
 use Rattle.run_audit.specs.History.{total_of}
 use Rattle.run_audit.specs.Walk.{Walked, after_final, after_line, after_read, after_shown, goes_on, is_wanted, shown_leads, step_from, with_table}
 use Rattle.run_audit.specs.Verdict.{is_total, judge}
 use Rattle.run_audit.specs.declared.due.Block.{Block}
 use Rattle.run_audit.specs.declared.due.Due.TheVariants.{Line, Next}
 use Rattle.run_audit.specs.declared.due.Step.{Step}
-use Rattle.run_audit.specs.declared.due.TheConstants.{MAX_READS}
 use Rattle.run_audit.specs.declared.forms.Shown.{Shown}
 use Rattle.run_audit.specs.declared.verdict.AuditCause.{AuditCause}
 use Rattle.run_audit.specs.declared.verdict.AuditCause.TheVariants as causes
@@ -57,7 +57,7 @@ least_most : (least : ℕ) (lines : List ReadLine) (most : ℕ) → NeverGoBack 
 least_most least [] most never = never
 least_most least (line ∷ lines) most never = omega (arith, never.0, never.1, least_most line.prefix lines most never.2)
 
-module _ (names : LineNames) (scripts : List (List Report)) (total_at : ℕ → ℕ) (left : List ℕ) where
+module _ (names : NameTexts) (scripts : List (List Report)) (total_at : ℕ → ℕ) (left : List ℕ) where
   module _ (small : total_of scripts < 2 ^ 64) (fit : (prefix : ℕ) → prefix ≤ total_of scripts → total_at prefix < 2 ^ 64) where
     going : (block : Block) (line : ReadLine) → block.prefix ≤ line.floor → line.floor ≤ line.prefix → line.prefix ≤ total_of scripts → goes_on (total_of scripts) block (to_shown line) ≡ true
     going block line low covers within =
@@ -72,14 +72,14 @@ module _ (names : LineNames) (scripts : List (List Report)) (total_at : ℕ → 
     clean_so line kind clean covers right =
         shown_clean kind line.floor line.prefix line.total clean (omega (arith, small, covers, right.0)) (omega (arith, small, right.0)) (omega (arith, right.1, fit line.prefix right.0))
 
-    read_on : (block : Block) (table : List (List ℕ)) (line : ReadLine) → block.reads < MAX_READS → block.prefix ≤ line.floor → line.floor ≤ line.prefix → IsRight total_at (total_of scripts) line
+    read_on : (block : Block) (table : List (List ℕ)) (line : ReadLine) → block.reads < 1000 → block.prefix ≤ line.floor → line.floor ≤ line.prefix → IsRight total_at (total_of scripts) line
         → after_line names scripts (record { due = Line block; table = table }) (spaced (read_words line))
         ≡ Ok (record { walk = record { due = Line (record block { reads = block.reads + 1; prefix = line.prefix }); table = table }; shown = Some (to_shown line) })
     unfolding after_line step_from after_shown after_read
     read_on block table line few low covers right =
         ap (λ (words : List (List ℕ)). with_table table (shown_leads (total_of scripts) block (shown_of (codes "read") words) (shown_of (codes "final") words))) (words_printed (read_words line) (omega arith) (clean_so line (codes "read") read_clean covers right))
         ∙ ap (λ (shown : Option Shown). with_table table (shown_leads (total_of scripts) block shown (shown_of (codes "final") (read_words line)))) (shown_so line (codes "read") covers right)
-        ∙ ap (λ (b : Bool). with_table table (cond {A = Result Step AuditCause} b (cond {A = Result Step AuditCause} (goes_on (total_of scripts) block (to_shown line)) (Ok next) (Err causes.Prefix)) (Err causes.Reader))) (lt-ltb block.reads MAX_READS few)
+        ∙ ap (λ (b : Bool). with_table table (cond {A = Result Step AuditCause} b (cond {A = Result Step AuditCause} (goes_on (total_of scripts) block (to_shown line)) (Ok next) (Err causes.Prefix)) (Err causes.Reader))) (lt-ltb block.reads 1000 few)
         ∙ ap (λ (b : Bool). with_table table (cond {A = Result Step AuditCause} b (Ok next) (Err causes.Prefix))) (going block line low covers right.0)
       where
         next : Step
@@ -105,7 +105,7 @@ module _ (names : LineNames) (scripts : List (List Report)) (total_at : ℕ → 
         next = record { due = Next (block.number + 1) block.reads; shown = Some (to_shown line) }
 
     pub block_on : (table lines : List (List ℕ)) (reads : List ReadLine) (last : ReadLine) (block : Block) → IsBlock total_at (total_of scripts) block.prefix reads last
-        → block.reads + length reads ≤ MAX_READS → is_wanted block.wanted (block.reads + length reads) ≡ true
+        → block.reads + length reads ≤ 1000 → is_wanted block.wanted (block.reads + length reads) ≡ true
         → IsLegalFrom names scripts total_at left (record { due = Next (block.number + 1) (block.reads + length reads); table = table }) lines
         → IsLegalFrom names scripts total_at left (record { due = Line block; table = table }) (read_lines reads last ++ lines)
     block_on table lines [] last block is few wanted legal =
@@ -141,7 +141,7 @@ module _ (names : LineNames) (scripts : List (List Report)) (total_at : ℕ → 
   record IsReadLine (block : Block) (table : List (List ℕ)) (line : List ℕ) (walked : Walked) : Type 0 where
     read : ReadLine
     line_so : line ≡ spaced (read_words read)
-    few : block.reads < MAX_READS
+    few : block.reads < 1000
     goes : goes_on (total_of scripts) block (to_shown read) ≡ true
     walked_so : walked ≡ record { walk = record { due = Line (record block { reads = block.reads + 1; prefix = read.prefix }); table = table }; shown = Some (to_shown read) }
 
@@ -158,18 +158,18 @@ module _ (names : LineNames) (scripts : List (List Report)) (total_at : ℕ → 
   unfolding after_line step_from after_shown after_read after_final
   line_back block table line walked is = go (shown_of (codes "read") (words_of line)) (shown_of (codes "final") (words_of line)) refl refl is where
     read_at : (told : Shown) → shown_of (codes "read") (words_of line) ≡ Some told → with_table table (after_read (total_of scripts) block told) ≡ Ok walked → IsReadLine block table line walked
-    read_at told read e = test (nat_lt block.reads MAX_READS) (goes_on (total_of scripts) block told) refl refl e where
+    read_at told read e = test (nat_lt block.reads 1000) (goes_on (total_of scripts) block told) refl refl e where
       next : Step
       next = record { due = Line (record block { reads = block.reads + 1; prefix = told.prefix }); shown = Some told }
 
-      test : (few goes : Bool) → nat_lt block.reads MAX_READS ≡ few → goes_on (total_of scripts) block told ≡ goes
+      test : (few goes : Bool) → nat_lt block.reads 1000 ≡ few → goes_on (total_of scripts) block told ≡ goes
           → with_table table (cond {A = Result Step AuditCause} few (cond {A = Result Step AuditCause} goes (Ok next) (Err causes.Prefix)) (Err causes.Reader)) ≡ Ok walked → IsReadLine block table line walked
       test false goes few_so goes_so e = absurd cc
       test true false few_so goes_so e = absurd cc
       test true true few_so goes_so e = record {
         read = of_shown told;
         line_so = spaced_words line ∙ ap spaced (shown_read (codes "read") (words_of line) told read).0;
-        few = ltb-true block.reads MAX_READS few_so;
+        few = ltb-true block.reads 1000 few_so;
         goes = goes_so;
         walked_so = cc;
       }
@@ -214,11 +214,11 @@ module _ (names : LineNames) (scripts : List (List Report)) (total_at : ℕ → 
     pub number : ℕ
     pub lines_so : lines ≡ read_lines reads last ++ rest
     pub is : IsBlock total_at (total_of scripts) block.prefix reads last
-    pub few : block.reads + length reads ≤ MAX_READS
+    pub few : block.reads + length reads ≤ 1000
     pub wanted : is_wanted block.wanted (block.reads + length reads) ≡ true
     pub legal : judge names scripts total_at left (record { due = Next (block.number + 1) (block.reads + length reads); table = table }) number rest ≡ Legal
 
-  pub block_back : (table : List (List ℕ)) (lines : List (List ℕ)) (number : ℕ) (block : Block) → block.reads ≤ MAX_READS
+  pub block_back : (table : List (List ℕ)) (lines : List (List ℕ)) (number : ℕ) (block : Block) → block.reads ≤ 1000
       → judge names scripts total_at left (record { due = Line block; table = table }) number lines ≡ Legal → IsBlockRead block table lines
   block_back table [] number block few legal = absurd (no_line names scripts total_at left (Line block) table number refl legal)
   block_back table (line ∷ lines) number block few legal = go (λ next few legal. block_back table lines (number + 1) next few legal) (line_back block table line step.walked step.is) where
@@ -226,7 +226,7 @@ module _ (names : LineNames) (scripts : List (List Report)) (total_at : ℕ → 
     step = step_back names scripts total_at left (record { due = Line block; table = table }) number line lines legal
 
     Later : Type 0
-    Later = (next : Block) → next.reads ≤ MAX_READS → judge names scripts total_at left (record { due = Line next; table = table }) (number + 1) lines ≡ Legal → IsBlockRead next table lines
+    Later = (next : Block) → next.reads ≤ 1000 → judge names scripts total_at left (record { due = Line next; table = table }) (number + 1) lines ≡ Legal → IsBlockRead next table lines
 
     read_first : Later → IsReadLine block table line step.walked → IsBlockRead block table (line ∷ lines)
     read_first later here =

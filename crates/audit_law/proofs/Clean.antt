@@ -7,8 +7,9 @@ use Rattle.std.proofs.lemmas.Bool.{and_parts, cases_lt, ne_eqb, not-true}
 use Rattle.bwe_specs.specs.declared.report.Target.{Target}
 use Rattle.bwe_specs.specs.declared.report.Target.TheVariants.{Task, Link}
 use Rattle.bwe_specs.specs.declared.report.Report.{Report}
-use Rattle.run_audit.specs.Words.{word_at, words_of}
-use Rattle.run_audit.specs.Forms.{LineNames}
+use Rattle.text_scan.specs.Words.{words_of}
+use Rattle.run_audit.specs.Words.{word_at}
+use Rattle.doc_names.specs.NameTexts.{NameTexts}
 use Rattle.audit_law.specs.ClosedRun.{AreNames, IsPlain}
 use Rattle.audit_law.proofs.Numbers.{number_has_no}
 use Rattle.audit_law.proofs.Lines.{HasNo, spaced, words_of-spaced}
@@ -72,17 +73,17 @@ kind_clean : (target : Target) → IsClean (kind_of target)
 kind_clean (Task number) = (tested 10 (codes "report") refl, tested 32 (codes "report") refl)
 kind_clean (Link number) = (tested 10 (codes "capacity") refl, tested 32 (codes "capacity") refl)
 
-target_clean : (names : LineNames) → AreNames names → (target : Target) → IsClean (name_of names target)
+target_clean : (names : NameTexts) → AreNames names → (target : Target) → IsClean (name_of names target)
 target_clean names are (Task number) = named_clean names.tasks number are.tasks
 target_clean names are (Link number) = named_clean names.links number are.links
 
-pub report_clean : (names : LineNames) → AreNames names → (place : ℕ) (report : Report) → place < 2 ^ 64 → report.amount < 2 ^ 64 → All IsClean (report_line names place report)
+pub report_clean : (names : NameTexts) → AreNames names → (place : ℕ) (report : Report) → place < 2 ^ 64 → report.amount < 2 ^ 64 → All IsClean (report_line names place report)
 report_clean names are place report small fits =
     All-cons IsClean (kind_of report.target) (decimal place ∷ word_at names.reporters report.reporter ∷ name_of names report.target ∷ decimal report.amount ∷ []) (kind_clean report.target)
     (more (decimal place) (word_at names.reporters report.reporter) (name_of names report.target ∷ decimal report.amount ∷ []) (number_clean place small) (named_clean names.reporters report.reporter are.reporters)
     (two (name_of names report.target) (decimal report.amount) (target_clean names are report.target) (number_clean report.amount fits)))
 
-pub sent_clean : (names : LineNames) → AreNames names → (reporter sent : ℕ) → sent < 2 ^ 64 → All IsClean (sent_line names reporter sent)
+pub sent_clean : (names : NameTexts) → AreNames names → (reporter sent : ℕ) → sent < 2 ^ 64 → All IsClean (sent_line names reporter sent)
 sent_clean names are reporter sent small =
     more (codes "reporter") (word_at names.reporters reporter) (codes "sent" ∷ decimal sent ∷ []) (tested 10 (codes "reporter") refl, tested 32 (codes "reporter") refl) (named_clean names.reporters reporter are.reporters)
     (two (codes "sent") (decimal sent) (tested 10 (codes "sent") refl, tested 32 (codes "sent") refl) (number_clean sent small))

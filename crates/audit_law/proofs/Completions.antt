@@ -9,8 +9,10 @@ use Rattle.std.proofs.lemmas.Option.{slice_get_within}
 use Rattle.bwe_specs.specs.declared.report.Report.{Report}
 use Rattle.demand_book.specs.Fit.{IsFit}
 use Rattle.crew_log.specs.declared.log.ReadLine.{ReadLine}
-use Rattle.run_audit.specs.Words.{word_at, words_of}
-use Rattle.run_audit.specs.Forms.{LineNames, history_of, reader_of, sent_of, shown_of}
+use Rattle.text_scan.specs.Words.{words_of}
+use Rattle.run_audit.specs.Words.{word_at}
+use Rattle.doc_names.specs.NameTexts.{NameTexts}
+use Rattle.run_audit.specs.Forms.{history_of, reader_of, sent_of, shown_of}
 use Rattle.run_audit.specs.History.{Printed, Reported, begins, continue_with, fault, history_in, line_after, none_printed, take_line, take_lines, total_of}
 use Rattle.run_audit.specs.Walk.{Walk, Walked, after_final, after_line, after_read, after_reader, after_reporter, after_shown, after_table, due_from, goes_on, is_over, is_reader, is_wanted, leads_to, new_block, reader_leads, sent_leads, shown_leads, step_from, with_table}
 use Rattle.run_audit.specs.Verdict.{at_end, go_on, is_total, judge}
@@ -20,8 +22,6 @@ use Rattle.run_audit.specs.declared.due.Block.{Block}
 use Rattle.run_audit.specs.declared.due.Due.{Due}
 use Rattle.run_audit.specs.declared.due.Due.TheVariants.{Reporter, Reader, Line, Next, Table}
 use Rattle.run_audit.specs.declared.due.Step.{Step}
-use Rattle.run_audit.specs.declared.due.TheConstants.{MAX_READS}
-use Rattle.bwe_specs.specs.declared.limits.TheConstants.{MAX_READERS}
 use Rattle.run_audit.specs.declared.verdict.AuditCause.{AuditCause}
 use Rattle.run_audit.specs.declared.verdict.AuditCause.TheVariants as causes
 use Rattle.run_audit.specs.declared.verdict.AuditVerdict.{AuditVerdict}
@@ -40,7 +40,7 @@ use Rattle.audit_law.proofs.SameFaults.{IsTakenOr, fault_least, history_least, j
 
 -- ---- what may be due
 
-module _ (names : LineNames) (scripts : List (List Report)) where
+module _ (names : NameTexts) (scripts : List (List Report)) where
   -- a reporter that is due has a script, and up to the table its first line does not begin as one of a reader
   abbrev IsSound : Due → List (List ℕ) → Type 0
   IsSound (Reporter next) table = (next < length scripts) × IsTable table
@@ -78,7 +78,7 @@ module _ (names : LineNames) (scripts : List (List Report)) where
   sound_reader table total number wanted words is = go (reader_of words) where
     go : (told : Option ReaderWords) → LeadsSoundly (with_table table (reader_leads total number wanted told))
     go None = tt
-    go (Some told) = test ((told.number == number) && nat_lt told.number MAX_READERS) (told.length == total) where
+    go (Some told) = test ((told.number == number) && nat_lt told.number 64) (told.length == total) where
       test : (right whole : Bool) → LeadsSoundly (with_table table (cond {A = Result Step AuditCause} right (cond {A = Result Step AuditCause} whole (leads_to (Line (new_block number wanted))) (Err causes.Length)) (Err causes.Reader)))
       test false whole = tt
       test true false = tt
@@ -96,7 +96,7 @@ module _ (names : LineNames) (scripts : List (List Report)) where
 
   sound_read : (table : List (List ℕ)) (total : ℕ) (block : Block) (shown : Shown) → IsTable table → LeadsSoundly (with_table table (after_read total block shown))
   unfolding after_read
-  sound_read table total block shown is = test (nat_lt block.reads MAX_READS) (goes_on total block shown) where
+  sound_read table total block shown is = test (nat_lt block.reads 1000) (goes_on total block shown) where
     test : (few goes : Bool) → LeadsSoundly (with_table table (cond {A = Result Step AuditCause} few (cond {A = Result Step AuditCause} goes (Ok (record { due = Line (record block { reads = block.reads + 1; prefix = shown.prefix }); shown = Some shown })) (Err causes.Prefix)) (Err causes.Reader)))
     test false goes = tt
     test true false = tt
@@ -145,7 +145,7 @@ module _ (names : LineNames) (scripts : List (List Report)) where
     test step true true = tt
 
     go : (read final : Option Shown) → HasCauseOfReads (with_table table (shown_leads total block read final))
-    go (Some read) final = test (record { due = Line (record block { reads = block.reads + 1; prefix = read.prefix }); shown = Some read }) (nat_lt block.reads MAX_READS) (goes_on total block read)
+    go (Some read) final = test (record { due = Line (record block { reads = block.reads + 1; prefix = read.prefix }); shown = Some read }) (nat_lt block.reads 1000) (goes_on total block read)
     go None (Some final) = test (record { due = Next (block.number + 1) block.reads; shown = Some final }) (is_wanted block.wanted block.reads) (goes_on total block final && nat_le total final.prefix)
     go None None = λ none. none
 

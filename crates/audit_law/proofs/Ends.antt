@@ -9,10 +9,10 @@ use Rattle.bwe_specs.specs.declared.report.Report.{Report}
 use Rattle.bwe_specs.specs.Allocation.{Table}
 use Rattle.crew_log.specs.declared.log.ReadLine.{ReadLine}
 use Rattle.demand_book.specs.Fit.{IsFit}
-use Rattle.table_text.specs.TableText.{NameTexts, closing_line, group_lines, link_line, task_line, text_of}
+use Rattle.table_text.specs.TableText.{closing_line, group_lines, link_line, task_line, text_of}
 use Rattle.std.proofs.lemmas.List.Sums.{sum_by-cons}
-use Rattle.run_audit.specs.Words.{all_but_last, last_of, left_of, lines_of, pieces_of}
-use Rattle.run_audit.specs.Forms.{LineNames}
+use Rattle.text_scan.specs.Lines.{all_but_last, last_of, left_of, lines_of, pieces_of}
+use Rattle.doc_names.specs.NameTexts.{NameTexts}
 use Rattle.audit_law.specs.ClosedRun.{AreNames}
 use Rattle.audit_law.proofs.Lines.{HasNo, spaced}
 use Rattle.audit_law.proofs.LineForms.{reader_line, report_line, sent_line}
@@ -81,7 +81,7 @@ table_begins names table = begun_t _
 
 -- ---- no line feed in a line
 
-module _ (names : LineNames) (are : AreNames names) where
+module _ (names : NameTexts) (are : AreNames names) where
   pub reports_clean : (tasks links place : ℕ) (reports : List Report) → place + length reports < 2 ^ 64 → All (IsFit tasks links) reports → All (HasNo 10) (report_lines names place reports)
   reports_clean tasks links place [] small fit = All-nil (HasNo 10)
   reports_clean tasks links place (report ∷ reports) small fit =

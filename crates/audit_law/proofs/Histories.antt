@@ -12,8 +12,9 @@ use Rattle.bwe_specs.specs.declared.report.Target.{Target}
 use Rattle.bwe_specs.specs.declared.report.Target.TheVariants.{Task, Link}
 use Rattle.bwe_specs.specs.Reports.{reports_of}
 use Rattle.demand_book.specs.Fit.{IsFit, IsInRange}
-use Rattle.run_audit.specs.Words.{words_of}
-use Rattle.run_audit.specs.Forms.{LineNames, history_of, report_of}
+use Rattle.text_scan.specs.Words.{words_of}
+use Rattle.doc_names.specs.NameTexts.{NameTexts}
+use Rattle.run_audit.specs.Forms.{history_of, report_of}
 use Rattle.run_audit.specs.History.{Printed, Reported, begins, continue_with, fault, history_in, is_line_of, is_of, line_after, next_of, none_printed, take_line, take_lines, take_next, take_words, total_of, with_report}
 use Rattle.run_audit.specs.declared.forms.ReportWords.{ReportWords}
 use Rattle.run_audit.specs.declared.verdict.Fault.{Fault}
@@ -149,7 +150,7 @@ module _ (tasks links : ℕ) (scripts : List (List Report)) (done : List Report)
 -- ---- the lines of reports
 
 -- a line for each report, with its place
-abbrev pub report_lines : LineNames → ℕ → List Report → List (List ℕ)
+abbrev pub report_lines : NameTexts → ℕ → List Report → List (List ℕ)
 report_lines names place [] = []
 report_lines names place (report ∷ reports) = spaced (report_line names place report) ∷ report_lines names (suc place) reports
 
@@ -169,7 +170,7 @@ All-drop-append P [] later all = all
 All-drop-append P (first ∷ front) later all = All-drop-append P front later (All-tail P first (front ++ later) all)
 
 -- as many reports as the scripts have
-pub lines_full : (names : LineNames) (scripts : List (List Report)) (printed : Printed) (lines : List (List ℕ)) → total_of scripts ≤ length printed.reports
+pub lines_full : (names : NameTexts) (scripts : List (List Report)) (printed : Printed) (lines : List (List ℕ)) → total_of scripts ≤ length printed.reports
     → take_lines names scripts printed lines ≡ Ok (record { reports = printed.reports; lines = lines })
 unfolding take_lines
 lines_full names scripts printed [] full =
@@ -177,18 +178,18 @@ lines_full names scripts printed [] full =
 lines_full names scripts printed (line ∷ lines) full =
     ap (λ (b : Bool). cond {A = Result Reported Fault} b (continue_with (λ next. take_lines names scripts next lines) (take_line names scripts printed line)) (Ok (record { reports = printed.reports; lines = line ∷ lines }))) (le-ltb (length printed.reports) (total_of scripts) full)
 
-pub lines_next : (names : LineNames) (scripts : List (List Report)) (printed next : Printed) (line : List ℕ) (lines : List (List ℕ)) → length printed.reports < total_of scripts
+pub lines_next : (names : NameTexts) (scripts : List (List Report)) (printed next : Printed) (line : List ℕ) (lines : List (List ℕ)) → length printed.reports < total_of scripts
     → take_line names scripts printed line ≡ Ok next → take_lines names scripts printed (line ∷ lines) ≡ take_lines names scripts next lines
 unfolding take_lines
 lines_next names scripts printed next line lines short is =
     ap (λ (b : Bool). cond {A = Result Reported Fault} b (continue_with (λ next. take_lines names scripts next lines) (take_line names scripts printed line)) (Ok (record { reports = printed.reports; lines = line ∷ lines }))) (lt-ltb (length printed.reports) (total_of scripts) short)
     ∙ ap (continue_with (λ next. take_lines names scripts next lines)) is
 
-target_named : (names : LineNames) (tasks links : ℕ) (target : Target) → tasks ≤ length names.tasks → links ≤ length names.links → IsInRange tasks links target → IsNamed names target
+target_named : (names : NameTexts) (tasks links : ℕ) (target : Target) → tasks ≤ length names.tasks → links ≤ length names.links → IsInRange tasks links target → IsNamed names target
 target_named names tasks links (Task number) known linked within = omega (arith, known, within)
 target_named names tasks links (Link number) known linked within = omega (arith, linked, within)
 
-module _ (names : LineNames) (are : AreNames names) (tasks links : ℕ) (scripts : List (List Report)) (given : AreScripts names tasks links scripts) where
+module _ (names : NameTexts) (are : AreNames names) (tasks links : ℕ) (scripts : List (List Report)) (given : AreScripts names tasks links scripts) where
   -- the line of the next report is taken
   line_taken : (done later : List Report) (taken : List ℕ) (report : Report) → HasTaken tasks links scripts done taken → IsInterleaving tasks links scripts (done ++ report ∷ later)
       → report.reporter < length scripts → IsFit tasks links report → length done < 2 ^ 64
@@ -329,7 +330,7 @@ nothing_past scripts number place report is = elim (cases_lt number (length scri
     none [] same is = absurd cc
     none (first ∷ script) same is = absurd cc
 
-module _ (names : LineNames) (tasks links : ℕ) (scripts : List (List Report)) (given : AreScripts names tasks links scripts) where
+module _ (names : NameTexts) (tasks links : ℕ) (scripts : List (List Report)) (given : AreScripts names tasks links scripts) where
   -- the report of a line that was taken
   pub record IsTaken (printed next : Printed) (line : List ℕ) : Type 0 where
     pub report : Report

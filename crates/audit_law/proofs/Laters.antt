@@ -5,7 +5,7 @@ use Rattle.std.proofs.lemmas.List.Elements.{All-append, All-drop, All-head, All-
 use Rattle.bwe_specs.specs.declared.report.Report.{Report}
 use Rattle.bwe_specs.specs.Reports.{reports_of}
 use Rattle.demand_book.specs.Fit.{IsFit}
-use Rattle.run_audit.specs.Forms.{LineNames}
+use Rattle.doc_names.specs.NameTexts.{NameTexts}
 use Rattle.audit_law.specs.ClosedRun.{AreScripts, IsInterleaving}
 use Rattle.audit_law.proofs.Histories.{Begin, HasTaken}
 
@@ -85,7 +85,7 @@ module _ (done : List Report) where
       (laters-all P (suc first) scripts (λ place within. each (suc place) (omega (arith, within))))
 
 -- a history that has begun each script goes on to one that has them all
-pub goes-on : (names : LineNames) (tasks links : ℕ) (scripts : List (List Report)) (done : List Report) (taken : List ℕ) → AreScripts names tasks links scripts
+pub goes-on : (names : NameTexts) (tasks links : ℕ) (scripts : List (List Report)) (done : List Report) (taken : List ℕ) → AreScripts names tasks links scripts
     → HasTaken tasks links scripts done taken → Begin scripts done → IsInterleaving tasks links scripts (done ++ laters done 0 scripts)
 unfolding Begin AreOwn
 goes-on names tasks links scripts done taken given has begin = record {

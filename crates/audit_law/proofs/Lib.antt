@@ -15,3 +15,9 @@ pub mod SameFaults
 pub mod Laters
 pub mod Completions
 pub mod AuditLaw
+pub mod DocumentNames
+pub mod DocumentTree
+pub mod DocumentTotals
+pub mod Audited
+pub mod DocumentVerdicts
+pub mod DocumentLaw

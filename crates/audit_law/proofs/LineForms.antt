@@ -12,14 +12,16 @@ use Rattle.std.proofs.lemmas.Slice.Eq.{bytes_eq-Decides}
 use Rattle.bwe_specs.specs.declared.report.Target.{Target}
 use Rattle.bwe_specs.specs.declared.report.Target.TheVariants.{Task, Link}
 use Rattle.bwe_specs.specs.declared.report.Report.{Report}
-use Rattle.run_audit.specs.Words.{is_known, is_word, number_at, number_of, word_at}
-use Rattle.run_audit.specs.Forms.{LineNames, history_of, is_of_known, reader_of, reader_words, report_of, report_words, sent_of, shown_of, shown_words}
+use Rattle.text_scan.specs.Numbers.{printed_number_of}
+use Rattle.run_audit.specs.Words.{is_known, is_word, number_at, word_at}
+use Rattle.doc_names.specs.NameTexts.{NameTexts}
+use Rattle.run_audit.specs.Forms.{history_of, is_of_known, reader_of, reader_words, report_of, report_words, sent_of, shown_of, shown_words}
 use Rattle.run_audit.specs.History.{is_of}
 use Rattle.run_audit.specs.declared.forms.ReportWords.{ReportWords}
 use Rattle.run_audit.specs.declared.forms.ReaderWords.{ReaderWords}
 use Rattle.run_audit.specs.declared.forms.Shown.{Shown}
 use Rattle.audit_law.specs.ClosedRun.{AreNames}
-use Rattle.audit_law.proofs.Numbers.{number_printed, number_read}
+use Rattle.text_scan.proofs.NumberFacts.{number_printed, number_read}
 
 -- ---- the words of each line
 
@@ -30,15 +32,15 @@ abbrev pub kind_of : Target → List ℕ
 kind_of (Task number) = codes "report"
 kind_of (Link number) = codes "capacity"
 
-abbrev pub name_of : LineNames → Target → List ℕ
+abbrev pub name_of : NameTexts → Target → List ℕ
 name_of names (Task number) = word_at names.tasks number
 name_of names (Link number) = word_at names.links number
 
-abbrev pub report_line : LineNames → ℕ → Report → List (List ℕ)
+abbrev pub report_line : NameTexts → ℕ → Report → List (List ℕ)
 report_line names place report =
     kind_of report.target ∷ decimal place ∷ word_at names.reporters report.reporter ∷ name_of names report.target ∷ decimal report.amount ∷ []
 
-abbrev pub sent_line : LineNames → ℕ → ℕ → List (List ℕ)
+abbrev pub sent_line : NameTexts → ℕ → ℕ → List (List ℕ)
 sent_line names reporter sent = codes "reporter" ∷ word_at names.reporters reporter ∷ codes "sent" ∷ decimal sent ∷ []
 
 abbrev pub reader_line : ℕ → ℕ → List (List ℕ)
@@ -87,14 +89,14 @@ history_read words number is =
 
 -- ---- `reporter`
 
-pub sent_printed : (names : LineNames) (reporter sent : ℕ) → reporter < length names.reporters → sent < 2 ^ 64 → sent_of names (sent_line names reporter sent) ≡ Some sent
+pub sent_printed : (names : NameTexts) (reporter sent : ℕ) → reporter < length names.reporters → sent < 2 ^ 64 → sent_of names (sent_line names reporter sent) ≡ Some sent
 unfolding sent_of
 sent_printed names reporter sent within small =
-    ap (λ (b : Bool). cond b (number_of (decimal sent)) None)
+    ap (λ (b : Bool). cond b (printed_number_of (decimal sent)) None)
     (list_any_at (bytes_eq (word_at names.reporters reporter)) names.reporters reporter [] within (itself (word_at names.reporters reporter)))
     ∙ number_printed sent small
 
-pub sent_read : (names : LineNames) (words : List (List ℕ)) (reporter sent : ℕ) → sent_of names words ≡ Some sent → bytes_eq (word_at words 1) (word_at names.reporters reporter) ≡ true
+pub sent_read : (names : NameTexts) (words : List (List ℕ)) (reporter sent : ℕ) → sent_of names words ≡ Some sent → bytes_eq (word_at words 1) (word_at names.reporters reporter) ≡ true
     → words ≡ sent_line names reporter sent
 unfolding sent_of
 sent_read names words reporter sent is named =
@@ -121,7 +123,7 @@ both_numbers (Some one) (Some two) told is =
 pub reader_printed : (number length : ℕ) → number < 2 ^ 64 → length < 2 ^ 64 → reader_of (reader_line number length) ≡ Some (record { number = number; length = length })
 unfolding reader_of
 reader_printed number length small few =
-    ap (λ (one : Option ℕ). reader_words one (number_of (decimal length))) (number_printed number small)
+    ap (λ (one : Option ℕ). reader_words one (printed_number_of (decimal length))) (number_printed number small)
     ∙ ap (λ (two : Option ℕ). reader_words (Some number) two) (number_printed length few)
 
 pub reader_read : (words : List (List ℕ)) (told : ReaderWords) → reader_of words ≡ Some told → words ≡ reader_line told.number told.length
@@ -152,9 +154,9 @@ pub shown_printed : (kind : List ℕ) (floor prefix total : ℕ) → floor < 2 ^
     → shown_of kind (shown_line kind floor prefix total) ≡ Some (record { floor = floor; prefix = prefix; total = total })
 unfolding shown_of
 shown_printed kind floor prefix total low covers sum =
-    ap (λ (b : Bool). cond b (shown_words (number_of (decimal floor)) (number_of (decimal prefix)) (number_of (decimal total))) None) (and_from (bytes_eq kind kind) true (itself kind) refl)
-    ∙ ap (λ (one : Option ℕ). shown_words one (number_of (decimal prefix)) (number_of (decimal total))) (number_printed floor low)
-    ∙ ap (λ (two : Option ℕ). shown_words (Some floor) two (number_of (decimal total))) (number_printed prefix covers)
+    ap (λ (b : Bool). cond b (shown_words (printed_number_of (decimal floor)) (printed_number_of (decimal prefix)) (printed_number_of (decimal total))) None) (and_from (bytes_eq kind kind) true (itself kind) refl)
+    ∙ ap (λ (one : Option ℕ). shown_words one (printed_number_of (decimal prefix)) (printed_number_of (decimal total))) (number_printed floor low)
+    ∙ ap (λ (two : Option ℕ). shown_words (Some floor) two (printed_number_of (decimal total))) (number_printed prefix covers)
     ∙ ap (λ (three : Option ℕ). shown_words (Some floor) (Some prefix) three) (number_printed total sum)
 
 pub shown_read : (kind : List ℕ) (words : List (List ℕ)) (told : Shown) → shown_of kind words ≡ Some told → (words ≡ shown_line kind told.floor told.prefix told.total) × (told.total < 2 ^ 64)
@@ -181,7 +183,7 @@ shown_read kind words told is =
 -- ---- `report` and `capacity`
 
 -- the target has a name
-abbrev pub IsNamed : LineNames → Target → Type 0
+abbrev pub IsNamed : NameTexts → Target → Type 0
 IsNamed names (Task number) = number < length names.tasks
 IsNamed names (Link number) = number < length names.links
 
@@ -193,7 +195,7 @@ three_told (Some one) (Some two) (Some three) told is =
     let same : record { place = one; reporter = two; amount = three } ≡ told = cc in
     (ap (λ (t : ReportWords). Some t.place) same, ap (λ (t : ReportWords). Some t.reporter) same, ap (λ (t : ReportWords). Some t.amount) same)
 
-place_of_name : (names : LineNames) → AreNames names → (reporter : ℕ) → reporter < length names.reporters
+place_of_name : (names : NameTexts) → AreNames names → (reporter : ℕ) → reporter < length names.reporters
     → position (bytes_eq (word_at names.reporters reporter)) names.reporters ≡ Some reporter
 place_of_name names are reporter within =
     let test : List ℕ → Bool = bytes_eq (word_at names.reporters reporter) in
@@ -204,7 +206,7 @@ place_of_name names are reporter within =
     ap (λ (p : ℕ). cond (nat_lt p (length names.reporters)) (Some p) None) place
     ∙ ap (λ (b : Bool). cond b (Some reporter) None) (lt-ltb reporter (length names.reporters) within)
 
-module _ (names : LineNames) (are : AreNames names) where
+module _ (names : NameTexts) (are : AreNames names) where
   known : (place reporter : ℕ) (target : Target) (amount : ℕ) → IsNamed names target
       → is_of_known names (report_line names place (record { reporter = reporter; target = target; amount = amount })) ≡ true
   unfolding is_of_known
@@ -217,19 +219,19 @@ module _ (names : LineNames) (are : AreNames names) where
       → report_of names (report_line names place report) ≡ Some (record { place = place; reporter = report.reporter; amount = report.amount })
   unfolding report_of
   report_printed place report small within named fits =
-      ap (λ (b : Bool). cond b (report_words (number_of (decimal place)) (position (bytes_eq (word_at names.reporters report.reporter)) names.reporters) (number_of (decimal report.amount))) None)
+      ap (λ (b : Bool). cond b (report_words (printed_number_of (decimal place)) (position (bytes_eq (word_at names.reporters report.reporter)) names.reporters) (printed_number_of (decimal report.amount))) None)
       (known place report.reporter report.target report.amount named)
-      ∙ ap (λ (one : Option ℕ). report_words one (position (bytes_eq (word_at names.reporters report.reporter)) names.reporters) (number_of (decimal report.amount))) (number_printed place small)
-      ∙ ap (λ (two : Option ℕ). report_words (Some place) two (number_of (decimal report.amount))) (place_of_name names are report.reporter within)
+      ∙ ap (λ (one : Option ℕ). report_words one (position (bytes_eq (word_at names.reporters report.reporter)) names.reporters) (printed_number_of (decimal report.amount))) (number_printed place small)
+      ∙ ap (λ (two : Option ℕ). report_words (Some place) two (printed_number_of (decimal report.amount))) (place_of_name names are report.reporter within)
       ∙ ap (λ (three : Option ℕ). report_words (Some place) (Some report.reporter) three) (number_printed report.amount fits)
 
 -- the line is of its own task or link
-pub own_target : (names : LineNames) (place reporter : ℕ) (target : Target) (amount : ℕ) → is_of names (report_line names place (record { reporter = reporter; target = target; amount = amount })) target ≡ true
+pub own_target : (names : NameTexts) (place reporter : ℕ) (target : Target) (amount : ℕ) → is_of names (report_line names place (record { reporter = reporter; target = target; amount = amount })) target ≡ true
 unfolding is_of
 own_target names place reporter (Task number) amount = itself (word_at names.tasks number)
 own_target names place reporter (Link number) amount = itself (word_at names.links number)
 
-named_words : (names : LineNames) (words : List (List ℕ)) (target : Target) → is_of names words target ≡ true → (word_at words 0 ≡ kind_of target) × (word_at words 3 ≡ name_of names target)
+named_words : (names : NameTexts) (words : List (List ℕ)) (target : Target) → is_of names words target ≡ true → (word_at words 0 ≡ kind_of target) × (word_at words 3 ≡ name_of names target)
 unfolding is_of
 named_words names words (Task number) is =
     let parts = and_parts (is_word words 0 (codes "report")) (bytes_eq (word_at words 3) (word_at names.tasks number)) is in
@@ -238,7 +240,7 @@ named_words names words (Link number) is =
     let parts = and_parts (is_word words 0 (codes "capacity")) (bytes_eq (word_at words 3) (word_at names.links number)) is in
     (same_bytes (word_at words 0) (codes "capacity") parts.0, same_bytes (word_at words 3) (word_at names.links number) parts.1)
 
-pub report_read : (names : LineNames) (words : List (List ℕ)) (told : ReportWords) (target : Target) → report_of names words ≡ Some told → is_of names words target ≡ true
+pub report_read : (names : NameTexts) (words : List (List ℕ)) (told : ReportWords) (target : Target) → report_of names words ≡ Some told → is_of names words target ≡ true
     → (words ≡ report_line names told.place (record { reporter = told.reporter; target = target; amount = told.amount })) × (told.reporter < length names.reporters)
 unfolding report_of
 report_read names words told target is of =

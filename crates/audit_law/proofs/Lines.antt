@@ -3,7 +3,9 @@ use Rattle.std.proofs.Common.{◌≡◌, ◌<◌, ◌++◌, ◌==◌, ℕ, false
 use Rattle.std.specs.List.{slice_split, join_with_byte}
 use Rattle.std.proofs.lemmas.List.Splits.{join_with_byte-slice_split, length-slice_split, slice_split_at, slice_split_none}
 use Rattle.std.proofs.lemmas.List.Elements.{All-head, All-tail}
-use Rattle.run_audit.specs.Words.{all_but_last, last_of, left_of, lines_of, pieces_of, words_of}
+use Rattle.text_scan.specs.Lines.{all_but_last, last_of, left_of, lines_of, pieces_of}
+use Rattle.text_scan.specs.Words.{words_of}
+use Rattle.text_scan.proofs.LineFacts.{left_fed, line_fed}
 
 -- none of the bytes is this one
 abbrev pub HasNo : ℕ → List ℕ → Type 0
@@ -24,38 +26,19 @@ printed-append (line ∷ lines) others =
 pieces-some : (text : List ℕ) → 0 < length (pieces_of text)
 pieces-some text = omega (arith, length-slice_split (λ (byte : ℕ). byte == 10) text)
 
-more_lines : (piece : List ℕ) (pieces : List (List ℕ)) → 0 < length pieces → all_but_last (piece ∷ pieces) ≡ piece ∷ all_but_last pieces
-more_lines piece [] some = absurd (omega (arith, some))
-more_lines piece (next ∷ pieces) some = refl
-
-same_last : (piece : List ℕ) (pieces : List (List ℕ)) → 0 < length pieces → last_of (piece ∷ pieces) ≡ last_of pieces
-same_last piece [] some = absurd (omega (arith, some))
-same_last piece (next ∷ pieces) some = refl
-
-pieces-line : (line text : List ℕ) → HasNo 10 line → pieces_of (line ++ 10 ∷ text) ≡ line ∷ pieces_of text
-pieces-line line text none = slice_split_at (λ (byte : ℕ). byte == 10) line 10 text none refl
-
-pub lines_of-line : (line text : List ℕ) → HasNo 10 line → lines_of (line ++ 10 ∷ text) ≡ line ∷ lines_of text
-unfolding lines_of
-lines_of-line line text none = ap all_but_last (pieces-line line text none) ∙ more_lines line (pieces_of text) (pieces-some text)
-
-pub left_of-line : (line text : List ℕ) → HasNo 10 line → left_of (line ++ 10 ∷ text) ≡ left_of text
-unfolding left_of
-left_of-line line text none = ap last_of (pieces-line line text none) ∙ same_last line (pieces_of text) (pieces-some text)
-
 -- the lines of a printed text, and of what follows it
 pub lines_of-printed : (lines : List (List ℕ)) (text : List ℕ) → All (HasNo 10) lines → lines_of (printed lines ++ text) ≡ lines ++ lines_of text
 lines_of-printed [] text none = refl
 lines_of-printed (line ∷ lines) text none =
     ap lines_of (append_assoc line (10 ∷ printed lines) text)
-    ∙ lines_of-line line (printed lines ++ text) (All-head (HasNo 10) line lines none)
+    ∙ line_fed line (printed lines ++ text) (All-head (HasNo 10) line lines none)
     ∙ ap (λ (rest : List (List ℕ)). line ∷ rest) (lines_of-printed lines text (All-tail (HasNo 10) line lines none))
 
 pub left_of-printed : (lines : List (List ℕ)) (text : List ℕ) → All (HasNo 10) lines → left_of (printed lines ++ text) ≡ left_of text
 left_of-printed [] text none = refl
 left_of-printed (line ∷ lines) text none =
     ap left_of (append_assoc line (10 ∷ printed lines) text)
-    ∙ left_of-line line (printed lines ++ text) (All-head (HasNo 10) line lines none)
+    ∙ left_fed line (printed lines ++ text) (All-head (HasNo 10) line lines none)
     ∙ left_of-printed lines text (All-tail (HasNo 10) line lines none)
 
 joined_pieces : (pieces : List (List ℕ)) → 0 < length pieces → join_with_byte 10 pieces ≡ printed (all_but_last pieces) ++ last_of pieces

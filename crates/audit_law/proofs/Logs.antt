@@ -15,9 +15,8 @@ use Rattle.crew_log.specs.declared.log.CrewLog.{CrewLog}
 use Rattle.crew_log.specs.Lines.{IsLineOf, NeverGoBack}
 use Rattle.crew_log.specs.LegalCrewLog.{IsReaderOf, lines_of as reader_lines_of}
 use Rattle.table_text.specs.TableText.{text_of}
-use Rattle.run_text.specs.RunText.{RunNames}
+use Rattle.doc_names.specs.NameTexts.{NameTexts}
 use Rattle.run_audit.specs.History.{scripts_of}
-use Rattle.run_audit.specs.declared.due.TheConstants.{MAX_READS}
 use Rattle.audit_law.specs.ClosedRun.{AreAudited, IsClosedRun, IsInterleaving}
 use Rattle.audit_law.proofs.Vectors.{vec_of}
 use Rattle.audit_law.proofs.Lines.{printed}
@@ -68,7 +67,7 @@ abbrev total_at : (List Report → Table) → List Report → ℕ → ℕ
 total_at table_of history prefix = table_total (table_of (take prefix history))
 
 abbrev AreFew : Seen → Type 0
-AreFew seen = length seen.reads ≤ MAX_READS
+AreFew seen = length seen.reads ≤ 1000
 
 module _ (table_of : List Report → Table) (allowed : Report → Type 0) (reads : ℕ) (history : List Report) where
   -- the reader's part of a legal log, which ends with the history
@@ -98,7 +97,7 @@ module _ (table_of : List Report → Table) (allowed : Report → Type 0) (reads
       line_right line of = (of.within, of.total ∙ ap table_total of.belongs_so)
 
   -- a reader of which this was seen
-  abbrev reader_from : (seen : Seen) → length seen.reads ≤ MAX_READS → ReaderLog
+  abbrev reader_from : (seen : Seen) → length seen.reads ≤ 1000 → ReaderLog
   reader_from seen few = record { reads = vec_of seen.reads (omega (arith, few)); last = seen.last; length = length history; beyond = vec_of [] (omega arith) }
 
   readers_from : (seen : List Seen) → All AreFew seen → List ReaderLog
@@ -114,7 +113,7 @@ module _ (table_of : List Report → Table) (allowed : Report → Type 0) (reads
   length-readers : (seen : List Seen) (few : All AreFew seen) → length (readers_from seen few) ≡ length seen
   length-readers seen few = sym (length-map (readers_from seen few) seen_of) ∙ ap length (seen-readers seen few)
 
-  reader_is : (seen : Seen) (few : length seen.reads ≤ MAX_READS) → IsSeen (total_at table_of history) (length history) reads seen
+  reader_is : (seen : Seen) (few : length seen.reads ≤ 1000) → IsSeen (total_at table_of history) (length history) reads seen
       → IsReaderOf (Belongs table_of) table_total allowed reads history (reader_from seen few)
   reader_is seen few is = record {
     reads_so = is.count;
@@ -141,7 +140,7 @@ module _ (table_of : List Report → Table) (allowed : Report → Type 0) (reads
 
 -- ---- the whole
 
-module _ (names : RunNames) (table_of : List Report → Table) (table : Table) (tasks links : ℕ) (scripts : List (Vec Report Global)) (audited : AreAudited names table_of table tasks links scripts) where
+module _ (names : NameTexts) (table_of : List Report → Table) (table : Table) (tasks links : ℕ) (scripts : List (Vec Report Global)) (audited : AreAudited names table_of table tasks links scripts) where
   -- the log of a closed legal run, by what its lines show
   pub run_of : (text : List ℕ) → IsClosedRun names table_of tasks links scripts text → IsRun names tasks links (scripts_of scripts) (λ reports. table_total (table_of reports)) table text
   run_of text run = go run.log.readers.items refl where
@@ -163,11 +162,11 @@ module _ (names : RunNames) (table_of : List Report → Table) (table : Table) (
     closed : All (IsClosed (length history)) log.readers.items
     closed k d lt = reader_closed table_of allowed run.reads history (get_or log.readers.items k d) (part k d lt)
 
-    text_so : text ≡ printed (front_lines names history (scripts_of scripts) (all_seen_of log.readers.items)) ++ text_of names.table table
+    text_so : text ≡ printed (front_lines names history (scripts_of scripts) (all_seen_of log.readers.items)) ++ text_of names table
     text_so =
         run.text_so
         ∙ run_text_is names log (scripts_of scripts) (run.legal.sent ∙ lengths-are scripts) closed
-        ∙ ap (λ (t : Table). printed (front_lines names history (scripts_of scripts) (all_seen_of log.readers.items)) ++ text_of names.table t) (run.legal.table_so ∙ audited.table_so history legal)
+        ∙ ap (λ (t : Table). printed (front_lines names history (scripts_of scripts) (all_seen_of log.readers.items)) ++ text_of names t) (run.legal.table_so ∙ audited.table_so history legal)
 
     seen : All (IsSeen (total_at table_of history) (length history) run.reads) (all_seen_of log.readers.items)
     seen = All-map (IsSeen (total_at table_of history) (length history) run.reads) seen_of log.readers.items (λ k d lt. reader_seen table_of allowed run.reads history (get_or log.readers.items k d) (part k d lt))
@@ -183,7 +182,7 @@ module _ (names : RunNames) (table_of : List Report → Table) (table : Table) (
       few_reads = run.few_reads;
       few = omega (arith, run.few_readers, run.legal.readers_so, ap length is, length-map later seen_of);
       seen = subst (λ (readers : List ReaderLog). All (IsSeen (total_at table_of history) (length history) run.reads) (all_seen_of readers)) is seen;
-      text_so = text_so ∙ ap (λ (readers : List ReaderLog). printed (front_lines names history (scripts_of scripts) (all_seen_of readers)) ++ text_of names.table table) is;
+      text_so = text_so ∙ ap (λ (readers : List ReaderLog). printed (front_lines names history (scripts_of scripts) (all_seen_of readers)) ++ text_of names table) is;
     }
 
   -- and the other way round
@@ -206,7 +205,7 @@ module _ (names : RunNames) (table_of : List Report → Table) (table : Table) (
     closed = λ k d lt. (parts k d lt).1;
     text_so =
         run.text_so
-        ∙ ap (λ (s : List Seen). printed (front_lines names history (scripts_of scripts) s) ++ text_of names.table table) (sym (seen-readers table_of allowed run.reads history seen few))
+        ∙ ap (λ (s : List Seen). printed (front_lines names history (scripts_of scripts) s) ++ text_of names table) (sym (seen-readers table_of allowed run.reads history seen few))
         ∙ sym (run_text_is names log (scripts_of scripts) (lengths-are scripts) (λ k d lt. reader_closed table_of allowed run.reads history (get_or readers k d) (parts k d lt)));
   }
     where

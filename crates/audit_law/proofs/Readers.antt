@@ -2,18 +2,17 @@
 use Rattle.std.proofs.Common.{◌≡◌, ◌<◌, ◌≤◌, ◌+◌, ◌^◌, ◌++◌, ◌==◌, ◌&&◌, ℕ, zero, suc, Bool, true, false, cond, not, List, [], ◌∷◌, length, nat_lt, Option, Some, None, Result, Ok, Err, refl, sym, ap, ◌∙◌, subst, arith, append_assoc, All}
 use Rattle.std.proofs.lemmas.List.Elements.{All-cons, All-head, All-nil, All-tail}
 use Rattle.std.proofs.lemmas.Bool.{and_from, and_parts, eq-eqb, eqb-true, lt-ltb, ltb-true}
-use Rattle.bwe_specs.specs.declared.limits.TheConstants.{MAX_READERS}
 use Rattle.bwe_specs.specs.declared.report.Report.{Report}
 use Rattle.crew_log.specs.declared.log.ReadLine.{ReadLine}
-use Rattle.run_audit.specs.Words.{words_of}
-use Rattle.run_audit.specs.Forms.{LineNames, reader_of}
+use Rattle.text_scan.specs.Words.{words_of}
+use Rattle.doc_names.specs.NameTexts.{NameTexts}
+use Rattle.run_audit.specs.Forms.{reader_of}
 use Rattle.run_audit.specs.History.{total_of}
 use Rattle.run_audit.specs.Walk.{Walked, after_line, after_reader, after_table, is_reader, leads_to, new_block, reader_leads, step_from, with_table}
 use Rattle.run_audit.specs.Verdict.{go_on, judge}
 use Rattle.run_audit.specs.declared.due.Due.{Due}
 use Rattle.run_audit.specs.declared.due.Due.TheVariants.{Reader, Line, Next, Table}
 use Rattle.run_audit.specs.declared.due.Step.{Step}
-use Rattle.run_audit.specs.declared.due.TheConstants.{MAX_READS}
 use Rattle.run_audit.specs.declared.forms.ReaderWords.{ReaderWords}
 use Rattle.run_audit.specs.declared.verdict.AuditCause.{AuditCause}
 use Rattle.run_audit.specs.declared.verdict.AuditCause.TheVariants as causes
@@ -43,9 +42,9 @@ pub record IsSeen (total_at : ℕ → ℕ) (total reads : ℕ) (seen : Seen) : T
   pub count : length seen.reads ≡ reads
   pub is : IsBlock total_at total 0 seen.reads seen.last
 
-module _ (names : LineNames) (scripts : List (List Report)) (total_at : ℕ → ℕ) (left : List ℕ) where
+module _ (names : NameTexts) (scripts : List (List Report)) (total_at : ℕ → ℕ) (left : List ℕ) where
   module _ (small : total_of scripts < 2 ^ 64) (fit : (prefix : ℕ) → prefix ≤ total_of scripts → total_at prefix < 2 ^ 64) where
-    reader_on : (table : List (List ℕ)) (number : ℕ) (wanted : Option ℕ) → number < MAX_READERS
+    reader_on : (table : List (List ℕ)) (number : ℕ) (wanted : Option ℕ) → number < 64
         → with_table table (after_reader (total_of scripts) number wanted (words_of (spaced (reader_line number (total_of scripts)))))
         ≡ Ok (record { walk = record { due = Line (new_block number wanted); table = table }; shown = None })
     unfolding after_reader
@@ -53,7 +52,7 @@ module _ (names : LineNames) (scripts : List (List Report)) (total_at : ℕ → 
         ap (λ (words : List (List ℕ)). with_table table (reader_leads total number wanted (reader_of words))) (words_printed (reader_line number total) (omega arith) (reader_clean number total (omega (arith, few)) small))
         ∙ ap (λ (told : Option ReaderWords). with_table table (reader_leads total number wanted told)) (reader_printed number total (omega (arith, few)) small)
         ∙ ap (λ (b : Bool). with_table table (cond {A = Result Step AuditCause} b (cond {A = Result Step AuditCause} (total == total) (leads_to (Line (new_block number wanted))) (Err causes.Length)) (Err causes.Reader)))
-        (and_from (number == number) (nat_lt number MAX_READERS) (eq-eqb number number refl) (lt-ltb number MAX_READERS few))
+        (and_from (number == number) (nat_lt number 64) (eq-eqb number number refl) (lt-ltb number 64 few))
         ∙ ap (λ (b : Bool). with_table table (cond {A = Result Step AuditCause} b (leads_to (Line (new_block number wanted))) (Err causes.Length))) (eq-eqb total total refl)
       where
         total : ℕ
@@ -64,12 +63,12 @@ module _ (names : LineNames) (scripts : List (List Report)) (total_at : ℕ → 
     unfolding after_line step_from
     first_on table = reader_on table 0 None (omega arith)
 
-    next_on : (table : List (List ℕ)) (number reads : ℕ) → number < MAX_READERS → after_line names scripts (record { due = Next number reads; table = table }) (spaced (reader_line number (total_of scripts)))
+    next_on : (table : List (List ℕ)) (number reads : ℕ) → number < 64 → after_line names scripts (record { due = Next number reads; table = table }) (spaced (reader_line number (total_of scripts)))
         ≡ Ok (record { walk = record { due = Line (new_block number (Some reads)); table = table }; shown = None })
     unfolding after_line step_from
     next_on table number reads few = reader_on table number (Some reads) few
 
-    readers_next : (table : List (List ℕ)) (reads : ℕ) (later : List Seen) (number : ℕ) → left ≡ [] → IsTable table → reads ≤ MAX_READS → number + length later ≤ MAX_READERS
+    readers_next : (table : List (List ℕ)) (reads : ℕ) (later : List Seen) (number : ℕ) → left ≡ [] → IsTable table → reads ≤ 1000 → number + length later ≤ 64
         → All (IsSeen total_at (total_of scripts) reads) later
         → IsLegalFrom names scripts total_at left (record { due = Next number reads; table = table }) (all_seen (total_of scripts) number later ++ table)
     readers_next table reads [] number none is few room seen = table_next names scripts total_at left number reads table none is
@@ -86,7 +85,7 @@ module _ (names : LineNames) (scripts : List (List Report)) (total_at : ℕ → 
         here : IsSeen total_at (total_of scripts) reads first
         here = All-head (IsSeen total_at (total_of scripts) reads) first later seen
 
-    pub readers_on : (table : List (List ℕ)) (reads : ℕ) (first : Seen) (later : List Seen) → left ≡ [] → IsTable table → reads ≤ MAX_READS → length (first ∷ later) ≤ MAX_READERS
+    pub readers_on : (table : List (List ℕ)) (reads : ℕ) (first : Seen) (later : List Seen) → left ≡ [] → IsTable table → reads ≤ 1000 → length (first ∷ later) ≤ 64
         → All (IsSeen total_at (total_of scripts) reads) (first ∷ later)
         → IsLegalFrom names scripts total_at left (record { due = Reader; table = table }) (all_seen (total_of scripts) 0 (first ∷ later) ++ table)
     readers_on table reads first later none is few room seen =
@@ -104,7 +103,7 @@ module _ (names : LineNames) (scripts : List (List Report)) (total_at : ℕ → 
 
   record IsReaderLine (number : ℕ) (wanted : Option ℕ) (table : List (List ℕ)) (line : List ℕ) (walked : Walked) : Type 0 where
     line_so : line ≡ spaced (reader_line number (total_of scripts))
-    few : number < MAX_READERS
+    few : number < 64
     walked_so : walked ≡ record { walk = record { due = Line (new_block number wanted); table = table }; shown = None }
 
   reader_back : (number : ℕ) (wanted : Option ℕ) (table : List (List ℕ)) (line : List ℕ) (walked : Walked) → with_table table (after_reader (total_of scripts) number wanted (words_of line)) ≡ Ok walked
@@ -113,20 +112,20 @@ module _ (names : LineNames) (scripts : List (List Report)) (total_at : ℕ → 
   reader_back number wanted table line walked is = go (reader_of (words_of line)) refl is where
     go : (told : Option ReaderWords) → reader_of (words_of line) ≡ told → with_table table (reader_leads (total_of scripts) number wanted told) ≡ Ok walked → IsReaderLine number wanted table line walked
     go None read e = absurd cc
-    go (Some told) read e = test ((told.number == number) && nat_lt told.number MAX_READERS) (told.length == total_of scripts) refl refl e where
-      test : (right whole : Bool) → ((told.number == number) && nat_lt told.number MAX_READERS) ≡ right → (told.length == total_of scripts) ≡ whole
+    go (Some told) read e = test ((told.number == number) && nat_lt told.number 64) (told.length == total_of scripts) refl refl e where
+      test : (right whole : Bool) → ((told.number == number) && nat_lt told.number 64) ≡ right → (told.length == total_of scripts) ≡ whole
           → with_table table (cond {A = Result Step AuditCause} right (cond {A = Result Step AuditCause} whole (leads_to (Line (new_block number wanted))) (Err causes.Length)) (Err causes.Reader)) ≡ Ok walked
           → IsReaderLine number wanted table line walked
       test false whole right_so whole_so e = absurd cc
       test true false right_so whole_so e = absurd cc
       test true true right_so whole_so e =
-          let parts = and_parts (told.number == number) (nat_lt told.number MAX_READERS) right_so in
+          let parts = and_parts (told.number == number) (nat_lt told.number 64) right_so in
           let same : told.number ≡ number = eqb-true told.number number parts.0 in
           record {
             line_so =
                 spaced_words line ∙ ap spaced (reader_read (words_of line) told read) ∙ ap (λ (n : ℕ). spaced (reader_line n told.length)) same
                 ∙ ap (λ (n : ℕ). spaced (reader_line number n)) (eqb-true told.length (total_of scripts) whole_so);
-            few = omega (arith, same, ltb-true told.number MAX_READERS parts.1);
+            few = omega (arith, same, ltb-true told.number 64 parts.1);
             walked_so = cc;
           }
 
@@ -187,7 +186,7 @@ module _ (names : LineNames) (scripts : List (List Report)) (total_at : ℕ → 
   -- a reader's first line, and what is behind it
   record IsBegun (number : ℕ) (wanted : Option ℕ) (table : List (List ℕ)) (line : List ℕ) (lines : List (List ℕ)) : Type 0 where
     line_so : line ≡ spaced (reader_line number (total_of scripts))
-    few : number < MAX_READERS
+    few : number < 64
     block : IsBlockRead names scripts total_at left (new_block number wanted) table lines
 
   begun : (number : ℕ) (wanted : Option ℕ) (due : Due) (table : List (List ℕ)) (place : ℕ) (line : List ℕ) (lines : List (List ℕ))
@@ -202,7 +201,7 @@ module _ (names : LineNames) (scripts : List (List Report)) (total_at : ℕ → 
         block = block_back names scripts total_at left table lines (place + 1) (new_block number wanted) (omega arith) (subst (λ (walked : Walked). judge names scripts total_at left walked.walk (place + 1) lines ≡ Legal) here.walked_so step.legal);
       }
 
-  readers_back : (table : List (List ℕ)) (reads room number : ℕ) (place : ℕ) (lines : List (List ℕ)) → number + room ≡ MAX_READERS
+  readers_back : (table : List (List ℕ)) (reads room number : ℕ) (place : ℕ) (lines : List (List ℕ)) → number + room ≡ 64
       → judge names scripts total_at left (record { due = Next number reads; table = table }) place lines ≡ Legal → AreRead number room reads table lines
   readers_back table reads zero number place [] full legal = let end = end_back table number reads place legal in none_read number zero reads table [] (sym end.0) end.1
   readers_back table reads (suc room) number place [] full legal = let end = end_back table number reads place legal in none_read number (suc room) reads table [] (sym end.0) end.1
@@ -212,7 +211,7 @@ module _ (names : LineNames) (scripts : List (List Report)) (total_at : ℕ → 
     go true is = let here : IsBegun number (Some reads) table line lines = begun number (Some reads) (Next number reads) table place line lines (λ walked e. as_reader number reads table line walked is e) legal in absurd (omega (arith, here.few, full))
   readers_back table reads (suc room) number place (line ∷ lines) full legal = go (λ number place lines full legal. readers_back table reads room number place lines full legal) (is_reader line) refl where
     Later : Type 0
-    Later = (number : ℕ) (place : ℕ) (lines : List (List ℕ)) → number + room ≡ MAX_READERS
+    Later = (number : ℕ) (place : ℕ) (lines : List (List ℕ)) → number + room ≡ 64
         → judge names scripts total_at left (record { due = Next number reads; table = table }) place lines ≡ Legal → AreRead number room reads table lines
 
     go : Later → (b : Bool) → is_reader line ≡ b → AreRead number (suc room) reads table (line ∷ lines)
@@ -238,8 +237,8 @@ module _ (names : LineNames) (scripts : List (List Report)) (total_at : ℕ → 
     pub reads : ℕ
     pub first : Seen
     pub later : List Seen
-    pub few_reads : reads ≤ MAX_READS
-    pub few : length (first ∷ later) ≤ MAX_READERS
+    pub few_reads : reads ≤ 1000
+    pub few : length (first ∷ later) ≤ 64
     pub seen : All (IsSeen total_at (total_of scripts) reads) (first ∷ later)
     pub lines_so : lines ≡ all_seen (total_of scripts) 0 (first ∷ later) ++ table
     pub none : left ≡ []

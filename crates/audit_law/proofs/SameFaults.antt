@@ -2,8 +2,10 @@
 use Rattle.std.proofs.Common.{◌≡◌, ◌<◌, ◌≤◌, ◌+◌, ◌++◌, ◌==◌, ℕ, Bool, true, false, cond, List, [], ◌∷◌, length, take, drop, nat_lt, Option, Some, None, Result, Ok, Err, refl, sym, ap, ◌∙◌, arith}
 use Rattle.std.proofs.lemmas.List.{length_push, length-take-le, take-append-drop}
 use Rattle.bwe_specs.specs.declared.report.Report.{Report}
-use Rattle.run_audit.specs.Words.{left_of, lines_of, words_of}
-use Rattle.run_audit.specs.Forms.{LineNames, history_of, report_of}
+use Rattle.text_scan.specs.Lines.{left_of, lines_of}
+use Rattle.text_scan.specs.Words.{words_of}
+use Rattle.doc_names.specs.NameTexts.{NameTexts}
+use Rattle.run_audit.specs.Forms.{history_of, report_of}
 use Rattle.run_audit.specs.History.{Printed, Reported, begins, continue_with, fault, history_in, is_line_of, line_after, next_of, none_printed, take_line, take_lines, take_next, take_words, total_of, with_report}
 use Rattle.run_audit.specs.Walk.{Walk, Walked, after_line, due_from, is_over}
 use Rattle.run_audit.specs.Verdict.{at_end, go_on, is_total, judge, judge_rest, verdict_of}
@@ -14,7 +16,7 @@ use Rattle.run_audit.specs.declared.verdict.AuditVerdict.{AuditVerdict}
 use Rattle.run_audit.specs.declared.verdict.AuditVerdict.TheVariants.{Wrong}
 use Rattle.run_audit.specs.declared.verdict.Fault.{Fault}
 
-module _ (names : LineNames) (scripts : List (List Report)) where
+module _ (names : NameTexts) (scripts : List (List Report)) where
   -- ---- the lines behind the history
 
   module _ (total_at : ℕ → ℕ) where

@@ -5,8 +5,10 @@ use Rattle.std.specs.Str.{bytes_eq}
 use Rattle.std.proofs.lemmas.List.{length-append, get_or_at}
 use Rattle.std.proofs.lemmas.Bool.{and_from, and_parts, eq-eqb, eqb-true, le-ltb, lt-ltb, ne_eqb}
 use Rattle.bwe_specs.specs.declared.report.Report.{Report}
-use Rattle.run_audit.specs.Words.{word_at, words_of}
-use Rattle.run_audit.specs.Forms.{LineNames, sent_of}
+use Rattle.text_scan.specs.Words.{words_of}
+use Rattle.run_audit.specs.Words.{word_at}
+use Rattle.doc_names.specs.NameTexts.{NameTexts}
+use Rattle.run_audit.specs.Forms.{sent_of}
 use Rattle.run_audit.specs.Walk.{Walk, Walked, after_line, after_reporter, after_table, due_from, is_over, is_reader, leads_to, sent_leads, step_from, with_table}
 use Rattle.run_audit.specs.Verdict.{at_end, go_on, is_total, judge}
 use Rattle.run_audit.specs.declared.due.Due.{Due}
@@ -21,7 +23,7 @@ use Rattle.audit_law.proofs.LineForms.{itself, same_bytes, sent_line, sent_print
 use Rattle.audit_law.proofs.Clean.{sent_clean, words_printed}
 
 -- a line for each reporter, with how many it sent
-abbrev pub sent_lines : LineNames → ℕ → List (List Report) → List (List ℕ)
+abbrev pub sent_lines : NameTexts → ℕ → List (List Report) → List (List ℕ)
 sent_lines names reporter [] = []
 sent_lines names reporter (script ∷ later) = spaced (sent_line names reporter (length script)) ∷ sent_lines names (suc reporter) later
 
@@ -30,7 +32,7 @@ abbrev pub IsTable : List (List ℕ) → Type 0
 IsTable [] = Unit {0}
 IsTable (line ∷ table) = is_reader line ≡ false
 
-module _ (names : LineNames) (scripts : List (List Report)) (total_at : ℕ → ℕ) (left : List ℕ) where
+module _ (names : NameTexts) (scripts : List (List Report)) (total_at : ℕ → ℕ) (left : List ℕ) where
   -- nothing is at fault from here on, whatever the number of the next line is
   abbrev pub IsLegalFrom : Walk → List (List ℕ) → Type 0
   IsLegalFrom walk lines = (number : ℕ) → judge names scripts total_at left walk number lines ≡ Legal

@@ -10,8 +10,8 @@ use Rattle.crew_log.specs.declared.log.ReadLine.{ReadLine}
 use Rattle.crew_log.specs.declared.log.ReaderLog.{ReaderLog}
 use Rattle.crew_log.specs.declared.log.CrewLog.{CrewLog}
 use Rattle.table_text.specs.TableText.{text_of}
-use Rattle.run_text.specs.RunText.{RunNames, beyond_line, final_line as final_text, numbered, read_line as read_text, reader_lines as reader_text, report_line as report_text, report_word, run_text_of, sent_line as sent_text, target_name}
-use Rattle.audit_law.specs.ClosedRun.{line_names}
+use Rattle.doc_names.specs.NameTexts.{NameTexts}
+use Rattle.run_text.specs.RunText.{beyond_line, final_line as final_text, numbered, read_line as read_text, reader_lines as reader_text, report_line as report_text, report_word, run_text_of, sent_line as sent_text, target_name}
 use Rattle.audit_law.proofs.Lines.{printed, printed-append, spaced}
 use Rattle.audit_law.proofs.LineForms.{history_line, reader_line, report_line, sent_line}
 use Rattle.audit_law.proofs.Histories.{report_lines}
@@ -30,8 +30,8 @@ told_is : (place name target amount : List ℕ)
     → place ++ codes " " ++ name ++ codes " " ++ target ++ codes " " ++ amount ++ codes "\n" ≡ spaced (place ∷ name ∷ target ∷ amount ∷ []) ++ 10 ∷ []
 told_is place name target amount = simp append_assoc
 
-report_is : (names : RunNames) (place reporter amount : ℕ) (target : Target)
-    → report_text names place (record { reporter = reporter; target = target; amount = amount }) ≡ spaced (report_line (line_names names) place (record { reporter = reporter; target = target; amount = amount })) ++ 10 ∷ []
+report_is : (names : NameTexts) (place reporter amount : ℕ) (target : Target)
+    → report_text names place (record { reporter = reporter; target = target; amount = amount }) ≡ spaced (report_line names place (record { reporter = reporter; target = target; amount = amount })) ++ 10 ∷ []
 unfolding report_word target_name
 report_is names place reporter amount (Task number) = ap (λ (t : List ℕ). codes "report " ++ t) (told_is (decimal place) _ _ (decimal amount))
 report_is names place reporter amount (Link number) = ap (λ (t : List ℕ). codes "capacity " ++ t) (told_is (decimal place) _ _ (decimal amount))
@@ -54,17 +54,17 @@ final_is line = ap (λ (t : List ℕ). codes "final " ++ t) (shown_is (decimal l
 
 -- ---- many lines
 
-reports_are : (names : RunNames) (place : ℕ) (reports : List Report) → numbered (report_text names) place reports ≡ printed (report_lines (line_names names) place reports)
+reports_are : (names : NameTexts) (place : ℕ) (reports : List Report) → numbered (report_text names) place reports ≡ printed (report_lines names place reports)
 reports_are names place [] = refl
 reports_are names place (report ∷ reports) =
-    line_more (report_text names place report) (spaced (report_line (line_names names) place report)) (numbered (report_text names) (suc place) reports) (report_lines (line_names names) (suc place) reports)
+    line_more (report_text names place report) (spaced (report_line names place report)) (numbered (report_text names) (suc place) reports) (report_lines names (suc place) reports)
     (report_is names place report.reporter report.amount report.target) (reports_are names (suc place) reports)
 
-sent_are : (names : RunNames) (reporter : ℕ) (scripts : List (List Report)) → numbered (sent_text names) reporter (map (λ script. length script) scripts) ≡ printed (sent_lines (line_names names) reporter scripts)
+sent_are : (names : NameTexts) (reporter : ℕ) (scripts : List (List Report)) → numbered (sent_text names) reporter (map (λ script. length script) scripts) ≡ printed (sent_lines names reporter scripts)
 sent_are names reporter [] = refl
 sent_are names reporter (script ∷ scripts) =
-    line_more (sent_text names reporter (length script)) (spaced (sent_line (line_names names) reporter (length script))) (numbered (sent_text names) (suc reporter) (map (λ script. length script) scripts))
-    (sent_lines (line_names names) (suc reporter) scripts) (sent_is _ (decimal (length script))) (sent_are names (suc reporter) scripts)
+    line_more (sent_text names reporter (length script)) (spaced (sent_line names reporter (length script))) (numbered (sent_text names) (suc reporter) (map (λ script. length script) scripts))
+    (sent_lines names (suc reporter) scripts) (sent_is _ (decimal (length script))) (sent_are names (suc reporter) scripts)
 
 reads_are : (reads : List ReadLine) (last : ReadLine) → flat_map read_text reads ++ final_text last ≡ printed (read_lines reads last)
 reads_are [] last = final_is last
@@ -84,7 +84,7 @@ pub record IsClosed (history : ℕ) (reader : ReaderLog) : Type 0 where
   pub none : reader.beyond.items ≡ []
   pub length_so : reader.length ≡ history
 
-reader_printed : (names : RunNames) (history number : ℕ) (reader : ReaderLog) → IsClosed history reader → reader_text names history number reader ≡ printed (seen_lines history number (seen_of reader))
+reader_printed : (names : NameTexts) (history number : ℕ) (reader : ReaderLog) → IsClosed history reader → reader_text names history number reader ≡ printed (seen_lines history number (seen_of reader))
 reader_printed names history number reader closed =
     ap (λ (beyond : List Report). head ++ numbered (beyond_line names) history beyond ++ flat_map read_text reader.reads.items ++ final_text reader.last) closed.none
     ∙ ap (λ (h : List ℕ). h ++ flat_map read_text reader.reads.items ++ final_text reader.last) (append-nil head)
@@ -95,7 +95,7 @@ reader_printed names history number reader closed =
     head : List ℕ
     head = codes "reader " ++ decimal number ++ codes " length " ++ decimal reader.length ++ codes "\n"
 
-readers_are : (names : RunNames) (history number : ℕ) (readers : List ReaderLog) → All (IsClosed history) readers
+readers_are : (names : NameTexts) (history number : ℕ) (readers : List ReaderLog) → All (IsClosed history) readers
     → numbered (reader_text names history) number readers ≡ printed (all_seen history number (all_seen_of readers))
 readers_are names history number [] closed = refl
 readers_are names history number (reader ∷ readers) closed =
@@ -106,28 +106,28 @@ readers_are names history number (reader ∷ readers) closed =
 -- ---- the whole
 
 -- the lines before the table
-unfoldable pub front_lines : RunNames → List Report → List (List Report) → List Seen → List (List ℕ)
+unfoldable pub front_lines : NameTexts → List Report → List (List Report) → List Seen → List (List ℕ)
 front_lines names history scripts seen =
-    (((spaced (history_line (length history)) ∷ []) ++ report_lines (line_names names) 0 history) ++ sent_lines (line_names names) 0 scripts) ++ all_seen (length history) 0 seen
+    (((spaced (history_line (length history)) ∷ []) ++ report_lines names 0 history) ++ sent_lines names 0 scripts) ++ all_seen (length history) 0 seen
 
 history_is : (number : List ℕ) → codes "history " ++ number ++ codes "\n" ≡ printed (spaced (codes "history" ∷ number ∷ []) ∷ [])
 history_is number = refl
 
-pub run_text_is : (names : RunNames) (log : CrewLog Table) (scripts : List (List Report)) → log.sent.items ≡ map (λ script. length script) scripts → All (IsClosed (length log.history.items)) log.readers.items
-    → run_text_of names log ≡ printed (front_lines names log.history.items scripts (all_seen_of log.readers.items)) ++ text_of names.table log.table
+pub run_text_is : (names : NameTexts) (log : CrewLog Table) (scripts : List (List Report)) → log.sent.items ≡ map (λ script. length script) scripts → All (IsClosed (length log.history.items)) log.readers.items
+    → run_text_of names log ≡ printed (front_lines names log.history.items scripts (all_seen_of log.readers.items)) ++ text_of names log.table
 unfolding run_text_of front_lines
-run_text_is names log scripts sent closed = ap (λ (t : List ℕ). t ++ text_of names.table log.table) whole where
+run_text_is names log scripts sent closed = ap (λ (t : List ℕ). t ++ text_of names log.table) whole where
   history : List Report
   history = log.history.items
 
   reports : List (List ℕ)
-  reports = report_lines (line_names names) 0 history
+  reports = report_lines names 0 history
 
   first : List (List ℕ)
   first = spaced (history_line (length history)) ∷ []
 
   senders : List (List ℕ)
-  senders = sent_lines (line_names names) 0 scripts
+  senders = sent_lines names 0 scripts
 
   seen : List (List ℕ)
   seen = all_seen (length history) 0 (all_seen_of log.readers.items)

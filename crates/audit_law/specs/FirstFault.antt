@@ -3,8 +3,8 @@ use Rattle.std.specs.Prelude.{◌≡◌, ℕ, ◌+◌, ◌<◌, List, Vec, lengt
 use Rattle.std.specs.declared.alloc.Global.{Global}
 use Rattle.bwe_specs.specs.declared.report.Report.{Report}
 use Rattle.bwe_specs.specs.Allocation.{Table}
-use Rattle.run_text.specs.RunText.{RunNames}
-use Rattle.run_audit.specs.Words.{lines_of}
+use Rattle.text_scan.specs.Lines.{lines_of}
+use Rattle.doc_names.specs.NameTexts.{NameTexts}
 use Rattle.run_audit.specs.declared.verdict.AuditCause.{AuditCause}
 use Rattle.run_audit.specs.declared.verdict.AuditCause.TheVariants.{Form, Length, Prefix, Reader, Script, Sent, Total}
 use Rattle.run_audit.specs.declared.verdict.AuditCause.TheVariants as causes
@@ -19,7 +19,7 @@ BeginsAs count text other = take count (lines_of other) ≡ take count (lines_of
 -- no closed legal run has the line at fault behind the lines before it
 abbrev pub NoRunGoesOn : Type 0
 NoRunGoesOn =
-    (names : RunNames) (table_of : List Report → Table) (table : Table) (tasks links : ℕ) (scripts : List (Vec Report Global)) (text : List ℕ) (line : ℕ) (cause : AuditCause)
+    (names : NameTexts) (table_of : List Report → Table) (table : Table) (tasks links : ℕ) (scripts : List (Vec Report Global)) (text : List ℕ) (line : ℕ) (cause : AuditCause)
     → AreAudited names table_of table tasks links scripts
     → verdict_on names table_of table scripts text ≡ Wrong line cause → line < length (lines_of text)
     → (other : List ℕ) → IsClosedRun names table_of tasks links scripts other → BeginsAs (line + 1) text other → ⊥
@@ -38,7 +38,7 @@ IsNoRead causes.Table = Unit {0}
 -- some closed legal run has the lines before the one at fault, where the cause is one of those
 abbrev pub SomeRunBeginsSo : Type 0
 SomeRunBeginsSo =
-    (names : RunNames) (table_of : List Report → Table) (table : Table) (tasks links : ℕ) (scripts : List (Vec Report Global)) (text : List ℕ) (line : ℕ) (cause : AuditCause)
+    (names : NameTexts) (table_of : List Report → Table) (table : Table) (tasks links : ℕ) (scripts : List (Vec Report Global)) (text : List ℕ) (line : ℕ) (cause : AuditCause)
     → AreAudited names table_of table tasks links scripts
     → verdict_on names table_of table scripts text ≡ Wrong line cause → IsNoRead cause
     → (other : List ℕ) × IsClosedRun names table_of tasks links scripts other × BeginsAs line text other

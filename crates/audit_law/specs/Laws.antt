@@ -5,22 +5,22 @@ use Rattle.bwe_specs.specs.declared.report.Report.{Report}
 use Rattle.bwe_specs.specs.Allocation.{Table}
 use Rattle.limit_table.specs.Tables.{total_of as table_total}
 use Rattle.table_text.specs.TableText.{text_of}
-use Rattle.run_text.specs.RunText.{RunNames}
+use Rattle.doc_names.specs.NameTexts.{NameTexts}
 use Rattle.run_audit.specs.History.{scripts_of}
 use Rattle.run_audit.specs.Verdict.{verdict_of}
 use Rattle.run_audit.specs.declared.verdict.AuditVerdict.{AuditVerdict}
 use Rattle.run_audit.specs.declared.verdict.AuditVerdict.TheVariants.{Legal}
-use Rattle.audit_law.specs.ClosedRun.{AreAudited, IsClosedRun, line_names}
+use Rattle.audit_law.specs.ClosedRun.{AreAudited, IsClosedRun}
 
 -- the verdict on a text, for a maker with these tables, under the text of one of them
-abbrev pub verdict_on : RunNames → (List Report → Table) → Table → List (Vec Report Global) → List ℕ → AuditVerdict
+abbrev pub verdict_on : NameTexts → (List Report → Table) → Table → List (Vec Report Global) → List ℕ → AuditVerdict
 verdict_on names table_of table scripts text =
-    verdict_of (line_names names) (scripts_of scripts) (λ reports. table_total (table_of reports)) (text_of names.table table) text
+    verdict_of names (scripts_of scripts) (λ reports. table_total (table_of reports)) (text_of names table) text
 
 -- the text of each closed legal run is legal
 abbrev pub LegalRunIsLegal : Type 0
 LegalRunIsLegal =
-    (names : RunNames) (table_of : List Report → Table) (table : Table) (tasks links : ℕ) (scripts : List (Vec Report Global)) (text : List ℕ)
+    (names : NameTexts) (table_of : List Report → Table) (table : Table) (tasks links : ℕ) (scripts : List (Vec Report Global)) (text : List ℕ)
     → AreAudited names table_of table tasks links scripts
     → IsClosedRun names table_of tasks links scripts text
     → verdict_on names table_of table scripts text ≡ Legal
@@ -28,7 +28,7 @@ LegalRunIsLegal =
 -- each legal text is that of a closed legal run
 abbrev pub LegalTextIsARun : Type 0
 LegalTextIsARun =
-    (names : RunNames) (table_of : List Report → Table) (table : Table) (tasks links : ℕ) (scripts : List (Vec Report Global)) (text : List ℕ)
+    (names : NameTexts) (table_of : List Report → Table) (table : Table) (tasks links : ℕ) (scripts : List (Vec Report Global)) (text : List ℕ)
     → AreAudited names table_of table tasks links scripts
     → verdict_on names table_of table scripts text ≡ Legal
     → IsClosedRun names table_of tasks links scripts text

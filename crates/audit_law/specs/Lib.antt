@@ -1,3 +1,5 @@
 pub mod ClosedRun
 pub mod Laws
 pub mod FirstFault
+pub mod DocumentRun
+pub mod DocumentLaws

@@ -4,8 +4,9 @@ use Rattle.std.specs.Prelude.{IfSome, slice_get, slice_index_or}
 use Rattle.std.specs.List.{All}
 use Rattle.std.proofs.lemmas.List.Elements.{All-push}
 use Rattle.bwe_specs.specs.declared.report.Report.{Report}
-use Rattle.run_audit.specs.Words.{words_of}
-use Rattle.run_audit.specs.Forms.{LineNames, history_of, report_of}
+use Rattle.text_scan.specs.Words.{words_of}
+use Rattle.doc_names.specs.NameTexts.{NameTexts}
+use Rattle.run_audit.specs.Forms.{history_of, report_of}
 use Rattle.run_audit.specs.History.{Printed, Reported, begins, continue_with, fault, history_in, is_line_of, line_after, next_of, none_printed, scripts_of, take_line, take_lines, take_next, take_words, total_of, with_report}
 use Rattle.run_audit.specs.declared.forms.ReportWords.{ReportWords}
 use Rattle.run_audit.specs.declared.verdict.AuditCause.TheVariants.{Form, Script}
@@ -24,7 +25,7 @@ module _ (P : Report → Type 0) where
   next_fits (script ∷ scripts) all zero place = fits_at script.items place (all 0 script (omega arith))
   next_fits (script ∷ scripts) all (suc reporter) place = next_fits scripts (λ number other within. all (suc number) other (omega (arith, within))) reporter place
 
-module _ (names : LineNames) (scripts : List (List Report)) (P : Report → Type 0) (given : (taken : List ℕ) (reporter : ℕ) → IfSome (next_of scripts taken reporter) P) where
+module _ (names : NameTexts) (scripts : List (List Report)) (P : Report → Type 0) (given : (taken : List ℕ) (reporter : ℕ) → IfSome (next_of scripts taken reporter) P) where
   taken_fits : (printed new : Printed) (words : List (List ℕ)) (told : ReportWords) (next : Option Report) → IfSome next P
       → take_next names printed words told next ≡ Ok new → All P printed.reports → All P new.reports
   unfolding take_next

@@ -1,6 +1,6 @@
 pub mod Counts
-mod Splits
-mod Digits
+mod WordFacts
+mod Names
 mod Dues
 mod Takes
 mod Pursues

@@ -4,7 +4,7 @@ use Rattle.std.specs.Prelude.{IfSome}
 use Rattle.std.specs.List.{All}
 use Rattle.std.proofs.lemmas.List.Elements.{All-push}
 use Rattle.bwe_specs.specs.declared.report.Report.{Report}
-use Rattle.run_audit.specs.Forms.{LineNames}
+use Rattle.doc_names.specs.NameTexts.{NameTexts}
 use Rattle.run_audit.specs.Walk.{Walk, Walked, after_line, is_over}
 use Rattle.run_audit.specs.Verdict.{at_end, go_on, is_total, judge}
 use Rattle.run_audit.specs.Checks.{Found, checks_of, find_on, first_wrong, pursue, with_checks}
@@ -19,7 +19,7 @@ use Rattle.run_audit.specs.declared.verdict.AuditVerdict.TheVariants.{Wrong}
 alone : (checks : List Check) (verdict : AuditVerdict) → with_checks checks (record { checks = []; verdict = verdict }) ≡ record { checks = checks; verdict = verdict }
 alone checks verdict = ap (λ (all : List Check). record { checks = all; verdict = verdict }) (append-nil checks)
 
-module _ (names : LineNames) (scripts : List (List Report)) (left : List ℕ) (walk : Walk) (number : ℕ) (lines : List (List ℕ)) (checks : List Check) where
+module _ (names : NameTexts) (scripts : List (List Report)) (left : List ℕ) (walk : Walk) (number : ℕ) (lines : List (List ℕ)) (checks : List Check) where
   pub pursuit_ends : (verdict : AuditVerdict) → lines ≡ [] → verdict ≡ at_end (is_over walk) number left
       → record { checks = checks; verdict = verdict } ≡ with_checks checks (pursue names scripts left walk number lines)
   unfolding pursue
@@ -79,7 +79,7 @@ module _ (total_at : ℕ → ℕ) (number : ℕ) where
   same_on judge_next find_next same (Ok walked) = with_shown walked.shown (judge_next walked.walk) (find_next walked.walk) (same walked.walk)
 
 -- the totals can be looked at afterwards
-pub judged : (names : LineNames) (scripts : List (List Report)) (total_at : ℕ → ℕ) (left : List ℕ) (walk : Walk) (number : ℕ) (lines : List (List ℕ))
+pub judged : (names : NameTexts) (scripts : List (List Report)) (total_at : ℕ → ℕ) (left : List ℕ) (walk : Walk) (number : ℕ) (lines : List (List ℕ))
     → judge names scripts total_at left walk number lines
     ≡ first_wrong total_at (pursue names scripts left walk number lines).verdict (pursue names scripts left walk number lines).checks
 unfolding judge pursue

@@ -3,8 +3,8 @@ use Rattle.std.proofs.Common.{◌≡◌, ◌+◌, ◌==◌, ℕ, suc, cond, List
 use Rattle.std.specs.List.{All}
 use Rattle.bwe_specs.specs.declared.report.Report.{Report}
 use Rattle.bwe_specs.specs.declared.memory.OutOfMemory.{OutOfMemory}
-use Rattle.run_audit.specs.Words.{left_of, lines_of}
-use Rattle.run_audit.specs.Forms.{LineNames}
+use Rattle.text_scan.specs.Lines.{left_of, lines_of}
+use Rattle.doc_names.specs.NameTexts.{NameTexts}
 use Rattle.run_audit.specs.History.{IsStop, history_in}
 use Rattle.run_audit.specs.Walk.{due_from}
 use Rattle.run_audit.specs.Verdict.{IsVerdictAt, judge, judge_rest, verdict_of}
@@ -27,7 +27,7 @@ first_wrong-same verdict totals others (check ∷ checks) all =
     ∙ ap (λ (later : AuditVerdict). cond (others check.prefix == check.total) later (Wrong check.line causes.Total))
     (first_wrong-same verdict totals others checks (λ k d within. all (suc k) d (omega (arith, within))))
 
-pub rest_judged : (names : LineNames) (scripts : List (List Report)) (left : List ℕ) (due : Due) (table : List (List ℕ)) (number : ℕ) (lines : List (List ℕ)) (total_at totals : ℕ → ℕ) (found : Found) (verdict : AuditVerdict)
+pub rest_judged : (names : NameTexts) (scripts : List (List Report)) (left : List ℕ) (due : Due) (table : List (List ℕ)) (number : ℕ) (lines : List (List ℕ)) (total_at totals : ℕ → ℕ) (found : Found) (verdict : AuditVerdict)
     → due ≡ due_from scripts 0
     → found ≡ pursue names scripts left (record { due = due; table = table }) number lines
     → All (λ check. totals check.prefix ≡ total_at check.prefix) found.checks
@@ -40,7 +40,7 @@ rest_judged names scripts left due table number lines total_at totals found verd
     ∙ sym (judged names scripts total_at left (record { due = due; table = table }) number lines)
     ∙ ap (λ (d : Due). judge names scripts total_at left (record { due = d; table = table }) number lines) first
 
-module _ (names : LineNames) (scripts : List (List Report)) (total : List Report → ℕ) (table text : List ℕ) (answer : Result AuditVerdict OutOfMemory) where
+module _ (names : NameTexts) (scripts : List (List Report)) (total : List Report → ℕ) (table text : List ℕ) (answer : Result AuditVerdict OutOfMemory) where
   stop_is : (stop : Stop) (verdict : AuditVerdict) → IsStop (history_in names scripts (lines_of text)) stop → IsVerdictAt stop verdict → verdict ≡ verdict_of names scripts total table text
   unfolding verdict_of
   stop_is (stops.At fault) verdict stopped at = at ∙ sym (ap (judge_rest names scripts total (lines_of table) (left_of text)) stopped)

@@ -1,7 +1,7 @@
 -- The totals that lines show, apart from the other causes.
 use Rattle.std.specs.Prelude.{ℕ, ◌==◌, ◌+◌, ◌++◌, List, [], ◌∷◌, Option, Some, None, Result, Ok, Err, if◌then◌else◌}
 use Rattle.bwe_specs.specs.declared.report.Report.{Report}
-use Rattle.run_audit.specs.Forms.{LineNames}
+use Rattle.doc_names.specs.NameTexts.{NameTexts}
 use Rattle.run_audit.specs.Walk.{Walk, Walked, after_line, is_over}
 use Rattle.run_audit.specs.Verdict.{at_end}
 use Rattle.run_audit.specs.declared.forms.Shown.{Shown}
@@ -31,7 +31,7 @@ abbrev pub find_on : ℕ → (Walk → Found) → Result Walked AuditCause → F
 find_on number next (Err cause) = record { checks = []; verdict = Wrong number cause }
 find_on number next (Ok walked) = with_checks (checks_of number walked.shown) (next walked.walk)
 
-unfoldable pub pursue : LineNames → List (List Report) → List ℕ → Walk → ℕ → List (List ℕ) → Found
+unfoldable pub pursue : NameTexts → List (List Report) → List ℕ → Walk → ℕ → List (List ℕ) → Found
 pursue names scripts left walk number [] = record { checks = []; verdict = at_end (is_over walk) number left }
 pursue names scripts left walk number (line ∷ lines) =
     find_on number (λ next. pursue names scripts left next (number + 1) lines) (after_line names scripts walk line)

@@ -1,31 +1,18 @@
 -- The forms of the lines before the table: which words they have, and what these say.
-use Rattle.std.specs.Prelude.{ℕ, Bool, ◌==◌, ◌&&◌, ◌||◌, List, length, map, Option, Some, None, if◌then◌else◌, codes, position, string_bytes}
+use Rattle.std.specs.Prelude.{ℕ, Bool, ◌==◌, ◌&&◌, ◌||◌, List, length, Option, Some, None, if◌then◌else◌, codes, position}
 use Rattle.std.specs.Str.{bytes_eq}
-use Rattle.doc_names.specs.declared.Names.{Names}
+use Rattle.doc_names.specs.NameTexts.{NameTexts}
 use Rattle.run_audit.specs.Words.{is_known, is_word, number_at, word_at}
 use Rattle.run_audit.specs.declared.forms.ReportWords.{ReportWords}
 use Rattle.run_audit.specs.declared.forms.ReaderWords.{ReaderWords}
 use Rattle.run_audit.specs.declared.forms.Shown.{Shown}
-
--- the names that lines have, each list in the order of the numbers
-pub record LineNames : Type 0 where
-  pub tasks : List (List ℕ)
-  pub links : List (List ℕ)
-  pub reporters : List (List ℕ)
-
-abbrev pub names_of : Names → LineNames
-names_of names = record {
-  tasks = map string_bytes names.tasks.items;
-  links = map string_bytes names.links.items;
-  reporters = map string_bytes names.reporters.items;
-}
 
 -- `history <number of reports>`
 unfoldable pub history_of : List (List ℕ) → Option ℕ
 history_of words = if (length words == 2) && is_word words 0 (codes "history") then number_at words 1 else None
 
 -- the first word goes with the name in the fourth: a task's in a report, a link's in a capacity
-unfoldable pub is_of_known : LineNames → List (List ℕ) → Bool
+unfoldable pub is_of_known : NameTexts → List (List ℕ) → Bool
 is_of_known names words =
     (is_word words 0 (codes "report") && is_known names.tasks (word_at words 3))
     || (is_word words 0 (codes "capacity") && is_known names.links (word_at words 3))
@@ -37,13 +24,13 @@ report_words (Some place) (Some reporter) None = None
 report_words (Some place) (Some reporter) (Some amount) = Some (record { place = place; reporter = reporter; amount = amount })
 
 -- `report <place> <reporter> <task> <demand>`, or `capacity <place> <reporter> <link> <capacity>`
-unfoldable pub report_of : LineNames → List (List ℕ) → Option ReportWords
+unfoldable pub report_of : NameTexts → List (List ℕ) → Option ReportWords
 report_of names words =
     if (length words == 5) && is_of_known names words
     then report_words (number_at words 1) (position (bytes_eq (word_at words 2)) names.reporters) (number_at words 4) else None
 
 -- the number in `reporter <reporter> sent <number>`
-unfoldable pub sent_of : LineNames → List (List ℕ) → Option ℕ
+unfoldable pub sent_of : NameTexts → List (List ℕ) → Option ℕ
 sent_of names words =
     if (length words == 4) && (is_word words 0 (codes "reporter") && (is_word words 2 (codes "sent") && is_known names.reporters (word_at words 1)))
     then number_at words 3 else None

@@ -4,8 +4,8 @@ use Rattle.std.specs.List.{All}
 use Rattle.std.specs.declared.alloc.Global.{Global}
 use Rattle.demand_book.specs.Fit.{IsFit}
 use Rattle.bwe_specs.specs.declared.report.Report.{Report}
-use Rattle.run_audit.specs.Words.{left_of, lines_of}
-use Rattle.run_audit.specs.Forms.{LineNames}
+use Rattle.text_scan.specs.Lines.{left_of, lines_of}
+use Rattle.doc_names.specs.NameTexts.{NameTexts}
 use Rattle.run_audit.specs.History.{Reported, history_in}
 use Rattle.run_audit.specs.Walk.{Walk, Walked, after_line, due_from, is_over}
 use Rattle.run_audit.specs.declared.forms.Shown.{Shown}
@@ -33,19 +33,19 @@ go_on total_at number next (Err cause) = Wrong number cause
 go_on total_at number next (Ok walked) = if is_total total_at walked.shown then next walked.walk else Wrong number causes.Total
 
 -- the first fault of the lines from this number on
-unfoldable pub judge : LineNames → List (List Report) → (ℕ → ℕ) → List ℕ → Walk → ℕ → List (List ℕ) → AuditVerdict
+unfoldable pub judge : NameTexts → List (List Report) → (ℕ → ℕ) → List ℕ → Walk → ℕ → List (List ℕ) → AuditVerdict
 judge names scripts total_at left walk number [] = at_end (is_over walk) number left
 judge names scripts total_at left walk number (line ∷ lines) =
     go_on total_at number (λ next. judge names scripts total_at left next (number + 1) lines) (after_line names scripts walk line)
 
-abbrev pub judge_rest : LineNames → List (List Report) → (List Report → ℕ) → List (List ℕ) → List ℕ → Result Reported Fault → AuditVerdict
+abbrev pub judge_rest : NameTexts → List (List Report) → (List Report → ℕ) → List (List ℕ) → List ℕ → Result Reported Fault → AuditVerdict
 judge_rest names scripts total table left (Err fault) = Wrong fault.line fault.cause
 judge_rest names scripts total table left (Ok reported) =
     judge names scripts (λ prefix. total (take prefix reported.reports)) left
     (record { due = due_from scripts 0; table = table }) (length reported.reports + 1) reported.lines
 
 -- the first fault of a text: the history, then what is behind it, where `total` gives the total of the table of some reports
-unfoldable pub verdict_of : LineNames → List (List Report) → (List Report → ℕ) → List ℕ → List ℕ → AuditVerdict
+unfoldable pub verdict_of : NameTexts → List (List Report) → (List Report → ℕ) → List ℕ → List ℕ → AuditVerdict
 verdict_of names scripts total table text =
     judge_rest names scripts total (lines_of table) (left_of text) (history_in names scripts (lines_of text))
 

@@ -3,13 +3,13 @@ use Rattle.std.specs.Prelude.{ℕ, ◌<◌, ◌≤◌, IfSome, Bool, true, false
 use Rattle.std.specs.List.{starts_with}
 use Rattle.std.specs.Str.{bytes_eq}
 use Rattle.bwe_specs.specs.declared.report.Report.{Report}
-use Rattle.bwe_specs.specs.declared.limits.TheConstants.{MAX_READERS}
-use Rattle.run_audit.specs.Words.{word_at, words_of}
-use Rattle.run_audit.specs.Forms.{LineNames, reader_of, sent_of, shown_of}
+use Rattle.text_scan.specs.Words.{words_of}
+use Rattle.run_audit.specs.Words.{word_at}
+use Rattle.doc_names.specs.NameTexts.{NameTexts}
+use Rattle.run_audit.specs.Forms.{reader_of, sent_of, shown_of}
 use Rattle.run_audit.specs.History.{total_of}
 use Rattle.run_audit.specs.declared.forms.ReaderWords.{ReaderWords}
 use Rattle.run_audit.specs.declared.forms.Shown.{Shown}
-use Rattle.run_audit.specs.declared.due.TheConstants.{MAX_READS}
 use Rattle.run_audit.specs.declared.due.Block.{Block}
 use Rattle.run_audit.specs.declared.due.Due.{Due}
 use Rattle.run_audit.specs.declared.due.Due.TheVariants.{Reporter, Reader, Line, Next, Table}
@@ -27,14 +27,14 @@ leads_to due = Ok (record { due = due; shown = None })
 abbrev pub due_from : List (List Report) → ℕ → Due
 due_from scripts next = if nat_lt next (length scripts) then Reporter next else Reader
 
-abbrev pub sent_leads : LineNames → List (List Report) → ℕ → List (List ℕ) → Option ℕ → Result Step AuditCause
+abbrev pub sent_leads : NameTexts → List (List Report) → ℕ → List (List ℕ) → Option ℕ → Result Step AuditCause
 sent_leads names scripts next words None = Err causes.Form
 sent_leads names scripts next words (Some sent) =
     if bytes_eq (word_at words 1) (word_at names.reporters next) && (sent == length (slice_index_or scripts next []))
     then leads_to (due_from scripts (next + 1)) else Err causes.Sent
 
 -- the reporter's line has to have its name and the length of its script
-unfoldable pub after_reporter : LineNames → List (List Report) → ℕ → List (List ℕ) → Result Step AuditCause
+unfoldable pub after_reporter : NameTexts → List (List Report) → ℕ → List (List ℕ) → Result Step AuditCause
 after_reporter names scripts next words = sent_leads names scripts next words (sent_of names words)
 
 -- ---- readers
@@ -45,7 +45,7 @@ new_block number wanted = record { number = number; wanted = wanted; reads = 0; 
 abbrev pub reader_leads : ℕ → ℕ → Option ℕ → Option ReaderWords → Result Step AuditCause
 reader_leads total number wanted None = Err causes.Form
 reader_leads total number wanted (Some reader) =
-    if (reader.number == number) && nat_lt reader.number MAX_READERS
+    if (reader.number == number) && nat_lt reader.number 64
     then (if reader.length == total then leads_to (Line (new_block number wanted)) else Err causes.Length)
     else Err causes.Reader
 
@@ -60,7 +60,7 @@ goes_on total block shown =
 
 unfoldable pub after_read : ℕ → Block → Shown → Result Step AuditCause
 after_read total block shown =
-    if nat_lt block.reads MAX_READS
+    if nat_lt block.reads 1000
     then (if goes_on total block shown
     then Ok (record { due = Line (record block { reads = block.reads + 1; prefix = shown.prefix }); shown = Some shown })
     else Err causes.Prefix)
@@ -117,7 +117,7 @@ is_reader line = starts_with nat_eq line (codes "reader ")
 -- ---- any line
 
 -- where a line leads that is not of the table
-unfoldable pub step_from : LineNames → List (List Report) → Due → List (List ℕ) → Result Step AuditCause
+unfoldable pub step_from : NameTexts → List (List Report) → Due → List (List ℕ) → Result Step AuditCause
 step_from names scripts (Reporter next) words = after_reporter names scripts next words
 step_from names scripts Reader words = after_reader (total_of scripts) 0 None words
 step_from names scripts (Line block) words = after_shown (total_of scripts) block words
@@ -132,7 +132,7 @@ is_table_line (Line block) line = false
 is_table_line (Next readers reads) line = not (is_reader line)
 is_table_line Table line = true
 
-unfoldable pub after_line : LineNames → List (List Report) → Walk → List ℕ → Result Walked AuditCause
+unfoldable pub after_line : NameTexts → List (List Report) → Walk → List ℕ → Result Walked AuditCause
 after_line names scripts walk line =
     if is_table_line walk.due line then after_table walk.table line
     else with_table walk.table (step_from names scripts walk.due (words_of line))
@@ -156,7 +156,7 @@ is_over walk = may_end walk.due && (length walk.table == 0)
 abbrev pub IsDue : ℕ → Due → Type 0
 IsDue scripts (Reporter next) = next < scripts
 IsDue scripts Reader = Unit {0}
-IsDue scripts (Line block) = block.number < MAX_READERS
+IsDue scripts (Line block) = block.number < 64
 IsDue scripts (Next readers reads) = Unit {0}
 IsDue scripts Table = Unit {0}
 

@@ -1,14 +1,12 @@
 //! Which line is due behind the history, and where a line leads that is not of the table.
 ghost use Rattle.std.specs.Prelude.{◌≡◌, ℕ, ◌<◌, ◌≤◌, length, map, string_bytes, IfOk, IsNone, IfSome};
-ghost use Rattle.bwe_specs.specs.declared.limits.TheConstants.{MAX_READERS};
-ghost use Rattle.run_audit.specs.Words.{words_of};
-ghost use Rattle.run_audit.specs.Forms.{names_of};
+ghost use Rattle.doc_names.specs.NameTexts.{texts_of};
 ghost use Rattle.run_audit.specs.History.{scripts_of, total_of};
 ghost use Rattle.run_audit.specs.Walk as walk;
 
 use crate::forms::{Shown, reader_of, sent_of, shown_of};
 use crate::verdict::AuditCause;
-use crate::words::{name_of, word};
+use crate::words::{LineWords, name_of};
 use bwe_specs::{MAX_READERS, Report};
 use doc_names::Names;
 
@@ -71,10 +69,10 @@ fn after_reporter(
     names: &Names,
     scripts: &[Vec<Report>],
     next: u64,
-    line: &[u8],
+    line: &LineWords<'_>,
 ) -> Result<Step, AuditCause>
     requires next { next < length scripts.now }
-    ensures step { result ≡ walk.after_reporter (names_of names.now) (scripts_of scripts.now) next (words_of line.now) }
+    ensures step { result ≡ walk.after_reporter (texts_of names.now) (scripts_of scripts.now) next line.now }
     ensures due { IfOk result (λ step. walk.IsDue (length scripts.now) step.due) }
     ensures shown { IfOk result (λ step. IsNone step.shown) }
 {
@@ -82,7 +80,7 @@ fn after_reporter(
         return Err(AuditCause::Form);
     };
     let script = scripts[next as usize].len() as u64;
-    if word(line, 1) == name_of(&names.reporters, next as usize) && sent == script {
+    if line.word(1) == name_of(&names.reporters, next as usize) && sent == script {
         return leads_to(due_from(scripts, next + 1));
     }
     Err(AuditCause::Sent)
@@ -93,9 +91,9 @@ fn after_reader(
     total: u64,
     number: u64,
     wanted: Option<u64>,
-    line: &[u8],
+    line: &LineWords<'_>,
 ) -> Result<Step, AuditCause>
-    ensures step { result ≡ walk.after_reader total number wanted (words_of line.now) }
+    ensures step { result ≡ walk.after_reader total number wanted line.now }
     ensures due { IfOk result (walk.IsStep total) }
 {
     let Some(reader) = reader_of(line) else {
@@ -126,7 +124,7 @@ fn goes_on(total: u64, block: Block, shown: Shown) -> bool
 
 #[tactic(auto, unfolding(crate::specs::Walk::after_read))]
 fn after_read(total: u64, block: Block, shown: Shown) -> Result<Step, AuditCause>
-    requires number { block.number < MAX_READERS }
+    requires number { block.number < 64 }
     ensures step { result ≡ walk.after_read total block shown }
     ensures due { IfOk result (walk.IsStep total) }
 {
@@ -161,7 +159,7 @@ fn is_wanted(wanted: Option<u64>, reads: u64) -> bool
 
 #[tactic(auto, unfolding(crate::specs::Walk::after_final))]
 fn after_final(total: u64, block: Block, shown: Shown) -> Result<Step, AuditCause>
-    requires number { block.number < MAX_READERS }
+    requires number { block.number < 64 }
     ensures step { result ≡ walk.after_final total block shown }
     ensures due { IfOk result (walk.IsStep total) }
 {
@@ -181,9 +179,9 @@ fn after_final(total: u64, block: Block, shown: Shown) -> Result<Step, AuditCaus
 }
 
 #[tactic(auto, unfolding(crate::specs::Walk::after_shown))]
-fn after_shown(total: u64, block: Block, line: &[u8]) -> Result<Step, AuditCause>
-    requires number { block.number < MAX_READERS }
-    ensures step { result ≡ walk.after_shown total block (words_of line.now) }
+fn after_shown(total: u64, block: Block, line: &LineWords<'_>) -> Result<Step, AuditCause>
+    requires number { block.number < 64 }
+    ensures step { result ≡ walk.after_shown total block line.now }
     ensures due { IfOk result (walk.IsStep total) }
 {
     if let Some(shown) = shown_of(b"read", line) {
@@ -202,11 +200,11 @@ pub(crate) fn step_from(
     scripts: &[Vec<Report>],
     total: u64,
     due: Due,
-    line: &[u8],
+    line: &LineWords<'_>,
 ) -> Result<Step, AuditCause>
     requires total { total ≡ total_of (scripts_of scripts.now) }
     requires due { walk.IsDue (length scripts.now) due }
-    ensures step { result ≡ walk.step_from (names_of names.now) (scripts_of scripts.now) due (words_of line.now) }
+    ensures step { result ≡ walk.step_from (texts_of names.now) (scripts_of scripts.now) due line.now }
     ensures due { IfOk result (λ step. walk.IsDue (length scripts.now) step.due) }
     ensures shown { IfOk result (λ step. IfSome step.shown (λ shown. shown.prefix ≤ total)) }
 {

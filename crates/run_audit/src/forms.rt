@@ -1,10 +1,12 @@
 //! The forms of the lines before the table.
 ghost use Rattle.std.specs.Prelude.{◌≡◌, ◌&&◌, ◌==◌, codes, length, map, position, string_bytes};
 ghost use Rattle.std.specs.Str.{bytes_eq};
-ghost use Rattle.run_audit.specs.Words.{is_known as is_known_word, word_at, words_of};
-ghost use Rattle.run_audit.specs.Forms.{history_of as history_words, is_of_known as is_of_known_words, names_of, reader_of as reader_words, report_of as report_words, sent_of as sent_words, shown_of as shown_words};
+ghost use Rattle.text_scan.specs.Words.{words_of};
+ghost use Rattle.run_audit.specs.Words.{is_known as is_known_word, word_at};
+ghost use Rattle.doc_names.specs.NameTexts.{texts_of};
+ghost use Rattle.run_audit.specs.Forms.{history_of as history_words, is_of_known as is_of_known_words, reader_of as reader_words, report_of as report_words, sent_of as sent_words, shown_of as shown_words};
 
-use crate::words::{count_words, is_known, is_word, number_at, word};
+use crate::words::{LineWords, is_known, split};
 use bwe_specs::Target;
 use doc_names::Names;
 
@@ -32,36 +34,52 @@ pub struct Shown {
 }
 
 /// The number in `history <number of reports>`.
-#[tactic(auto, unfolding(crate::specs::Forms::history_of))]
-pub(crate) fn history_of(line: &[u8]) -> Option<u64>
+#[tactic(auto, using(crate::proofs::WordFacts::no_history))]
+pub(crate) fn history_in(line: &[u8]) -> Option<u64>
     ensures { result ≡ history_words (words_of line.now) }
 {
-    if count_words(line) == 2 && is_word(line, 0, b"history") {
-        return number_at(line, 1);
+    history_of(&split(line)?)
+}
+
+#[tactic(auto, unfolding(crate::specs::Forms::history_of))]
+fn history_of(line: &LineWords<'_>) -> Option<u64>
+    ensures { result ≡ history_words line.now }
+{
+    if line.count() == 2 && line.is_word(0, b"history") {
+        return line.number_at(1);
     }
     None
 }
 
-/// The words of a report's line. The name that is likely is tried before the others.
+/// What a report's line says, whose third word is the name of this reporter, if of any. The name
+/// that is likely is tried before the others.
 #[tactic(auto, unfolding(crate::specs::Forms::report_of))]
-pub(crate) fn report_of(names: &Names, likely: Option<Target>, line: &[u8]) -> Option<ReportWords>
-    ensures { result ≡ report_words (names_of names.now) (words_of line.now) }
+pub(crate) fn report_of(
+    names: &Names,
+    reporter: Option<usize>,
+    likely: Option<Target>,
+    line: &LineWords<'_>,
+) -> Option<ReportWords>
+    requires reporter { reporter
+        ≡ position (bytes_eq (word_at line.now 2)) (map string_bytes names.now.reporters.items) }
+    ensures { result ≡ report_words (texts_of names.now) line.now }
 {
-    if count_words(line) == 5 && is_of_known(names, likely, line) {
+    if line.count() == 5 && is_of_known(names, likely, line) {
         return Some(ReportWords {
-            place: number_at(line, 1)?,
-            reporter: reporter_of(names, line)?,
-            amount: number_at(line, 4)?,
+            place: line.number_at(1)?,
+            reporter: reporter?,
+            amount: line.number_at(4)?,
         });
     }
     None
 }
 
 /// The number of the reporter that a report's line names.
-pub(crate) fn reporter_of(names: &Names, line: &[u8]) -> Option<usize>
-    ensures { result ≡ position (bytes_eq (word_at (words_of line.now) 2)) (map string_bytes names.now.reporters.items) }
+pub(crate) fn reporter_of(names: &Names, line: &LineWords<'_>) -> Option<usize>
+    ensures { result
+        ≡ position (bytes_eq (word_at line.now 2)) (map string_bytes names.now.reporters.items) }
 {
-    let word = word(line, 2);
+    let word = line.word(2);
     names
         .reporters
         .iter()
@@ -70,13 +88,13 @@ pub(crate) fn reporter_of(names: &Names, line: &[u8]) -> Option<usize>
 
 // Whether the name goes with the first word of a report's line.
 #[tactic(auto, unfolding(crate::specs::Forms::is_of_known))]
-fn is_of_known(names: &Names, likely: Option<Target>, line: &[u8]) -> bool
-    ensures { result ≡ is_of_known_words (names_of names.now) (words_of line.now) }
+fn is_of_known(names: &Names, likely: Option<Target>, line: &LineWords<'_>) -> bool
+    ensures { result ≡ is_of_known_words (texts_of names.now) line.now }
 {
-    let word = word(line, 3);
+    let word = line.word(3);
     let (task, link) = likely_numbers(likely);
-    (is_word(line, 0, b"report") && is_likely_known(&names.tasks, task, word))
-        || (is_word(line, 0, b"capacity") && is_likely_known(&names.links, link, word))
+    (line.is_word(0, b"report") && is_likely_known(&names.tasks, task, word))
+        || (line.is_word(0, b"capacity") && is_likely_known(&names.links, link, word))
 }
 
 fn likely_numbers(likely: Option<Target>) -> (Option<u32>, Option<u32>) {
@@ -102,28 +120,28 @@ fn is_likely_known(names: &[String], likely: Option<u32>, word: &[u8]) -> bool
 
 /// The number in `reporter <reporter> sent <number>`.
 #[tactic(auto, unfolding(crate::specs::Forms::sent_of))]
-pub(crate) fn sent_of(names: &Names, line: &[u8]) -> Option<u64>
-    ensures { result ≡ sent_words (names_of names.now) (words_of line.now) }
+pub(crate) fn sent_of(names: &Names, line: &LineWords<'_>) -> Option<u64>
+    ensures { result ≡ sent_words (texts_of names.now) line.now }
 {
-    if count_words(line) == 4
-        && is_word(line, 0, b"reporter")
-        && is_word(line, 2, b"sent")
-        && is_known(&names.reporters, word(line, 1))
+    if line.count() == 4
+        && line.is_word(0, b"reporter")
+        && line.is_word(2, b"sent")
+        && is_known(&names.reporters, line.word(1))
     {
-        return number_at(line, 3);
+        return line.number_at(3);
     }
     None
 }
 
 /// The numbers in `reader <number> length <length>`.
 #[tactic(auto, unfolding(crate::specs::Forms::reader_of))]
-pub(crate) fn reader_of(line: &[u8]) -> Option<ReaderWords>
-    ensures { result ≡ reader_words (words_of line.now) }
+pub(crate) fn reader_of(line: &LineWords<'_>) -> Option<ReaderWords>
+    ensures { result ≡ reader_words line.now }
 {
-    if count_words(line) == 4 && is_word(line, 0, b"reader") && is_word(line, 2, b"length") {
+    if line.count() == 4 && line.is_word(0, b"reader") && line.is_word(2, b"length") {
         return Some(ReaderWords {
-            number: number_at(line, 1)?,
-            length: number_at(line, 3)?,
+            number: line.number_at(1)?,
+            length: line.number_at(3)?,
         });
     }
     None
@@ -131,19 +149,19 @@ pub(crate) fn reader_of(line: &[u8]) -> Option<ReaderWords>
 
 /// The numbers in `<kind> floor <floor> prefix <prefix> total <total>`.
 #[tactic(auto, unfolding(crate::specs::Forms::shown_of))]
-pub(crate) fn shown_of(kind: &[u8], line: &[u8]) -> Option<Shown>
-    ensures { result ≡ shown_words kind.now (words_of line.now) }
+pub(crate) fn shown_of(kind: &[u8], line: &LineWords<'_>) -> Option<Shown>
+    ensures { result ≡ shown_words kind.now line.now }
 {
-    if count_words(line) == 7
-        && is_word(line, 0, kind)
-        && is_word(line, 1, b"floor")
-        && is_word(line, 3, b"prefix")
-        && is_word(line, 5, b"total")
+    if line.count() == 7
+        && line.is_word(0, kind)
+        && line.is_word(1, b"floor")
+        && line.is_word(3, b"prefix")
+        && line.is_word(5, b"total")
     {
         return Some(Shown {
-            floor: number_at(line, 2)?,
-            prefix: number_at(line, 4)?,
-            total: number_at(line, 6)?,
+            floor: line.number_at(2)?,
+            prefix: line.number_at(4)?,
+            total: line.number_at(6)?,
         });
     }
     None

@@ -1,19 +1,19 @@
 //! The lines of the history.
 ghost use Rattle.std.specs.Prelude.{◌≡◌, ◌+◌, ◌<◌, ◌≤◌, ◌^◌, [], length, slice_index, IfErr, IfOk, IfSome, OnOk};
-ghost use Rattle.run_audit.specs.Words.{words_of};
-ghost use Rattle.run_audit.specs.Forms.{names_of};
+ghost use Rattle.doc_names.specs.NameTexts.{texts_of};
+ghost use Rattle.run_audit.specs.Forms.{report_of as report_words};
 ghost use Rattle.run_audit.specs.History as history;
 ghost use Rattle.run_audit.specs.History.{IsStop, scripts_of, total_of};
 ghost use Rattle.run_audit.specs.declared.verdict.Stop.TheVariants.{At};
 
-use crate::forms::{ReportWords, history_of, report_of, reporter_of};
-use crate::lines::Lines;
+use crate::forms::{ReportWords, history_in, report_of, reporter_of};
 use crate::verdict::{AuditCause, Fault, Stop};
-use crate::words::{is_word, name_of, word};
+use crate::words::{LineWords, name_of, split};
 use bwe_specs::{Report, Target};
 use doc_names::Names;
 use std::alloc::Global;
 use std::marker::Model;
+use text_scan::Lines;
 
 /// The reports so far, and how many of each script they have.
 #[derive(Drop)]
@@ -45,12 +45,11 @@ impl PrintedHistory {
         scripts[reporter].get(place as usize).copied()
     }
 
-    // The task or link that the line is likely to name.
-    fn likely_target(&self, names: &Names, scripts: &[Vec<Report>], line: &[u8]) -> Option<Target>
+    // The task or link that a line of the reporter is likely to name.
+    fn likely_target(&self, scripts: &[Vec<Report>], reporter: Option<usize>) -> Option<Target>
         requires taken { length self.now.taken ≡ length scripts.now }
     {
-        let reporter = reporter_of(names, line)?;
-        Some(self.next_of(scripts, reporter)?.target)
+        Some(self.next_of(scripts, reporter?)?.target)
     }
 
     // The next report's line is at fault.
@@ -66,17 +65,41 @@ impl PrintedHistory {
     }
 
     // Takes in a line, which has to be that of the next report of its reporter's script.
-    #[tactic(auto, unfolding(crate::specs::History::take_line, crate::specs::History::take_words, crate::specs::History::take_next))]
+    #[tactic(auto, using(crate::proofs::WordFacts::long_stops), unfolding(crate::specs::History::take_line))]
     fn take_line(&mut self, names: &Names, scripts: &[Vec<Report>], line: &[u8]) -> Result<(), Stop>
         requires taken { length self.old.taken ≡ length scripts.now }
         ensures ok { OnOk result
-            (history.take_line (names_of names.now) (scripts_of scripts.now) self.old line.now ≡ Ok self.new) }
+            (history.take_line (texts_of names.now) (scripts_of scripts.now) self.old line.now ≡ Ok self.new) }
         ensures stop { IfErr result
-            (IsStop (history.take_line (names_of names.now) (scripts_of scripts.now) self.old line.now)) }
+            (IsStop (history.take_line (texts_of names.now) (scripts_of scripts.now) self.old line.now)) }
         ensures taken { OnOk result (length self.new.taken ≡ length scripts.now) }
         ensures grows { OnOk result (length self.new.reports ≡ length self.old.reports + 1) }
     {
-        let Some(told) = report_of(names, self.likely_target(names, scripts, line), line) else {
+        let Some(words) = split(line) else {
+            return Err(self.stop(AuditCause::Form));
+        };
+        self.take_words(names, scripts, &words)
+    }
+
+    // The same, of a line by its words.
+    #[tactic(auto, unfolding(crate::specs::History::take_words, crate::specs::History::take_next))]
+    fn take_words(
+        &mut self,
+        names: &Names,
+        scripts: &[Vec<Report>],
+        line: &LineWords<'_>,
+    ) -> Result<(), Stop>
+        requires taken { length self.old.taken ≡ length scripts.now }
+        ensures ok { OnOk result (history.take_words (texts_of names.now) (scripts_of scripts.now)
+            self.old line.now (report_words (texts_of names.now) line.now) ≡ Ok self.new) }
+        ensures stop { IfErr result (IsStop (history.take_words (texts_of names.now) (scripts_of scripts.now)
+            self.old line.now (report_words (texts_of names.now) line.now))) }
+        ensures taken { OnOk result (length self.new.taken ≡ length scripts.now) }
+        ensures grows { OnOk result (length self.new.reports ≡ length self.old.reports + 1) }
+    {
+        let reporter = reporter_of(names, line);
+        let likely = self.likely_target(scripts, reporter);
+        let Some(told) = report_of(names, reporter, likely, line) else {
             return Err(self.stop(AuditCause::Form));
         };
         let Some(report) = self.next_of(scripts, told.reporter) else {
@@ -103,10 +126,10 @@ impl PrintedHistory {
         requires within { length self.old.reports ≤ total }
         requires number { text.old.number ≡ history.line_after self.old }
         ensures ok { OnOk result
-            (history.take_lines (names_of names.now) (scripts_of scripts.now) self.old text.old.lines
+            (history.take_lines (texts_of names.now) (scripts_of scripts.now) self.old text.old.lines
             ≡ Ok (record { reports = self.new.reports; lines = text.new.lines })) }
         ensures stop { IfErr result
-            (IsStop (history.take_lines (names_of names.now) (scripts_of scripts.now) self.old text.old.lines)) }
+            (IsStop (history.take_lines (texts_of names.now) (scripts_of scripts.now) self.old text.old.lines)) }
         ensures all { OnOk result (length self.new.reports ≡ total) }
         ensures left { OnOk result (text.new.left ≡ text.old.left) }
         ensures number { OnOk result (text.new.number ≡ history.line_after self.new) }
@@ -123,23 +146,29 @@ impl PrintedHistory {
 
 // Whether the line is that of the report, in its place.
 #[tactic(auto, unfolding(crate::specs::History::is_line_of))]
-fn is_line_of(names: &Names, line: &[u8], told: ReportWords, place: u64, report: Report) -> bool
-    ensures { result ≡ history.is_line_of (names_of names.now) (words_of line.now) told place report }
+fn is_line_of(
+    names: &Names,
+    line: &LineWords<'_>,
+    told: ReportWords,
+    place: u64,
+    report: Report,
+) -> bool
+    ensures { result ≡ history.is_line_of (texts_of names.now) line.now told place report }
 {
     told.place == place && told.amount == report.amount && is_of(names, line, report.target)
 }
 
 // Whether the line is of this task or link.
 #[tactic(auto, unfolding(crate::specs::History::is_of))]
-fn is_of(names: &Names, line: &[u8], target: Target) -> bool
-    ensures { result ≡ history.is_of (names_of names.now) (words_of line.now) target }
+fn is_of(names: &Names, line: &LineWords<'_>, target: Target) -> bool
+    ensures { result ≡ history.is_of (texts_of names.now) line.now target }
 {
     match target {
         Target::Task { number } => {
-            is_word(line, 0, b"report") && word(line, 3) == name_of(&names.tasks, number as usize)
+            line.is_word(0, b"report") && line.word(3) == name_of(&names.tasks, number as usize)
         }
         Target::Link { number } => {
-            is_word(line, 0, b"capacity") && word(line, 3) == name_of(&names.links, number as usize)
+            line.is_word(0, b"capacity") && line.word(3) == name_of(&names.links, number as usize)
         }
     }
 }
@@ -165,10 +194,10 @@ pub(crate) fn read_history(
     requires total { total ≡ total_of (scripts_of scripts.now) }
     requires number { text.old.number ≡ 0 }
     ensures ok { IfOk result (λ reports.
-        history.history_in (names_of names.now) (scripts_of scripts.now) text.old.lines
+        history.history_in (texts_of names.now) (scripts_of scripts.now) text.old.lines
         ≡ Ok (record { reports = reports.items; lines = text.new.lines })) }
     ensures stop { IfErr result
-        (IsStop (history.history_in (names_of names.now) (scripts_of scripts.now) text.old.lines)) }
+        (IsStop (history.history_in (texts_of names.now) (scripts_of scripts.now) text.old.lines)) }
     ensures all { IfOk result (λ reports. length reports.items ≡ total) }
     ensures left { OnOk result (text.new.left ≡ text.old.left) }
     ensures number { IfOk result (λ reports. text.new.number ≡ length reports.items + 1) }
@@ -176,7 +205,7 @@ pub(crate) fn read_history(
     let Some(line) = text.next_line() else {
         return Err(first_fault(AuditCause::Form));
     };
-    let Some(reports) = history_of(line) else {
+    let Some(reports) = history_in(line) else {
         return Err(first_fault(AuditCause::Form));
     };
     if reports != total {

@@ -10,7 +10,6 @@
 mod due;
 mod forms;
 mod history;
-mod lines;
 mod run;
 mod text;
 mod totals;

@@ -3,21 +3,21 @@ ghost use Rattle.std.specs.Prelude.{◌≡◌, ◌<◌, ◌≤◌, List, [], len
 ghost use Rattle.std.specs.List.{All};
 ghost use Rattle.bwe_specs.specs.declared.report.Report.{Report};
 ghost use Rattle.demand_book.specs.Fit.{IsFit};
-ghost use Rattle.run_audit.specs.Forms.{names_of};
+ghost use Rattle.doc_names.specs.NameTexts.{texts_of};
 ghost use Rattle.run_audit.specs.History.{scripts_of, total_of};
 ghost use Rattle.run_audit.specs.Walk.{due_from as first_due};
 ghost use Rattle.run_audit.specs.Verdict.{AreFit, IsVerdictAt, judge, verdict_of};
 
 use crate::due::due_from;
 use crate::history::read_history;
-use crate::lines::Lines;
 use crate::totals::{first_wrong, totals_at};
 use crate::verdict::{AuditVerdict, Stop};
 use crate::walk::{Pursued, Walk, pursue};
-use bwe_specs::{MAX_REPORTS, OutOfMemory, Report};
+use bwe_specs::{OutOfMemory, Report};
 use demand_book::Maker;
 use doc_names::Names;
 use std::alloc::Global;
+use text_scan::Lines;
 
 /// The first fault of a printed run, or that it is legal ("Audit", docs/DEFINITIONS.md).
 ///
@@ -34,9 +34,9 @@ pub fn audit<M: Maker>(
 ) -> Result<AuditVerdict, OutOfMemory>
     requires first { M.absorbed maker [] }
     requires fit { AreFit (M.plan_tasks (M.plan maker)) (M.plan_links (M.plan maker)) scripts.now }
-    requires few { total_of (scripts_of scripts.now) ≤ MAX_REPORTS }
+    requires few { total_of (scripts_of scripts.now) ≤ 200_000 }
     ensures { IfOk result (λ verdict. verdict
-        ≡ verdict_of (names_of names.now) (scripts_of scripts.now) (λ reports. M.Table.total_of (M.table_of (M.plan maker) reports)) table.now text.now) }
+        ≡ verdict_of (texts_of names.now) (scripts_of scripts.now) (λ reports. M.Table.total_of (M.table_of (M.plan maker) reports)) table.now text.now) }
 {
     let total = total_reports(scripts);
     let mut lines = Lines::new(text);
@@ -69,7 +69,7 @@ fn verdict_at(stop: Stop) -> Result<AuditVerdict, OutOfMemory>
 
 // How many reports the scripts have.
 fn total_reports(scripts: &[Vec<Report>]) -> u64
-    requires { total_of (scripts_of scripts.now) ≤ MAX_REPORTS }
+    requires { total_of (scripts_of scripts.now) ≤ 200_000 }
     ensures { result ≡ total_of (scripts_of scripts.now) }
 {
     let mut total = 0;
@@ -90,10 +90,10 @@ fn audit_rest<M: Maker>(
     text: &mut Lines<'_>,
 ) -> Result<AuditVerdict, OutOfMemory>
     requires first { M.absorbed maker [] }
-    requires few { length history.now ≤ MAX_REPORTS }
+    requires few { length history.now ≤ 200_000 }
     requires fit { All (IsFit (M.plan_tasks (M.plan maker)) (M.plan_links (M.plan maker))) history.now }
     requires all { length history.now ≡ total_of (scripts_of scripts.now) }
-    ensures { IfOk result (λ verdict. verdict ≡ judge (names_of names.now) (scripts_of scripts.now)
+    ensures { IfOk result (λ verdict. verdict ≡ judge (texts_of names.now) (scripts_of scripts.now)
         (λ prefix. M.Table.total_of (M.table_of (M.plan maker) (take prefix history.now))) text.old.left
         (record { due = first_due (scripts_of scripts.now) 0; table = table.entry.lines }) text.old.number text.old.lines) }
 {

@@ -7,7 +7,7 @@ ghost use Rattle.run_audit.specs.Checks.{first_wrong as first_wrong_of};
 
 use crate::verdict::{AuditCause, AuditVerdict};
 use crate::walk::Check;
-use bwe_specs::{MAX_REPORTS, OutOfMemory, Report};
+use bwe_specs::{OutOfMemory, Report};
 use demand_book::{Maker, Posted};
 use std::alloc::Global;
 
@@ -47,7 +47,7 @@ pub(crate) fn totals_at<M: Maker>(
     checks: &[Check],
 ) -> Result<Vec<u64>, OutOfMemory>
     requires first { M.absorbed maker [] }
-    requires few { length history.now ≤ MAX_REPORTS }
+    requires few { length history.now ≤ 200_000 }
     requires fit { All (IsFit (M.plan_tasks (M.plan maker)) (M.plan_links (M.plan maker))) history.now }
     requires prefixes { All (λ check. check.prefix ≤ length history.now) checks.now }
     ensures len { IfOk result (λ totals. length totals.items ≡ length history.now + 1) }

@@ -1,7 +1,7 @@
 //! The lines behind the history, one by one.
 ghost use Rattle.std.specs.Prelude.{◌≡◌, ◌≤◌, ◌++◌, [], length, IfErr, IfOk, IfSome, OnOk};
 ghost use Rattle.std.specs.List.{All};
-ghost use Rattle.run_audit.specs.Forms.{names_of};
+ghost use Rattle.doc_names.specs.NameTexts.{texts_of};
 ghost use Rattle.run_audit.specs.History.{scripts_of, total_of};
 ghost use Rattle.run_audit.specs.Walk as steps;
 ghost use Rattle.run_audit.specs.Verdict.{at_end};
@@ -10,12 +10,13 @@ ghost use Rattle.run_audit.specs.declared.due.Due.TheVariants.{Table};
 
 use crate::due::{Due, Step, step_from};
 use crate::forms::Shown;
-use crate::lines::Lines;
 use crate::verdict::{AuditCause, AuditVerdict};
+use crate::words::split;
 use bwe_specs::{OutOfMemory, Report};
 use doc_names::Names;
 use std::alloc::Global;
 use std::marker::Model;
+use text_scan::Lines;
 
 /// What is due, and what is left of the table.
 #[derive(Drop)]
@@ -78,7 +79,7 @@ impl<'a> Walk<'a> {
     }
 
     // Goes on by a line, and answers what it shows.
-    #[tactic(auto, unfolding(crate::specs::Walk::after_line))]
+    #[tactic(auto, using(crate::proofs::WordFacts::long_leads_nowhere), unfolding(crate::specs::Walk::after_line))]
     fn take_line(
         &mut self,
         names: &Names,
@@ -89,36 +90,39 @@ impl<'a> Walk<'a> {
         requires total { total ≡ total_of (scripts_of scripts.now) }
         requires due { steps.IsDue (length scripts.now) self.old.due }
         ensures ok { IfOk result (λ shown.
-            steps.after_line (names_of names.now) (scripts_of scripts.now) self.old line.now
+            steps.after_line (texts_of names.now) (scripts_of scripts.now) self.old line.now
             ≡ Ok (record { walk = self.new; shown = shown })) }
         ensures fault { IfErr result (λ cause.
-            steps.after_line (names_of names.now) (scripts_of scripts.now) self.old line.now ≡ Err cause) }
+            steps.after_line (texts_of names.now) (scripts_of scripts.now) self.old line.now ≡ Err cause) }
         ensures due { OnOk result (steps.IsDue (length scripts.now) self.new.due) }
         ensures shown { IfOk result (λ shown. IfSome shown (λ shown. shown.prefix ≤ total)) }
     {
         if self.is_table_line(line) {
             return self.take_table_line(line);
         }
-        let Step { due, shown } = step_from(names, scripts, total, self.due, line)?;
+        let Some(words) = split(line) else {
+            return Err(AuditCause::Form);
+        };
+        let Step { due, shown } = step_from(names, scripts, total, self.due, &words)?;
         self.due = due;
         Ok(shown)
     }
 
     // Whether no line is due any more.
-    fn is_over(&self) -> bool
-        ensures { result ≡ steps.is_over self.now }
+    fn is_over(&mut self) -> bool
+        ensures { result ≡ steps.is_over self.old }
     {
         let may_end = match self.due {
             Due::Reporter { .. } | Due::Reader | Due::Line { .. } => false,
             Due::Next { .. } | Due::Table => true,
         };
-        may_end && self.table.is_done()
+        may_end && self.table.next_line().is_none()
     }
 
     // The verdict behind the last line.
-    fn at_end(&self, text: &Lines<'_>) -> AuditVerdict
+    fn at_end(&mut self, text: &Lines<'_>) -> AuditVerdict
         requires { text.now.lines ≡ [] }
-        ensures { result ≡ at_end (steps.is_over self.now) text.now.number text.now.left }
+        ensures { result ≡ at_end (steps.is_over self.old) text.now.number text.now.left }
     {
         let line = text.number();
         if !self.is_over() {
@@ -163,7 +167,7 @@ pub(crate) fn pursue(
     requires total { total ≡ total_of (scripts_of scripts.now) }
     requires due { steps.IsDue (length scripts.now) walk.old.due }
     ensures pursued { IfOk result (λ pursued.
-        found_of pursued ≡ pursue_lines (names_of names.now) (scripts_of scripts.now) text.old.left walk.old text.old.number text.old.lines) }
+        found_of pursued ≡ pursue_lines (texts_of names.now) (scripts_of scripts.now) text.old.left walk.old text.old.number text.old.lines) }
     ensures prefixes { IfOk result (λ pursued. All (λ check. check.prefix ≤ total) pursued.checks.items) }
 {
     let mut checks = Vec::new(alloc);

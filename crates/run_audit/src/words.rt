@@ -1,111 +1,80 @@
-//! Lines, their words, and the numbers and names in them.
-ghost use Rattle.std.specs.Prelude.{◌≡◌, ◌<◌, ◌≤◌, ◌==◌, length, map, string_bytes, MatchOption, slice_index_or, []};
-ghost use Rattle.std.specs.List.{after_first, before_first, list_any, position_or_len};
-ghost use Rattle.std.specs.Str.{bytes_eq};
-ghost use Rattle.run_audit.specs.Words.{is_known as is_known_word, is_word as is_word_of, number_at as number_in, number_of as number_of_word, number_on, with_digit as with_digit_more, word_at, words_of};
+//! The words of a line, and the numbers and names among them.
+ghost use Rattle.std.specs.Prelude.{◌≡◌, ◌<◌, length, map, string_bytes, IfNone, IfSome};
+ghost use Rattle.text_scan.specs.Words.{words_of};
+ghost use Rattle.run_audit.specs.Words.{is_known as is_known_word, is_word as is_word_of, number_at as number_in, word_at};
 
-/// Where the byte stands first, the length where it does not stand.
-fn place_of(bytes: &[u8], wanted: u8) -> usize
-    ensures place { result ≡ position_or_len (λ byte. byte == wanted) bytes.now }
-    ensures within { result ≤ length bytes.now }
-{
-    for (place, byte) in bytes.iter().enumerate() {
-        if *byte == wanted {
-            return place;
-        }
-    }
-    bytes.len()
+use std::marker::Model;
+use text_scan::{cut_at, printed_number_of};
+
+/// The words of a line that has at most seven, which is the most that a form has.
+#[derive(Drop)]
+pub(crate) struct LineWords<'a> {
+    words: [&'a [u8]; 7],
+    count: usize,
 }
 
-/// What stands before the first such byte and after it, `None` where the byte does not stand.
-pub(crate) fn cut(bytes: &[u8], at: u8) -> Option<(&[u8], &[u8])>
-    ensures { MatchOption result
-        (position_or_len (λ byte. byte == at) bytes.now ≡ length bytes.now)
-        (λ parts. (position_or_len (λ byte. byte == at) bytes.now < length bytes.now)
-        × (parts.0.now ≡ before_first (λ byte. byte == at) bytes.now)
-        × (parts.1.now ≡ after_first (λ byte. byte == at) bytes.now)) }
-{
-    let place = place_of(bytes, at);
-    if place == bytes.len() {
-        return None;
-    }
-    Some((&bytes[..place], &bytes[place + 1..]))
+impl<'a> Model for LineWords<'a> {
+    ghost use Rattle.std.specs.Prelude.{ℕ, ◌≤◌, List, map, take};
+
+    ghost Value = { List (List ℕ) };
+
+    ghost view = { λ line. take line.count (map (λ word. word.now) line.words) };
+
+    ghost invariant = { λ line. line.count ≤ 7 };
 }
 
-/// The number of words.
-#[tactic(auto, using(crate::proofs::Splits::words_counted))]
-pub(crate) fn count_words(line: &[u8]) -> usize
-    ensures { result ≡ length (words_of line.now) }
+/// The words of a line, cut in one walk over it; `None` where it has more than seven.
+pub(crate) fn split(line: &[u8]) -> Option<LineWords<'_>>
+    ensures some { IfSome result (λ words. words ≡ words_of line.now) }
+    ensures none { IfNone result (7 < length (words_of line.now)) }
 {
-    let mut words = 1;
-    for byte in line {
-        if *byte == b' ' {
-            words += 1;
-        }
-    }
-    words
-}
-
-/// The word in this place, an empty one where the line has no such word. It goes over the line up to that word.
-#[tactic(auto, using(crate::proofs::Splits::word_first, crate::proofs::Splits::word_later, crate::proofs::Splits::word_past))]
-pub(crate) fn word(line: &[u8], place: usize) -> &[u8]
-    ensures { result.now ≡ word_at (words_of line.now) place }
-{
+    let mut words: [&[u8]; 7] = [line; 7];
     let mut rest = line;
-    for passed in 0..place {
-        match cut(rest, b' ') {
-            Some((_, after)) => rest = after,
-            None => return b"",
+    for count in 0..7 {
+        let Some(cut) = cut_at(b' ', rest) else {
+            words[count] = rest;
+            return Some(LineWords {
+                words,
+                count: count + 1,
+            });
+        };
+        words[count] = cut.before;
+        rest = cut.behind;
+    }
+    None
+}
+
+impl<'a> LineWords<'a> {
+    /// How many there are.
+    pub(crate) fn count(&self) -> usize
+        ensures { result ≡ length self.now }
+    {
+        self.count
+    }
+
+    /// The word in this place, an empty one where the line has no such word.
+    pub(crate) fn word(&self, place: usize) -> &'a [u8]
+        ensures { result.now ≡ word_at self.now place }
+    {
+        if place < self.count {
+            return self.words[place];
         }
+        b""
     }
-    &rest[..place_of(rest, b' ')]
-}
 
-/// Whether this text is the word in this place.
-pub(crate) fn is_word(line: &[u8], place: usize, text: &[u8]) -> bool
-    ensures { result ≡ is_word_of (words_of line.now) place text.now }
-{
-    word(line, place) == text
-}
-
-/// The number in this place.
-pub(crate) fn number_at(line: &[u8], place: usize) -> Option<u64>
-    ensures { result ≡ number_in (words_of line.now) place }
-{
-    number_of(word(line, place))
-}
-
-/// The number of a word, as it is printed: without leading zeros, and at most 18,446,744,073,709,551,615.
-#[tactic(auto, unfolding(crate::specs::Words::number_of))]
-fn number_of(word: &[u8]) -> Option<u64>
-    ensures { result ≡ number_of_word word.now }
-{
-    match word {
-        [] | [b'0', _, ..] => None,
-        digits => number_of_digits(digits),
+    /// Whether this text is the word in this place.
+    pub(crate) fn is_word(&self, place: usize, text: &[u8]) -> bool
+        ensures { result ≡ is_word_of self.now place text.now }
+    {
+        self.word(place) == text
     }
-}
 
-#[tactic(auto, using(crate::proofs::Digits::number_stops, crate::proofs::Digits::number_goes_on, crate::proofs::Digits::number_ends))]
-fn number_of_digits(digits: &[u8]) -> Option<u64>
-    ensures { result ≡ number_on 0 digits.now }
-{
-    let mut number: u64 = 0;
-    for digit in digits {
-        number = with_digit(number, *digit)?;
+    /// The number in this place.
+    pub(crate) fn number_at(&self, place: usize) -> Option<u64>
+        ensures { result ≡ number_in self.now place }
+    {
+        printed_number_of(self.word(place))
     }
-    Some(number)
-}
-
-// The number with one digit more.
-#[tactic(auto, unfolding(crate::specs::Words::with_digit))]
-fn with_digit(number: u64, digit: u8) -> Option<u64>
-    ensures { result ≡ with_digit_more number digit }
-{
-    if !digit.is_ascii_digit() {
-        return None;
-    }
-    number.checked_mul(10)?.checked_add(u64::from(digit - b'0'))
 }
 
 /// Whether the word is one of the names.

@@ -1,22 +1,14 @@
 -- The text of a run, line by line. A text is the list of its bytes.
-use Rattle.std.specs.Prelude.{ℕ, suc, ◌+◌, ◌++◌, List, [], ◌∷◌, length, map, flat_map, codes, decimal, string_bytes}
+use Rattle.std.specs.Prelude.{ℕ, suc, ◌++◌, List, [], ◌∷◌, length, flat_map, codes, decimal}
 use Rattle.bwe_specs.specs.Allocation.{Table}
 use Rattle.bwe_specs.specs.declared.report.Target.{Target}
 use Rattle.bwe_specs.specs.declared.report.Target.TheVariants.{Task, Link}
 use Rattle.bwe_specs.specs.declared.report.Report.{Report}
-use Rattle.doc_names.specs.declared.Names.{Names}
+use Rattle.doc_names.specs.NameTexts.{NameTexts}
 use Rattle.crew_log.specs.declared.log.ReadLine.{ReadLine}
 use Rattle.crew_log.specs.declared.log.ReaderLog.{ReaderLog}
 use Rattle.crew_log.specs.declared.log.CrewLog.{CrewLog}
-use Rattle.table_text.specs.TableText.{NameTexts, name_at, texts_of, text_of}
-
--- the names that the text of a run prints: those of a table, and the reporters' in the order of their numbers
-pub record RunNames : Type 0 where
-  pub table : NameTexts
-  pub reporters : List (List ℕ)
-
-abbrev pub run_names_of : Names → RunNames
-run_names_of names = record { table = texts_of names; reporters = map string_bytes names.reporters.items }
+use Rattle.table_text.specs.TableText.{name_at, text_of}
 
 -- the text of each item, with its number, one after another
 abbrev pub numbered : {A : Type 0} → (ℕ → A → List ℕ) → ℕ → List A → List ℕ
@@ -39,20 +31,20 @@ target_name names (Task number) = name_at names.tasks number
 target_name names (Link number) = name_at names.links number
 
 -- a report's place, reporter, target and amount
-abbrev pub told : RunNames → ℕ → Report → List ℕ
+abbrev pub told : NameTexts → ℕ → Report → List ℕ
 told names place report =
-    decimal place ++ codes " " ++ name_at names.reporters report.reporter ++ codes " " ++ target_name names.table report.target ++ codes " " ++ decimal report.amount ++ codes "\n"
+    decimal place ++ codes " " ++ name_at names.reporters report.reporter ++ codes " " ++ target_name names report.target ++ codes " " ++ decimal report.amount ++ codes "\n"
 
 -- a report of the history
-abbrev pub report_line : RunNames → ℕ → Report → List ℕ
+abbrev pub report_line : NameTexts → ℕ → Report → List ℕ
 report_line names place report = report_word report.target ++ told names place report
 
 -- a report beyond the history
-abbrev pub beyond_line : RunNames → ℕ → Report → List ℕ
+abbrev pub beyond_line : NameTexts → ℕ → Report → List ℕ
 beyond_line names place report = beyond_word report.target ++ told names place report
 
 -- how many reports a reporter sent
-abbrev pub sent_line : RunNames → ℕ → ℕ → List ℕ
+abbrev pub sent_line : NameTexts → ℕ → ℕ → List ℕ
 sent_line names number sent = codes "reporter " ++ name_at names.reporters number ++ codes " sent " ++ decimal sent ++ codes "\n"
 
 -- what one read showed
@@ -66,7 +58,7 @@ abbrev pub final_line : ReadLine → List ℕ
 final_line line = codes "final " ++ shown line
 
 -- what a reader saw: how long its final log is, what that has beyond the history, its reads, and the last one
-abbrev pub reader_lines : RunNames → ℕ → ℕ → ReaderLog → List ℕ
+abbrev pub reader_lines : NameTexts → ℕ → ℕ → ReaderLog → List ℕ
 reader_lines names history number reader =
     codes "reader " ++ decimal number ++ codes " length " ++ decimal reader.length ++ codes "\n"
     ++ numbered (beyond_line names) history reader.beyond.items
@@ -74,10 +66,10 @@ reader_lines names history number reader =
     ++ final_line reader.last
 
 -- the whole text
-unfoldable pub run_text_of : RunNames → CrewLog Table → List ℕ
+unfoldable pub run_text_of : NameTexts → CrewLog Table → List ℕ
 run_text_of names log =
     codes "history " ++ decimal (length log.history.items) ++ codes "\n"
     ++ numbered (report_line names) 0 log.history.items
     ++ numbered (sent_line names) 0 log.sent.items
     ++ numbered (reader_lines names (length log.history.items)) 0 log.readers.items
-    ++ text_of names.table log.table
+    ++ text_of names log.table

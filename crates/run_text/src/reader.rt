@@ -1,7 +1,8 @@
 //! The lines of a reader.
 ghost use Rattle.std.specs.Prelude.{◌≡◌, ◌+◌, ◌++◌, ◌<◌, ◌^◌, ℕ, flat_map, length, OnOk, string_bytes};
 ghost use Rattle.std.specs.List.{All};
-ghost use Rattle.run_text.specs.RunText.{final_line, numbered, read_line, reader_lines, run_names_of, shown};
+ghost use Rattle.doc_names.specs.NameTexts.{texts_of};
+ghost use Rattle.run_text.specs.RunText.{final_line, numbered, read_line, reader_lines, shown};
 
 use crate::report::push_beyond;
 use crew_log::{ReadLine, ReaderLog};
@@ -51,7 +52,7 @@ fn push_reader(
 ) -> Result<(), AllocError>
     requires places { history + length reader.now.beyond.items < 2 ^ 64 }
     ensures { OnOk result
-        (string_bytes text.new ≡ string_bytes text.old ++ reader_lines (run_names_of names.now) history number reader.now) }
+        (string_bytes text.new ≡ string_bytes text.old ++ reader_lines (texts_of names.now) history number reader.now) }
 {
     let length = reader.length;
     write!(text, "reader {number} length {length}\n")?;
@@ -70,7 +71,7 @@ pub(crate) fn push_readers(
 ) -> Result<(), AllocError>
     requires places { All (λ reader. history + length reader.beyond.items < 2 ^ 64) readers.now }
     ensures { OnOk result
-        (string_bytes text.new ≡ string_bytes text.old ++ numbered (reader_lines (run_names_of names.now) history) 0 readers.now) }
+        (string_bytes text.new ≡ string_bytes text.old ++ numbered (reader_lines (texts_of names.now) history) 0 readers.now) }
 {
     for (number, reader) in readers.iter().enumerate() {
         push_reader(text, names, history, number as u64, reader)?;

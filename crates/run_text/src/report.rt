@@ -1,7 +1,7 @@
 //! The lines of reports.
 ghost use Rattle.std.specs.Prelude.{◌≡◌, ◌+◌, ◌++◌, ◌<◌, ◌^◌, length, OnOk, string_bytes};
-ghost use Rattle.table_text.specs.TableText.{texts_of};
-ghost use Rattle.run_text.specs.RunText.{beyond_line, beyond_word, numbered, report_line, report_word, run_names_of, target_name, told};
+ghost use Rattle.doc_names.specs.NameTexts.{texts_of};
+ghost use Rattle.run_text.specs.RunText.{beyond_line, beyond_word, numbered, report_line, report_word, target_name, told};
 
 use bwe_specs::{Report, Target};
 use doc_names::Names;
@@ -20,7 +20,7 @@ fn name_of_target(names: &Names, target: Target) -> &str
 
 fn push_told(text: &mut String, names: &Names, place: u64, report: Report) -> Result<(), AllocError>
     ensures { OnOk result
-        (string_bytes text.new ≡ string_bytes text.old ++ told (run_names_of names.now) place report) }
+        (string_bytes text.new ≡ string_bytes text.old ++ told (texts_of names.now) place report) }
 {
     let reporter = name_of(&names.reporters, report.reporter);
     let target = name_of_target(names, report.target);
@@ -55,7 +55,7 @@ fn push_report(
     report: Report,
 ) -> Result<(), AllocError>
     ensures { OnOk result
-        (string_bytes text.new ≡ string_bytes text.old ++ report_line (run_names_of names.now) place report) }
+        (string_bytes text.new ≡ string_bytes text.old ++ report_line (texts_of names.now) place report) }
 {
     push_report_word(text, report.target)?;
     push_told(text, names, place, report)
@@ -68,7 +68,7 @@ fn push_report_beyond(
     report: Report,
 ) -> Result<(), AllocError>
     ensures { OnOk result
-        (string_bytes text.new ≡ string_bytes text.old ++ beyond_line (run_names_of names.now) place report) }
+        (string_bytes text.new ≡ string_bytes text.old ++ beyond_line (texts_of names.now) place report) }
 {
     push_beyond_word(text, report.target)?;
     push_told(text, names, place, report)
@@ -82,7 +82,7 @@ pub(crate) fn push_history(
     history: &[Report],
 ) -> Result<(), AllocError>
     ensures { OnOk result
-        (string_bytes text.new ≡ string_bytes text.old ++ numbered (report_line (run_names_of names.now)) 0 history.now) }
+        (string_bytes text.new ≡ string_bytes text.old ++ numbered (report_line (texts_of names.now)) 0 history.now) }
 {
     for (place, report) in history.iter().enumerate() {
         push_report(text, names, place as u64, *report)?;
@@ -100,7 +100,7 @@ pub(crate) fn push_beyond(
 ) -> Result<(), AllocError>
     requires places { history + length beyond.now < 2 ^ 64 }
     ensures { OnOk result
-        (string_bytes text.new ≡ string_bytes text.old ++ numbered (beyond_line (run_names_of names.now)) history beyond.now) }
+        (string_bytes text.new ≡ string_bytes text.old ++ numbered (beyond_line (texts_of names.now)) history beyond.now) }
 {
     for (number, report) in beyond.iter().enumerate() {
         push_report_beyond(text, names, history + number as u64, *report)?;

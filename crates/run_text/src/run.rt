@@ -1,7 +1,8 @@
 //! The text of a run, line by line.
 ghost use Rattle.std.specs.Prelude.{◌≡◌, ◌+◌, ◌++◌, ◌<◌, ◌^◌, length, IfOk, OnOk, string_bytes};
 ghost use Rattle.std.specs.List.{All};
-ghost use Rattle.run_text.specs.RunText.{numbered, run_names_of, run_text_of, sent_line};
+ghost use Rattle.doc_names.specs.NameTexts.{texts_of};
+ghost use Rattle.run_text.specs.RunText.{numbered, run_text_of, sent_line};
 
 use crate::reader::push_readers;
 use crate::report::push_history;
@@ -23,7 +24,7 @@ pub fn run_text(
 ) -> Result<Vec<u8>, OutOfMemory>
     requires reporters { length log.now.sent.items < 2 ^ 32 }
     requires places { All (λ reader. length log.now.history.items + length reader.beyond.items < 2 ^ 64) log.now.readers.items }
-    ensures { IfOk result (λ text. text.items ≡ run_text_of (run_names_of names.now) log.now) }
+    ensures { IfOk result (λ text. text.items ≡ run_text_of (texts_of names.now) log.now) }
 {
     let mut text = String::new(alloc);
     let history = log.history.len() as u64;
@@ -39,7 +40,7 @@ pub fn run_text(
 
 fn push_sent_by(text: &mut String, names: &Names, number: u32, sent: u64) -> Result<(), AllocError>
     ensures { OnOk result
-        (string_bytes text.new ≡ string_bytes text.old ++ sent_line (run_names_of names.now) number sent) }
+        (string_bytes text.new ≡ string_bytes text.old ++ sent_line (texts_of names.now) number sent) }
 {
     let reporter = name_of(&names.reporters, number);
     write!(text, "reporter {reporter} sent {sent}\n")
@@ -49,7 +50,7 @@ fn push_sent_by(text: &mut String, names: &Names, number: u32, sent: u64) -> Res
 fn push_sent(text: &mut String, names: &Names, sent: &[u64]) -> Result<(), AllocError>
     requires reporters { length sent.now < 2 ^ 32 }
     ensures { OnOk result
-        (string_bytes text.new ≡ string_bytes text.old ++ numbered (sent_line (run_names_of names.now)) 0 sent.now) }
+        (string_bytes text.new ≡ string_bytes text.old ++ numbered (sent_line (texts_of names.now)) 0 sent.now) }
 {
     for (number, reports) in sent.iter().enumerate() {
         push_sent_by(text, names, number as u32, *reports)?;

@@ -1,6 +1,6 @@
 use Rattle.std.proofs.Common.{arith, rules, sym, ap, ◌∙◌}
 use Rattle.std.specs.Str.{bytes_eq}
-use Rattle.run_audit.proofs.Digits.{known_at}
+use Rattle.run_audit.proofs.Names.{known_at}
 use Rattle.run_audit.proofs.forms.is_likely_known.Goals as goal
 
 pub returns-then-eq : goal.returns-then-eq

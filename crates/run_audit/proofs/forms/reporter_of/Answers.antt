@@ -3,7 +3,7 @@ use Rattle.std.specs.Prelude.{position}
 use Rattle.std.specs.Str.{bytes_eq}
 use Rattle.std.proofs.lemmas.Iterator.{YieldsList-from_slice}
 use Rattle.std.proofs.lemmas.Iterator.Search.{position_from_yields_List}
-use Rattle.run_audit.proofs.Digits.{position-map}
+use Rattle.run_audit.proofs.Names.{position-map}
 use Rattle.run_audit.proofs.forms.reporter_of.Goals as goal
 
 pub returns : goal.returns

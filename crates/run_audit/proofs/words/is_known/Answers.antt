@@ -2,7 +2,7 @@ use Rattle.std.proofs.Common.{String, string_bytes, rules, tests, ◌∙◌, Glo
 use Rattle.std.specs.Str.{bytes_eq}
 use Rattle.std.proofs.lemmas.Iterator.{YieldsList-from_slice}
 use Rattle.std.proofs.lemmas.Iterator.Search.{any_from_yields_List}
-use Rattle.run_audit.proofs.Digits.{list_any-map}
+use Rattle.run_audit.proofs.Names.{list_any-map}
 use Rattle.run_audit.proofs.words.is_known.Goals as goal
 
 pub returns : goal.returns

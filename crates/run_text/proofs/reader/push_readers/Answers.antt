@@ -1,6 +1,7 @@
-use Rattle.std.proofs.Common.{◌≡◌, ℕ, suc, ◌+◌, ◌<◌, ◌++◌, List, length, drop, sym, ap, ◌∙◌, arith, add-one, append_assoc, string_bytes}
+use Rattle.std.proofs.Common.{ℕ, suc, ◌+◌, ◌<◌, ◌++◌, List, length, drop, sym, ap, ◌∙◌, arith, add-one, append_assoc, string_bytes}
 use Rattle.crew_log.specs.declared.log.ReaderLog.{ReaderLog}
-use Rattle.run_text.specs.RunText.{numbered, reader_lines, run_names_of}
+use Rattle.doc_names.specs.NameTexts.{texts_of}
+use Rattle.run_text.specs.RunText.{numbered, reader_lines}
 use Rattle.run_text.proofs.Numbered.{numbered_more}
 use Rattle.run_text.proofs.reader.push_readers.Goals as goal
 
@@ -10,7 +11,7 @@ loop-number-preserved c =
     let readers = c.args.readers.now in
     let reader = c.index-readers-number.result in
     let old = string_bytes c.loop-number.text in
-    let lines : ℕ → ReaderLog → List ℕ = reader_lines (run_names_of c.args.names.now) c.args.history in
+    let lines : ℕ → ReaderLog → List ℕ = reader_lines (texts_of c.args.names.now) c.args.history in
     let rest : List ℕ = numbered lines (suc n) (drop (n + 1) readers) in
     let inside : n < length readers = omega arith in
     ap (λ (k : ℕ). string_bytes c.push_reader.new.text ++ numbered lines k (drop (n + 1) readers)) (add-one n)

@@ -1,6 +1,6 @@
 //! The law of the audit for an accepted document, each part as the contract of a function that does nothing.
 
-ghost use Rattle.document_audit.specs.Laws.{AcceptedDocumentIsAudited, DocumentRunIsLegal, LegalTextIsADocumentRun};
+ghost use Rattle.audit_law.specs.DocumentLaws.{AcceptedDocumentIsAudited, DocumentRunIsLegal, LegalTextIsADocumentRun};
 
 /// An accepted document has what the law of the audit asks of names, scripts, totals and tables.
 pub fn accepted_document_is_audited()

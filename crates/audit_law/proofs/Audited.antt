@@ -3,7 +3,7 @@ use Rattle.std.proofs.Common.{◌≡◌, ◌<◌, ◌≤◌, ◌^◌, ◌==◌, 
 use Rattle.std.specs.Prelude.{⊤, slice_index_or, unwrap_or}
 use Rattle.std.proofs.lemmas.List.Elements.{All-head, All-map, All-tail, All-weaker}
 use Rattle.std.proofs.lemmas.List.Sums.{count_by-le-length, length-filter}
-use Rattle.bwe_specs.specs.declared.limits.TheConstants.{MAX_AMOUNT, MAX_REPORTS}
+use Rattle.bwe_specs.specs.declared.limits.TheConstants.{MAX_AMOUNT}
 use Rattle.bwe_specs.specs.declared.report.Report.{Report}
 use Rattle.bwe_specs.specs.declared.report.Target.{Target}
 use Rattle.bwe_specs.specs.Allocation.{allocation}
@@ -37,17 +37,17 @@ use Rattle.path_groups.specs.Faults.{plan_fault}
 use Rattle.wan_topology.specs.Faults.{topology_fault}
 use Rattle.wan_topology.specs.Network.{network_of}
 use Rattle.raw_document.specs.declared.doc_path.PathStep.{PathStep}
+use Rattle.doc_names.specs.NameTexts.{texts_of}
 use Rattle.run_audit.proofs.Counts.{total_counted}
 use Rattle.run_audit.specs.History.{scripts_of as lists_of}
-use Rattle.run_text.specs.RunText.{run_names_of}
-use Rattle.audit_law.specs.ClosedRun.{AreAudited, AreNames, AreScripts, IsInterleaving, line_names}
+use Rattle.audit_law.specs.ClosedRun.{AreAudited, AreNames, AreScripts, IsInterleaving}
 use Rattle.audit_law.proofs.Vectors.{vec_of}
 use Rattle.audit_law.proofs.Logs.{each_from, script_at, script_count}
-use Rattle.document_audit.specs.Laws.{AreScriptsOf}
+use Rattle.audit_law.specs.DocumentLaws.{AreScriptsOf}
 use Rattle.plan_doc.specs.Plans.{plan_in}
-use Rattle.document_audit.proofs.DocumentNames.{ArePlain, names_plain}
-use Rattle.document_audit.proofs.DocumentTree.{clusters_right, few_tasks}
-use Rattle.document_audit.proofs.DocumentTotals.{total_small}
+use Rattle.audit_law.proofs.DocumentNames.{ArePlain, names_plain}
+use Rattle.audit_law.proofs.DocumentTree.{clusters_right, few_tasks}
+use Rattle.audit_law.proofs.DocumentTotals.{total_small}
 
 -- ---- what was not refused
 
@@ -122,7 +122,7 @@ module _ (bytes : List ℕ) (document : code.Document) (usable : IsUsable docume
   plain : ArePlain (names_view document.names)
   plain = subst ArePlain (sym accepted.2.names) (names_plain read.raw read.u accepted.0.names read.range read.listed)
 
-  names-are : AreNames (line_names (run_names_of document.names))
+  names-are : AreNames (texts_of document.names)
   names-are = record { tasks = plain.tasks; links = plain.links; reporters = plain.reporters; apart = plain.apart }
 
   clusters-are : AreClusters document.tree.top document.tree.clusters
@@ -142,14 +142,14 @@ module _ (bytes : List ℕ) (document : code.Document) (usable : IsUsable docume
     counted : length scripts ≡ reporter_count document
     counted = split-count (reporter_count document) document.script.items scripts split
 
-    scripts-are : AreScripts (line_names (run_names_of document.names)) (tasks_in document) (link_count document) (lists_of scripts)
+    scripts-are : AreScripts (texts_of document.names) (tasks_in document) (link_count document) (lists_of scripts)
     scripts-are = record {
       tasks_named = omega (arith, usable.task_names);
       links_named = omega (arith, usable.link_names);
       reporters_named = omega (arith, script_count scripts, counted);
       own = λ number lt. own number (omega (arith, lt, script_count scripts));
       few_reporters = omega (arith, script_count scripts, few-scripts document usable scripts split);
-      few = subst (λ count. count ≤ MAX_REPORTS) (sym (total_counted scripts)) (room-scripts document usable scripts split);
+      few = subst (λ count. count ≤ 200_000) (sym (total_counted scripts)) (room-scripts document usable scripts split);
     }
       where
         are : AreCrewScripts (tasks_in document) (link_count document) scripts
@@ -175,7 +175,7 @@ module _ (bytes : List ℕ) (document : code.Document) (usable : IsUsable docume
         (λ k d lt. (usable.reports k d lt).0)
         (λ k d lt. subst (λ (count : ℕ). (get_or history k d).reporter < count) (script_count scripts ∙ counted) (legal.no_other k d lt).0)
 
-    pub audited : AreAudited (run_names_of document.names) (allocation (plan_in document)) (allocation (plan_in document) document.script.items) (tasks_in document) (link_count document) scripts
+    pub audited : AreAudited (texts_of document.names) (allocation (plan_in document)) (allocation (plan_in document) document.script.items) (tasks_in document) (link_count document) scripts
     audited = record { names_so = names-are; scripts_so = scripts-are; totals = totals-are; table_so = tables-are }
 
 -- ---- scripts of lists

@@ -9,16 +9,18 @@ use Rattle.limit_table.specs.Tables.{total_of}
 use Rattle.plan_doc.specs.Document.{Accepted}
 use Rattle.plan_doc.specs.Names.{NameLists}
 use Rattle.plan_doc.specs.Plans.{plan_of}
-use Rattle.run_text.specs.RunText.{RunNames}
+use Rattle.doc_names.specs.NameTexts.{NameTexts}
 use Rattle.run_audit.specs.Verdict.{verdict_of}
 use Rattle.run_audit.specs.declared.verdict.AuditVerdict.{AuditVerdict}
 use Rattle.table_text.specs.TableText.{text_of}
-use Rattle.audit_law.specs.ClosedRun.{IsClosedRun, line_names}
+use Rattle.audit_law.specs.ClosedRun.{IsClosedRun}
 
 -- the names that the text of a run prints
-abbrev pub run_names : NameLists → RunNames
+abbrev pub run_names : NameLists → NameTexts
 run_names names = record {
-  table = record { links = names.links; groups = names.groups; tasks = names.tasks };
+  links = names.links;
+  groups = names.groups;
+  tasks = names.tasks;
   reporters = names.reporters;
 }
 
@@ -32,8 +34,8 @@ pub record IsDocumentRun (document : Accepted) (text : List ℕ) : Type 0 where
 -- a part of its history, and its table is the allocation of the script
 abbrev pub script_verdict : NameLists → Plan → List Report → List ℕ → AuditVerdict
 script_verdict names plan script text =
-    verdict_of (line_names (run_names names)) (scripts_of (length names.reporters) script) (λ reports. total_of (allocation plan reports))
-    (text_of (run_names names).table (allocation plan script)) text
+    verdict_of (run_names names) (scripts_of (length names.reporters) script) (λ reports. total_of (allocation plan reports))
+    (text_of (run_names names) (allocation plan script)) text
 
 -- the verdict on a text that is to be that of a run of the document
 abbrev pub document_verdict : Accepted → List ℕ → AuditVerdict

@@ -9,10 +9,10 @@ use Rattle.plan_doc.specs.Accepted.{IsAccepted, IsDocumentOf}
 use Rattle.plan_doc.specs.Conditions.{IsUsable, link_count, reporter_count, tasks_in}
 use Rattle.plan_doc.specs.Document.{Accepted, document as document_of}
 use Rattle.plan_doc.specs.Plans.{plan_in}
-use Rattle.run_text.specs.RunText.{run_names_of}
+use Rattle.doc_names.specs.NameTexts.{texts_of}
 use Rattle.run_audit.specs.declared.verdict.AuditVerdict.TheVariants.{Legal}
 use Rattle.audit_law.specs.ClosedRun.{AreAudited}
-use Rattle.document_audit.specs.DocumentRun.{IsDocumentRun, document_verdict}
+use Rattle.audit_law.specs.DocumentRun.{IsDocumentRun, document_verdict}
 
 -- the scripts are the document's script split by reporter
 abbrev pub AreScriptsOf : read.Document → List (Vec Report Global) → Type 0
@@ -23,7 +23,7 @@ abbrev pub AcceptedDocumentIsAudited : Type 0
 AcceptedDocumentIsAudited =
     (bytes : List ℕ) (document : read.Document) (scripts : List (Vec Report Global))
     → IsUsable document → IsAccepted (document_of bytes) document → AreScriptsOf document scripts
-    → AreAudited (run_names_of document.names) (allocation (plan_in document)) (allocation (plan_in document) document.script.items) (tasks_in document) (link_count document) scripts
+    → AreAudited (texts_of document.names) (allocation (plan_in document)) (allocation (plan_in document) document.script.items) (tasks_in document) (link_count document) scripts
 
 -- The code has read the bytes as this document.
 pub record IsRead (bytes : List ℕ) (accepted : Accepted) (document : read.Document) : Type 0 where

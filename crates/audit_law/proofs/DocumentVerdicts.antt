@@ -14,13 +14,13 @@ use Rattle.plan_doc.specs.Conditions.{link_count, tasks_in}
 use Rattle.plan_doc.specs.Document.{Accepted}
 use Rattle.plan_doc.specs.Plans.{plan_in, plan_of}
 use Rattle.policy_tree.specs.Trees.{task_numbers}
+use Rattle.doc_names.specs.NameTexts.{texts_of}
 use Rattle.run_audit.specs.Verdict.{verdict_of}
-use Rattle.run_text.specs.RunText.{run_names_of}
 use Rattle.table_text.specs.TableText.{text_of}
-use Rattle.audit_law.specs.ClosedRun.{IsClosedRun, line_names}
+use Rattle.audit_law.specs.ClosedRun.{IsClosedRun}
 use Rattle.audit_law.specs.Laws.{verdict_on}
-use Rattle.document_audit.specs.DocumentRun.{document_verdict, run_names}
-use Rattle.document_audit.specs.Laws.{AreScriptsOf}
+use Rattle.audit_law.specs.DocumentRun.{document_verdict, run_names}
+use Rattle.audit_law.specs.DocumentLaws.{AreScriptsOf}
 
 abbrev plan_parts : ℕ → List Cluster → List PathGroups → List ℕ → Plan
 plan_parts top clusters groups capacities = record { top = top; clusters = clusters; groups = groups; capacities = capacities }
@@ -31,7 +31,7 @@ module _ (accepted : Accepted) (document : read.Document) (is : IsDocumentOf acc
       ap (λ tree. plan_parts tree.top tree.clusters document.plan document.topology.capacities) is.tree
       ∙ ap₂ (λ plan topology. plan_parts accepted.top accepted.clusters plan topology.capacities) is.plan is.topology
 
-  pub names-are : run_names_of document.names ≡ run_names accepted.names
+  pub names-are : texts_of document.names ≡ run_names accepted.names
   names-are = ap run_names is.names
 
   pub tasks-are : tasks_in document ≡ task_count (plan_of accepted)
@@ -46,7 +46,7 @@ module _ (accepted : Accepted) (document : read.Document) (is : IsDocumentOf acc
     split-is = ap₂ (λ names script. items_of scripts ≡ scripts_of (length names.reporters) script) is.names is.script
 
     -- a closed run of the parts of the code is one of the definition
-    pub run-is : (text : List ℕ) → IsClosedRun (run_names_of document.names) (allocation (plan_in document)) (tasks_in document) (link_count document) scripts text
+    pub run-is : (text : List ℕ) → IsClosedRun (texts_of document.names) (allocation (plan_in document)) (tasks_in document) (link_count document) scripts text
         ≡ IsClosedRun (run_names accepted.names) (allocation (plan_of accepted)) (task_count (plan_of accepted)) (length (plan_of accepted).capacities) scripts text
     run-is text =
         ap₂ (λ names plan. IsClosedRun names (allocation plan) (tasks_in document) (link_count document) scripts text) names-are plan-is
@@ -54,9 +54,9 @@ module _ (accepted : Accepted) (document : read.Document) (is : IsDocumentOf acc
 
     -- and so is the verdict
     pub verdict-is : (text : List ℕ) → AreScriptsOf document scripts
-        → verdict_on (run_names_of document.names) (allocation (plan_in document)) (allocation (plan_in document) document.script.items) scripts text ≡ document_verdict accepted text
+        → verdict_on (texts_of document.names) (allocation (plan_in document)) (allocation (plan_in document) document.script.items) scripts text ≡ document_verdict accepted text
     verdict-is text split =
         ap₂ (λ names plan. verdict_on names (allocation plan) (allocation plan document.script.items) scripts text) names-are plan-is
         ∙ ap (λ script. verdict_on (run_names accepted.names) (allocation (plan_of accepted)) (allocation (plan_of accepted) script) scripts text) is.script
-        ∙ ap (λ lists. verdict_of (line_names (run_names accepted.names)) lists (λ reports. total_of (allocation (plan_of accepted) reports))
-        (text_of (run_names accepted.names).table (allocation (plan_of accepted) accepted.script)) text) (subst (λ (T : Type 0). T) split-is split)
+        ∙ ap (λ lists. verdict_of (run_names accepted.names) lists (λ reports. total_of (allocation (plan_of accepted) reports))
+        (text_of (run_names accepted.names) (allocation (plan_of accepted) accepted.script)) text) (subst (λ (T : Type 0). T) split-is split)

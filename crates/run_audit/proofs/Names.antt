@@ -1,27 +1,10 @@
--- Digits, read one by one.
-use Rattle.std.proofs.Common.{String, Global, string_bytes, true, cond, not, ap₂, arith, ◌≡◌, ℕ, ◌+◌, ◌<◌, ◌≤◌, List, [], ◌∷◌, length, drop, get_or, refl, sym, ap, ◌∙◌}
-use Rattle.std.specs.Prelude.{nat_lt, position, Bool, ◌||◌, map, Some, None, option_and_then}
+-- Names, looked for among many.
+use Rattle.std.proofs.Common.{String, Global, string_bytes, true, cond, not, ap₂, arith, ◌≡◌, ℕ, ◌+◌, ◌<◌, List, [], ◌∷◌, length, get_or, refl, sym, ap, ◌∙◌}
+use Rattle.std.specs.Prelude.{nat_lt, position, Bool, ◌||◌, map, Some, None}
 use Rattle.std.specs.List.{list_any, position_or_len}
 use Rattle.std.specs.Str.{bytes_eq}
-use Rattle.std.proofs.lemmas.List.{drop_more, drop_all, get_or-map, length-map}
+use Rattle.std.proofs.lemmas.List.{get_or-map, length-map}
 use Rattle.std.proofs.lemmas.List.Folds.{list_any_at}
-use Rattle.run_audit.specs.Words.{with_digit, number_on}
-
--- where a digit ends the reading, the rest gives no number
-pub number_stops : (number : ℕ) (digits : List ℕ) (i : ℕ) → i < length digits → with_digit number (get_or digits i 0) ≡ None → number_on number (drop i digits) ≡ None
-unfolding number_on
-number_stops number digits i within none =
-    ap (number_on number) (drop_more digits i 0 within) ∙ ap (option_and_then (λ more. number_on more (drop (i + 1) digits))) none
-
-pub number_goes_on : (number more : ℕ) (digits : List ℕ) (i : ℕ) → i < length digits → with_digit number (get_or digits i 0) ≡ Some more
-    → number_on number (drop i digits) ≡ number_on more (drop (i + 1) digits)
-unfolding number_on
-number_goes_on number more digits i within some =
-    ap (number_on number) (drop_more digits i 0 within) ∙ ap (option_and_then (λ more. number_on more (drop (i + 1) digits))) some
-
-pub number_ends : (number : ℕ) (digits : List ℕ) (i : ℕ) → length digits ≤ i → number_on number (drop i digits) ≡ Some number
-unfolding number_on
-number_ends number digits i past = ap (number_on number) (drop_all i digits past)
 
 -- a test of what the items show
 pub list_any-map : {X Y : Type 0} (p : Y → Bool) (view : X → Y) (xs : List X) → list_any (λ x. p (view x)) xs ≡ list_any p (map view xs)

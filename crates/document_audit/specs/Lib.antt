@@ -1,2 +1,0 @@
-pub mod DocumentRun
-pub mod Laws
