@@ -8,10 +8,11 @@ use board_log::{Bases, Beginning, EndedLog};
 use demand_book::Posted;
 use std::marker::Model;
 
-/// An acknowledgement: the first reports of the log, all of which a posted table covers. Contracts see it as those reports.
+/// An acknowledgement: the first reports of the log, all of which a posted table covers. Contracts
+/// see it as those reports.
 ///
-/// `Ack::of` alone makes one, of what a poster shows: who has an ack knows that a table of so many reports was posted.
-/// It holds no table. Passes of its board `learn` it.
+/// `Ack::of` alone makes one, of what a poster shows: who has an ack knows that a table of so many
+/// reports was posted. It holds no table. Passes of its board `learn` it.
 #[derive(Drop)]
 pub struct Ack<B: Bases> {
     known: Beginning<B>,
@@ -53,7 +54,8 @@ impl<B: Bases> Ack<B> {
     }
 }
 
-/// The ack of the end: all of a log that has ended, to which nothing is ever added. Contracts see it as those reports.
+/// The ack of the end: all of a log that has ended, to which nothing is ever added. Contracts see
+/// it as those reports.
 #[derive(Drop)]
 pub struct FinalAck<B: Bases> {
     ack: Ack<B>,

@@ -1,15 +1,26 @@
-//! What a board publishes: a log with the table of its first reports, in two copies, which readers enter without a lock.
+//! What a board publishes: a log with the table of its first reports, in two copies, which readers
+//! enter without a lock.
 //!
-//! `board` above makes posts of `News` by a `Poster`; its readers are `ReaderPass`es, each with a copy of its own of what it saw.
-//! Three promises rest on this crate alone, for any kind of table: `ReaderPass::read` shows a table that belongs to the first reports
-//! of a log which begins with all that the pass had seen, never older than its floor; after `ReaderPass::learn` the pass has all that
-//! the ack holds; `Poster::publish` shows all that waited, or nothing of it.
-//! An `Ack` is made by `Ack::of` alone, of what a poster shows, so whoever has one of so many reports knows that a table of as many was posted.
-//! A `FinalAck` is of a log that has ended, and `View::is_within` shows that no view, whenever it was made, has more.
-//! `read` and `learn` take no lock and wait for nobody: they are given no handle, and nothing that waits can be called without one.
-//! `publish` may wait for readers to leave a copy. A copy is brought up to date by the reports that are new and a change of the table.
-//! Nothing is known here of who adds to the log, of makers or of threads. Not promised: that a reader sees what nobody told it.
-//! A `read` that enters no published copy, or stops entering one after some reads, meets every clause: tests of `board` refuse it.
+//! `board` above makes posts of `News` by a `Poster`; its readers are `ReaderPass`es, each with
+//! what it saw: a log that it shares with the published copy, and a table of its own. Three
+//! promises rest on this crate alone, for any kind of table:
+//! - `ReaderPass::read` shows a table that belongs to the first reports of a log which begins with
+//!   all that the pass had seen, never older than its floor;
+//! - after `ReaderPass::learn` the pass has all that the ack holds;
+//! - `Poster::publish` shows all that waited, or nothing of it.
+//!
+//! An `Ack` is made by `Ack::of` alone, of what a poster shows, so whoever has one of so many
+//! reports knows that a table of as many was posted. A `FinalAck` is of a log that has ended, and
+//! `View::is_within` shows that no view, whenever it was made, has more. `read` and `learn` take no
+//! lock and wait for nobody: they are given no handle, and nothing that waits can be called without
+//! one.
+//!
+//! `publish` may wait for readers to leave a copy. It makes the log of each published copy anew,
+//! and brings its table up to date by a change. A pass shares that log, and applies a change to its
+//! own table. A log is freed with the last that shares it. Nothing is known here of who adds to the
+//! log, of makers or of threads. Not promised: that a reader sees what nobody told it. A `read`
+//! that enters no published copy, or stops entering one after some reads, meets every clause: tests
+//! of `board` refuse it.
 #![tactic(auto)]
 
 mod ack;

@@ -1,5 +1,6 @@
 //! The published pair: a log, and the table of some of its first reports.
 ghost use Rattle.std.specs.Prelude.{◌≡◌, ◌≤◌, ◌++◌, [], length, take, drop, IfOk, OnOk, OnErr};
+ghost use Rattle.std.specs.Arc.{arc_value};
 ghost use Rattle.std.specs.Bool.{OnTrue};
 ghost use Rattle.std.specs.List.{All};
 ghost use mathlib.Core.List.{IsPrefix};
@@ -16,6 +17,7 @@ use left_right::Absorb;
 use std::alloc::{AllocError, Global};
 use std::collections::LinkedList;
 use std::marker::{Model, PhantomData};
+use std::sync::Arc;
 
 /// A log, and a table that belongs to its first reports. No value of it is made.
 pub struct Posting<T> {
@@ -24,26 +26,31 @@ pub struct Posting<T> {
 }
 
 /// A log, and the table of its first reports, as many as it covers. Contracts see it as these two.
+///
+/// A pair that takes over another shares its log, which is freed with the last pair that has it.
 #[derive(Drop)]
 pub struct Pair<T: Posted, N: Profile<T>, B: Bases> {
-    pub(crate) log: Vec<Report>,
+    pub(crate) log: Arc<Vec<Report>>,
     pub(crate) table: T,
     known: Beginning<B>,
     of: PhantomData<N>,
 }
 
 impl<T: Posted, N: Profile<T>, B: Bases> Model for Pair<T, N, B> {
+    ghost use Rattle.std.specs.Arc.{arc_value};
     ghost use Rattle.board_pair.specs.declared.pair.Posting.{Posting};
     ghost use Rattle.board_pair.specs.Pair.{IsPair};
 
     ghost Value = { Posting T };
 
-    ghost view = { λ pair. record { log = pair.log.items; table = pair.table } };
+    ghost view = { λ pair. record { log = (arc_value pair.log).items; table = pair.table } };
 
-    ghost invariant = { λ pair. IsPair T.covers T.frame T.tasks_of N.belongs N.reporters N.tasks N.links pair.known pair.log.items pair.table };
+    ghost invariant = { λ pair. IsPair T.covers T.frame T.tasks_of N.belongs N.reporters N.tasks
+        N.links pair.known (arc_value pair.log).items pair.table };
 }
 
-/// What a post brings: the reports from a place on, and the table. Contracts see the pair that it makes.
+/// What a post brings: the reports from a place on, and the table. Contracts see the pair that it
+/// makes.
 #[derive(Drop)]
 pub struct News<T: Posted, N: Profile<T>, B: Bases> {
     alloc: Global,
@@ -62,7 +69,8 @@ impl<T: Posted, N: Profile<T>, B: Bases> Model for News<T, N, B> {
 
     ghost view = { λ news. record { log = news.known; table = news.table } };
 
-    ghost invariant = { λ news. IsNews T.covers N.belongs N.reporters N.tasks N.links news.from news.more.items news.known news.table };
+    ghost invariant = { λ news. IsNews T.covers N.belongs N.reporters N.tasks N.links news.from
+        news.more.items news.known news.table };
 }
 
 impl<T: Posted, N: Profile<T>, B: Bases> News<T, N, B> {
@@ -107,9 +115,10 @@ impl<T: Posted, N: Profile<T>, B: Bases> Pair<T, N, B> {
         requires one_plan { AreOfOnePlan T.frame T.tasks_of N.belongs N.tasks }
         ensures pair { IfOk result (λ pair. pair ≡ record { log = []; table = table.now }) }
     {
+        let log = joined(alloc, &[], &[])?;
         let copy = table.copy(alloc)?;
         Ok(Pair {
-            log: Vec::new(alloc),
+            log,
             table: copy,
             known,
             of: PhantomData,
@@ -155,44 +164,53 @@ impl<T: Posted, N: Profile<T>, B: Bases> Pair<T, N, B> {
         if self.log.len() as u64 != from || !self.known.begins(known) {
             return Err(OutOfMemory);
         }
-        let held = self.log.len();
-        let change = self.table.change_to(alloc, table)?;
-        self.log.extend_from_slice(more)?;
-        match self.table.apply(alloc, &change) {
-            Ok(()) => {
-                self.known = known.copy();
-                Ok(())
-            }
-            Err(error) => {
-                self.log.truncate(held);
-                Err(error)
-            }
-        }
+        let log = joined(alloc, self.log.as_slice(), more)?;
+        self.take_over(alloc, log, known, table)
     }
 
-    // Takes over a later pair. One that is not later is refused.
+    // Takes a log that begins with this one, and takes the table to that one by their change.
+    fn take_over(
+        &mut self,
+        alloc: Global,
+        log: Arc<Vec<Report>>,
+        known: &Beginning<B>,
+        table: &T,
+    ) -> Result<(), OutOfMemory>
+        requires known { (arc_value log).items ≡ known.now }
+        requires longer { IsPrefix self.old.log known.now }
+        requires covers { T.covers table.now ≤ length known.now }
+        requires belongs { N.belongs (take (T.covers table.now) known.now) table.now }
+        requires allowed { All (IsAllowed N.reporters (IsFit N.tasks N.links)) known.now }
+        ensures ok { OnOk result (self.new ≡ record { log = known.now; table = table.now }) }
+        ensures refused { OnErr result (self.new ≡ self.old) }
+        ensures log { IsPrefix self.old.log self.new.log }
+    {
+        let change = self.table.change_to(alloc, table)?;
+        self.table.apply(alloc, &change)?;
+        self.log = log;
+        self.known = known.copy();
+        Ok(())
+    }
+
+    // Takes over a later pair, and shares its log. One that is not later is refused.
     fn catch_up(&mut self, alloc: Global, later: &Pair<T, N, B>) -> Result<(), OutOfMemory>
         ensures ok { OnOk result (self.new ≡ later.now) }
         ensures refused { OnErr result (self.new ≡ self.old) }
         ensures log { IsPrefix self.old.log self.new.log }
         ensures floor { T.covers self.old.table ≤ T.covers self.new.table }
     {
-        let from = self.log.len();
-        if from > later.log.len() || later.table.prefix() < self.table.prefix() {
+        if later.table.prefix() < self.table.prefix() || !self.known.begins(&later.known) {
             return Err(OutOfMemory);
         }
-        self.follow(
-            alloc,
-            from as u64,
-            &later.log[from..],
-            &later.known,
-            &later.table,
-        )
+        let log = Arc::try_clone(&later.log)?;
+        self.take_over(alloc, log, &later.known, &later.table)
     }
 
-    /// Takes over the published pair where something was published since. Where memory is wanting it stays as it is.
+    /// Takes over the published pair where something was published since. Where memory is wanting
+    /// it stays as it is.
     ///
-    /// Each publish raises what the table covers, so where nothing was published it costs one comparison.
+    /// Each publish raises what the table covers, so where nothing was published it costs one
+    /// comparison.
     pub(crate) fn refresh(&mut self, alloc: Global, published: &Pair<T, N, B>)
         ensures log { IsPrefix self.old.log self.new.log }
         ensures floor { T.covers self.old.table ≤ T.covers self.new.table }
@@ -255,4 +273,16 @@ impl<T: Posted, N: Profile<T>, B: Bases> Absorb<News<T, N, B>> for Pair<T, N, B>
             Err(_) => Err(AllocError),
         }
     }
+}
+
+// The reports of both, one after the other, to be shared.
+fn joined(alloc: Global, first: &[Report], more: &[Report]) -> Result<Arc<Vec<Report>>, AllocError>
+    ensures items { IfOk result (λ log. (arc_value log).items ≡ first.now ++ more.now) }
+{
+    let room = first.len().saturating_add(more.len());
+    let mut log = Vec::with_capacity(alloc, room)?;
+    log.extend_from_slice(first)?;
+    log.extend_from_slice(more)?;
+    let shared = Arc::new(alloc, log)?;
+    Ok(shared)
 }

@@ -12,9 +12,11 @@ use std::marker::Model;
 use std::mem::ManuallyDrop;
 use std::sync::Wait;
 
-/// The writer of two published copies. Contracts see the value that readers take, and what waits to be published.
+/// The writer of two published copies. Contracts see the value that readers take, and what waits to
+/// be published.
 ///
-/// End it by `take`, which waits for the readers. Its drop leaves the memory, since to free it it would have to wait.
+/// End it by `take`, which waits for the readers. Its drop leaves the memory, since to free it it
+/// would have to wait.
 pub struct Poster<P: Absorb<O> + Drop, O: Drop> {
     writer: Writer<P, O, (), Unruled>,
 }
@@ -25,7 +27,11 @@ impl<P: Absorb<O> + Drop, O: Drop> Model for Poster<P, O> {
 
     ghost Value = { Desk P O };
 
-    ghost view = { λ poster. record { shown = poster.writer.desk.shown.value; waiting = drop poster.writer.behind poster.writer.log.items } };
+    ghost view = { λ poster. record {
+      shown = poster.writer.desk.shown.value;
+      waiting = drop
+          poster.writer.behind poster.writer.log.items;
+    } };
 }
 
 impl<P: Absorb<O> + Drop, O: Drop> Poster<P, O> {
@@ -73,7 +79,8 @@ impl<P: Absorb<O> + Drop, O: Drop> Poster<P, O> {
 
     /// Publishes what waits. It may wait for readers to leave.
     pub fn publish<R: Wait>(&mut self, rt: &R) -> Result<(), OutOfMemory>
-        ensures shown { OnOk result (P.state self.new.shown ≡ fold P.applied (P.state self.old.shown) self.old.waiting) }
+        ensures shown { OnOk result (P.state self.new.shown ≡ fold P.applied
+            (P.state self.old.shown) self.old.waiting) }
         ensures waiting { OnOk result (self.new.waiting ≡ []) }
         ensures refused { OnErr result (self.new ≡ self.old) }
     {

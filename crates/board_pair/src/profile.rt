@@ -1,8 +1,10 @@
 use std::marker::Brand;
 
-/// Which plan a board's tables are of, and which reports may stand in its log. Each call of a program picks it.
+/// Which plan a board's tables are of, and which reports may stand in its log. Each call of a
+/// program picks it.
 ///
-/// The maker goes behind a lock, where no clause can see its plan. By this name the board, its passes and its views go on speaking of that plan.
+/// The maker goes behind a lock, where no clause can see its plan. By this name the board, its
+/// passes and its views go on speaking of that plan.
 pub trait Profile<T> {
     ghost use Rattle.std.specs.Prelude.{ℕ, List};
     ghost use Rattle.bwe_specs.specs.declared.report.Report.{Report};

@@ -18,7 +18,8 @@ use std::marker::Model;
 
 type Home<T, N, B> = Reader<Pair<T, N, B>, (), Unruled>;
 
-/// A reader's pass: a copy of its own of a log and of the table of its first reports, and how often it has read.
+/// A reader's pass: a log that it shares with the published copy that it took it from, a table of
+/// its own of the log's first reports, and how often it has read.
 ///
 /// The log is what the pass has seen. How many reports the table covers is its floor.
 #[derive(Drop)]
@@ -34,7 +35,12 @@ impl<T: Posted, N: Profile<T>, B: Bases> Model for ReaderPass<T, N, B> {
 
     ghost Value = { Reading T };
 
-    ghost view = { λ pass. record { log = pass.copy.log; table = pass.copy.table; reads = pass.reads } };
+    ghost view = { λ pass. record {
+      log = pass.copy.log;
+      table = pass.copy.table;
+      reads =
+          pass.reads;
+    } };
 }
 
 /// What a read shows: the log and the table of its pass.
@@ -83,27 +89,37 @@ impl<T: Posted, N: Profile<T>, B: Bases> ReaderPass<T, N, B> {
         self.reads
     }
 
-    /// Enters a published copy, brings the pass up to date by what was published since, and shows what it then has.
+    /// Enters a published copy, brings the pass up to date by what was published since, and shows
+    /// what it then has.
     ///
-    /// It is never refused. Where there is no memory for what is newer, it shows again what the pass had.
-    /// Where nothing was published since, it takes no memory and copies nothing; else it copies the reports that are new, and makes and applies one change of the table.
+    /// It is never refused. Where there is no memory for what is newer, it shows again what the
+    /// pass had. Where nothing was published since, it takes no memory and copies nothing; else it
+    /// shares the published log, of which it copies no report, and makes and applies one change of
+    /// the table.
     pub fn read(&mut self, alloc: Global) -> View<'_, T, N, B>
         // The pass has the log and the table that are shown, and one read more.
-        ensures* after { sem 𝓛 (follows_so (the_row T.row N.row B.row T.Frame.row T.Change.row T.Posted N.Profile B.Bases) (the_row T.row N.row B.row T.Frame.row T.Change.row T.Posted N.Profile B.Bases) self.entry.ghost_name none (λ _ _. ⊤) (λ pass. (pass.log ≡ result.copy.now.log) × (pass.table ≡ result.copy.now.table) × (pass.reads ≡ min (self.old.reads + 1) (2 ^ 64 - 1)))) }
+        ensures* after { sem 𝓛 (follows_so (the_row T.row N.row B.row T.Frame.row T.Change.row T.Posted
+            N.Profile B.Bases) (the_row T.row N.row B.row T.Frame.row T.Change.row T.Posted
+            N.Profile B.Bases) self.entry.ghost_name none (λ _ _. ⊤)
+            (λ pass. (pass.log ≡ result.copy.now.log) × (pass.table ≡ result.copy.now.table)
+            × (pass.reads ≡ min (self.old.reads + 1) (2 ^ 64 - 1)))) }
         ensures log { IsPrefix self.old.log result.copy.now.log }
         ensures floor { T.covers self.old.table ≤ T.covers result.copy.now.table }
         // What is shown: the table of the log's first reports, as many as it covers.
         ensures within { T.covers result.copy.now.table ≤ length result.copy.now.log }
-        ensures table { N.belongs (take (T.covers result.copy.now.table) result.copy.now.log) result.copy.now.table }
+        ensures table { N.belongs (take (T.covers result.copy.now.table) result.copy.now.log)
+            result.copy.now.table }
         ensures allowed { All (IsAllowed N.reporters (IsFit N.tasks N.links)) result.copy.now.log }
     {
         self.refresh(alloc);
         self.view()
     }
 
-    /// Sees at least what the ack holds: it enters a published copy and brings the pass up to date where that is needed.
+    /// Sees at least what the ack holds: it enters a published copy and brings the pass up to date
+    /// where that is needed.
     ///
-    /// It costs as `read` does, and nothing where the pass covers the ack already. After a refusal the pass is as it was.
+    /// It costs as `read` does, and nothing where the pass covers the ack already. After a refusal
+    /// the pass is as it was.
     pub fn learn(&mut self, alloc: Global, ack: &Ack<B>) -> Result<(), OutOfMemory>
         ensures told { OnOk result (IsPrefix ack.now self.new.log) }
         ensures covers { OnOk result (length ack.now ≤ T.covers self.new.table) }
