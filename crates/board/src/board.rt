@@ -24,7 +24,8 @@ use std::sync::{Mutex, Wait};
 
 /// A log under a lock, whose tables are published. End it by `close`, which waits for the readers.
 ///
-/// Want of memory stands, in each call, also for comparisons of logs that no clause can tell to hold, though in a run they always do.
+/// Want of memory stands, in each call, also for comparisons of logs that no clause can tell to
+/// hold, though in a run they always do.
 pub struct Board<M: Maker, N: Profile<M::Table>, B: Bases> {
     // It is taken before the log lock, and never inside it.
     shop: Mutex<Workshop<M, N, B>>,
@@ -41,7 +42,8 @@ impl<M: Maker, N: Profile<M::Table>, B: Bases> Board<M, N, B> {
 
     /// Adds the reports of a pass at the end of the log, and answers the place of the first.
     ///
-    /// All of them enter at one step, or none does. Full comes before want of memory. It costs by the piece, and waits for the log lock alone.
+    /// All of them enter at one step, or none does. Full comes before want of memory. It costs by
+    /// the piece, and waits for the log lock alone.
     pub fn report<R: Wait>(
         &self,
         rt: &R,
@@ -58,17 +60,19 @@ impl<M: Maker, N: Profile<M::Table>, B: Bases> Board<M, N, B> {
         // That log ends with the piece.
         ensures ends { IfOk result (λ first. first + length reports.now ≡ length pass.new.seen) }
         // Its own list grows by the piece, and is then all of its number in that log.
-        ensures own { IfOk result (λ first. pass.new.own ≡ pass.old.own ++ placed pass.old.number first reports.now) }
+        ensures own { IfOk result (λ first. pass.new.own ≡ pass.old.own ++ placed pass.old.number
+            first reports.now) }
         ensures exact { OnOk result (pass.new.own ≡ own_of pass.old.number pass.new.seen) }
         // Full is answered just where the log has no room, and the pass has then seen that log.
-        ensures room { OnOk result (length pass.new.seen ≤ 200000) }
+        ensures room { OnOk result (length pass.new.seen ≤ 200_000) }
         ensures refused { IfErr result (IsRefusalAt pass.new.seen (length reports.now)) }
         ensures kept { OnErr result (pass.new.own ≡ pass.old.own) }
     {
         self.state.lock(rt).append(alloc, pass, reports)
     }
 
-    /// An ack that holds all that the pass has seen, and so each of its reports: a table of all these has been posted.
+    /// An ack that holds all that the pass has seen, and so each of its reports: a table of all
+    /// these has been posted.
     ///
     /// Where no posted table covers that, it solves and posts one.
     pub fn settle<R: Wait>(
@@ -84,9 +88,11 @@ impl<M: Maker, N: Profile<M::Table>, B: Bases> Board<M, N, B> {
         self.ack_of(rt, alloc, &pass.known)
     }
 
-    /// Posts the table of the log as it stands, and answers how many reports the posted table covers. The pass then has the ack of these.
+    /// Posts the table of the log as it stands, and answers how many reports the posted table
+    /// covers. The pass then has the ack of these.
     ///
-    /// Where a table was posted that covers the whole log it solves nothing. The log lock is free while it solves.
+    /// Where a table was posted that covers the whole log it solves nothing. The log lock is free
+    /// while it solves.
     pub fn round<R: Wait>(
         &self,
         rt: &R,
@@ -104,9 +110,11 @@ impl<M: Maker, N: Profile<M::Table>, B: Bases> Board<M, N, B> {
         Ok(pass.ack().prefix())
     }
 
-    /// Ends the log, and gives the whole of it and the table of it, which has then been posted. It takes the passes of all reporters, in the order of their numbers.
+    /// Ends the log, and gives the whole of it and the table of it, which has then been posted. It
+    /// takes the passes of all reporters, in the order of their numbers.
     ///
-    /// The ack is that of a log that has ended: what any pass saw or will see of the log is a beginning of it.
+    /// The ack is that of a log that has ended: what any pass saw or will see of the log is a
+    /// beginning of it.
     pub fn finish<R: Wait>(
         &self,
         rt: &R,
@@ -115,13 +123,18 @@ impl<M: Maker, N: Profile<M::Table>, B: Bases> Board<M, N, B> {
     ) -> Result<Ended<M::Table, B>, FinishRefused<B>>
         requires count { length passes.items ≡ N.reporters }
         requires order { AreInOrder passes.items }
-        // The ack has the whole log: each pass's own list, and nothing else. It begins with all that each pass had seen.
+        // The ack has the whole log: each pass's own list, and nothing else. It begins with all
+        // that each pass had seen.
         ensures history { IfOk result (λ ended. ended.history.items ≡ ended.ack) }
-        ensures seen { IfOk result (λ ended. All (λ pass. IsPrefix pass.seen ended.ack) passes.items) }
+        ensures seen { IfOk result (λ ended. All (λ pass. IsPrefix pass.seen ended.ack)
+            passes.items) }
         ensures length { IfOk result (λ ended. ended.length ≡ length ended.ack) }
-        ensures sent { IfOk result (λ ended. ended.length ≡ sum_by (λ pass. length pass.own) passes.items) }
-        ensures exact { IfOk result (λ ended. All (λ pass. pass.own ≡ own_of pass.number ended.ack) passes.items) }
-        ensures allowed { IfOk result (λ ended. All (IsAllowed N.reporters (IsFit N.tasks N.links)) ended.ack) }
+        ensures sent { IfOk result (λ ended. ended.length ≡ sum_by (λ pass. length pass.own)
+            passes.items) }
+        ensures exact { IfOk result (λ ended. All (λ pass. pass.own ≡ own_of pass.number ended.ack)
+            passes.items) }
+        ensures allowed { IfOk result (λ ended. All (IsAllowed N.reporters (IsFit N.tasks N.links))
+            ended.ack) }
         // The table is that of the whole log.
         ensures covers { IfOk result (λ ended. M.Table.covers ended.table ≡ ended.length) }
         ensures table { IfOk result (λ ended. N.belongs ended.ack ended.table) }

@@ -1,23 +1,35 @@
-//! The board: reports of many threads in one log, and tables of its beginnings that readers read without a lock.
+//! The board: reports of many threads in one log, and tables of its beginnings that readers read
+//! without a lock.
 //!
-//! `crew` runs reporters, readers and an allocator over it. It rests on these promises, each the contract of a call, for any `Maker`:
-//! `Board::report` puts a piece into the log once and keeps the reporter's own list exact;
-//! the ack of `Board::settle` holds all that its pass had seen, and an `Ack` is made of what was posted alone (`Ack::of`, of `board_pair` below);
-//! `Board::round` leaves its pass with the ack of as many reports as it answers, and counts itself there;
-//! `ReaderPass::read`, of `board_pair` below, shows a table that belongs to the first reports of a log which begins with all that the pass had seen, never older than its floor;
-//! `Board::finish` ends the log and gives the whole of it, as an ack too, each reporter's list in it, and its table; no view has more, whenever it is made.
+//! `crew` runs reporters, readers and an allocator over it. It rests on these promises, each the
+//! contract of a call, for any `Maker`:
+//! - `Board::report` puts a piece into the log once and keeps the reporter's own list exact;
+//! - the ack of `Board::settle` holds all that its pass had seen, and an `Ack` is made of what was
+//!   posted alone (`Ack::of`, of `board_pair` below);
+//! - `Board::round` leaves its pass with the ack of as many reports as it answers, and counts
+//!   itself there;
+//! - `ReaderPass::read`, of `board_pair` below, shows a table that belongs to the first reports of
+//!   a log which begins with all that the pass had seen, never older than its floor;
+//! - `Board::finish` ends the log and gives the whole of it, as an ack too, each reporter's list in
+//!   it, and its table; no view has more, whenever it is made.
 //!
-//! A board is opened by `Opened::new` and `Opened::named`, under two names: `Profile`, the plan, and `Bases`, the log.
-//! `read` and `learn` of a reader take no lock and don't wait. `report` waits for the log lock, which nobody holds while a table is made.
-//! Not promised: that a reader sees what nobody told it, waiting, fairness, and that memory is there.
+//! A board is opened by `Opened::new` and `Opened::named`, under two names: `Profile`, the plan,
+//! and `Bases`, the log. `read` and `learn` of a reader take no lock and don't wait. `report` waits
+//! for the log lock, which nobody holds while a table is made. Not promised: that a reader sees
+//! what nobody told it, waiting, fairness, and that memory is there.
 //!
-//! Some bodies meet every clause and are wrong. Tests refuse them:
-//! - a `read` that enters no published copy and shows what the last `learn` brought: `a_told_reader_and_an_untold_one_see_the_report`, by its second reader;
-//! - a `read` that stops entering one after some reads, and a `round` that posts nothing: `an_untold_reader_sees_the_table_of_each_round`;
-//! - a call that always answers want of memory: the same test, which makes each of them;
+//! Some bodies meet every clause and are wrong. Each was tried by hand, and a test refuses it:
+//! - a `read` that enters no published copy and shows what the last `learn` brought:
+//!   `a_told_reader_and_an_untold_one_see_the_report`, by its second reader;
+//! - a `read` that stops entering one after three reads, a `round` that posts nothing and answers
+//!   what is posted, and news laid from the log's beginning again, which no copy can follow:
+//!   `an_untold_reader_sees_the_table_of_each_round`;
+//! - a `settle` that posts nothing, and any call that always answers want of memory: the test of
+//!   the told reader, which makes each call;
 //! - a solve under the log lock: `a_report_is_answered_while_a_table_is_made`, whose turns run out.
 //!
-//! One lock round everything, which `read` takes too, cannot be written: a lock is taken by a handle, and `read` is given none.
+//! One lock round everything, which `read` takes too, cannot be written: a lock is taken by a
+//! handle, and `read` is given none.
 #![tactic(auto)]
 
 mod allocator;

@@ -19,7 +19,8 @@ use std::alloc::Global;
 use std::marker::{Model, PhantomData};
 use std::sync::Wait;
 
-/// The bases of a board that has no name yet, with its maker. Contracts see which bases they are, and for how many readers.
+/// The bases of a board that has no name yet, with its maker. Contracts see which bases they are,
+/// and for how many readers.
 #[derive(Drop)]
 pub struct Opened<M: Maker, N: Profile<M::Table>> {
     maker: M,
@@ -36,13 +37,22 @@ impl<M: Maker, N: Profile<M::Table>> Model for Opened<M, N> {
 
     ghost Value = { Opening };
 
-    ghost view = { λ opened. record { book = opened.log.seen.book; table = opened.roll.table.shared.table_id; readers = opened.readers } };
+    ghost view = { λ opened. record {
+      book = opened.log.seen.book;
+      table =
+          opened.roll.table.shared.table_id;
+      readers = opened.readers;
+    } };
 
-    ghost invariant = { λ opened. IsOpening (M.absorbed opened.maker []) (M.table_of (M.plan opened.maker)) (M.plan_tasks (M.plan opened.maker)) (M.plan_links (M.plan opened.maker)) N.belongs N.reporters N.tasks N.links opened.reporters opened.readers };
+    ghost invariant = { λ opened. IsOpening (M.absorbed opened.maker [])
+        (M.table_of (M.plan opened.maker)) (M.plan_tasks (M.plan opened.maker))
+        (M.plan_links (M.plan opened.maker)) N.belongs N.reporters N.tasks N.links opened.reporters
+        opened.readers };
 }
 
 impl<M: Maker, N: Profile<M::Table>> Opened<M, N> {
-    /// Makes the bases. The first name `N` has to be that of the maker's plan and of so many reporters.
+    /// Makes the bases. The first name `N` has to be that of the maker's plan and of so many
+    /// reporters.
     ///
     /// It doesn't wait.
     pub fn new<R: Wait>(
@@ -81,7 +91,8 @@ type Passes<M, N, B> = (
 );
 
 impl<M: Maker, N: Profile<M::Table>> Opened<M, N> {
-    /// The board under the names of its bases, with a pass for each reporter's number in their order, the readers' passes and the allocator's.
+    /// The board under the names of its bases, with a pass for each reporter's number in their
+    /// order, the readers' passes and the allocator's.
     ///
     /// It may wait only where it is refused.
     pub fn named<B: Bases, R: Wait>(
@@ -94,7 +105,8 @@ impl<M: Maker, N: Profile<M::Table>> Opened<M, N> {
         ensures reporters { IfOk result (λ opened. length opened.1.items ≡ N.reporters) }
         ensures fresh { IfOk result (λ opened. AreFresh opened.1.items) }
         ensures readers { IfOk result (λ opened. length opened.2.items ≡ self.readers) }
-        ensures new { IfOk result (λ opened. All (IsNewReader M.Table.covers N.belongs) opened.2.items) }
+        ensures new { IfOk result (λ opened. All (IsNewReader M.Table.covers N.belongs)
+            opened.2.items) }
         ensures allocator { IfOk result (λ opened. opened.3 ≡ record { posted = []; rounds = 0 }) }
     {
         let Opened {

@@ -2,7 +2,6 @@
 ghost use Rattle.std.specs.Prelude.{◌≡◌, ◌++◌, ◌+◌, ◌≤◌, [], length, OnOk};
 ghost use Rattle.std.specs.List.{All};
 ghost use mathlib.Core.List.{IsPrefix};
-ghost use Rattle.bwe_specs.specs.declared.limits.TheConstants.{MAX_REPORTS};
 ghost use Rattle.board_log.specs.Roll.{IsBy, placed, own_of};
 ghost use Rattle.board_log.specs.Laws.{StandIn};
 
@@ -26,7 +25,12 @@ impl<B: Bases> Model for ReporterPass<B> {
 
     ghost Value = { Reporting };
 
-    ghost view = { λ pass. record { number = pass.number; own = own_in pass.member; seen = pass.known } };
+    ghost view = { λ pass. record {
+      number = pass.number;
+      own = own_in pass.member;
+      seen =
+          pass.known;
+    } };
 
     ghost invariant = { λ pass. IsReporting pass.number pass.sent pass.known pass.member };
 }
@@ -80,12 +84,13 @@ impl<B: Bases> ReporterPass<B> {
     pub(crate) fn send(&mut self, roll: &mut Roll<B>, piece: &Vec<Report>, whole: Beginning<B>)
         requires by { All (IsBy self.old.number) piece.now.items }
         requires whole { whole ≡ roll.old.log ++ piece.now.items }
-        requires room { length whole ≤ MAX_REPORTS }
+        requires room { length whole ≤ 200_000 }
         ensures log { roll.new.log ≡ whole }
         ensures members { roll.new.members ≡ roll.old.members }
         ensures number { self.new.number ≡ self.old.number }
         ensures seen { self.new.seen ≡ whole }
-        ensures own { self.new.own ≡ self.old.own ++ placed self.old.number (length roll.old.log) piece.now.items }
+        ensures own { self.new.own ≡ self.old.own ++ placed self.old.number (length roll.old.log)
+            piece.now.items }
         ensures exact { self.new.own ≡ own_of self.old.number whole }
     {
         let Some(member) = self.member.take() else {

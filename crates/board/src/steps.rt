@@ -4,7 +4,6 @@ ghost use Rattle.std.specs.List.{All, sum_by};
 ghost use Rattle.std.specs.Bool.{OnTrue};
 ghost use mathlib.Core.List.{IsPrefix};
 ghost use Rattle.bwe_specs.specs.declared.report.Report.{Report};
-ghost use Rattle.bwe_specs.specs.declared.limits.TheConstants.{MAX_REPORTS};
 ghost use Rattle.board_log.specs.Roll.{IsBy, placed, own_of};
 ghost use Rattle.demand_book.specs.Fit.{IsFit};
 ghost use Rattle.board_core.specs.Core.{IsAllowed};
@@ -27,9 +26,11 @@ use std::sync::Wait;
 
 type Desk<T, N, B> = Poster<Pair<T, N, B>, News<T, N, B>>;
 
-/// The log, what adds to it, and what posts its tables. Contracts see the log, the posted number and the pending number.
+/// The log, what adds to it, and what posts its tables. Contracts see the log, the posted number
+/// and the pending number.
 ///
-/// The pending number is how many reports the table covers that a refused publish left waiting, and the posted number where none waits.
+/// The pending number is how many reports the table covers that a refused publish left waiting, and
+/// the posted number where none waits.
 pub struct LogState<M: Maker, N: Profile<M::Table>, B: Bases> {
     log: Vec<Report>,
     whole: WholeLog<B>,
@@ -45,12 +46,19 @@ impl<M: Maker, N: Profile<M::Table>, B: Bases> Model for LogState<M, N, B> {
 
     ghost Value = { Standing };
 
-    ghost view = { λ state. record { log = state.log.items; posted = M.Table.covers state.poster.shown.table; pending = state.pending } };
+    ghost view = { λ state. record {
+      log = state.log.items;
+      posted = M.Table.covers
+          state.poster.shown.table;
+      pending = state.pending;
+    } };
 
-    ghost invariant = { λ state. IsStanding M.Table.covers N.reporters N.tasks N.links state.log.items state.whole state.roll state.poster state.pending state.laid };
+    ghost invariant = { λ state. IsStanding M.Table.covers N.reporters N.tasks N.links
+        state.log.items state.whole state.roll state.poster state.pending state.laid };
 }
 
-/// Makes the table the posted one, unless a later one is posted or waits. It may wait for readers to leave a published copy.
+/// Makes the table the posted one, unless a later one is posted or waits. It may wait for readers
+/// to leave a published copy.
 ///
 /// A table that a refused publish left waiting is published first, as a post of its own.
 pub fn post<M: Maker, N: Profile<M::Table>, B: Bases, R: Wait>(
@@ -66,13 +74,16 @@ pub fn post<M: Maker, N: Profile<M::Table>, B: Bases, R: Wait>(
     ensures posted { IfOk result (λ prefix. state.new.posted ≡ prefix) }
     ensures none_waits { IfOk result (λ prefix. state.new.pending ≡ prefix) }
     // By Core run these are two posts: of the table that waits, and of this one.
-    ensures run { IfOk result (λ prefix. ArePostSteps state.old (M.Table.covers table) prefix state.new) }
-    ensures refused { OnErr result (IsRaised state.old.posted state.new.posted (max state.old.pending (M.Table.covers table))) }
-    ensures waits { OnErr result (IsRaised state.old.pending state.new.pending (max state.old.pending (M.Table.covers table))) }
+    ensures run { IfOk result (λ prefix. ArePostSteps state.old (M.Table.covers table) prefix
+        state.new) }
+    ensures refused { OnErr result (IsRaised state.old.posted state.new.posted
+        (max state.old.pending (M.Table.covers table))) }
+    ensures waits { OnErr result (IsRaised state.old.pending state.new.pending
+        (max state.old.pending (M.Table.covers table))) }
 {
     state.publish(rt)?;
-    if table.prefix() > state.pending {
-        state.lay(alloc, table)?;
+    state.lay(alloc, table)?;
+    if state.posted() < state.pending {
         state.publish(rt)?;
     }
     Ok(state.pending)
@@ -116,7 +127,7 @@ impl<M: Maker, N: Profile<M::Table>, B: Bases> LogState<M, N, B> {
         requires allowed { All (IsAllowed N.reporters (IsFit N.tasks N.links)) reports.now }
         ensures first { IfOk result (λ first. first ≡ length self.old.log) }
         ensures log { OnOk result (self.new.log ≡ self.old.log ++ reports.now) }
-        ensures room { OnOk result (length self.new.log ≤ MAX_REPORTS) }
+        ensures room { OnOk result (length self.new.log ≤ 200_000) }
         ensures unchanged { OnErr result (self.new.log ≡ self.old.log) }
         ensures posted { self.new.posted ≡ self.old.posted }
         ensures pending { self.new.pending ≡ self.old.pending }
@@ -127,7 +138,8 @@ impl<M: Maker, N: Profile<M::Table>, B: Bases> LogState<M, N, B> {
         ensures seen { IsPrefix pass.old.seen pass.new.seen }
         ensures whole { OnOk result (pass.new.seen ≡ self.new.log) }
         ensures placed { IfOk result (λ first. drop first pass.new.seen ≡ reports.now) }
-        ensures own { IfOk result (λ first. pass.new.own ≡ pass.old.own ++ placed pass.old.number first reports.now) }
+        ensures own { IfOk result (λ first. pass.new.own ≡ pass.old.own ++ placed pass.old.number
+            first reports.now) }
         ensures exact { OnOk result (pass.new.own ≡ own_of pass.old.number self.new.log) }
         ensures kept { OnErr result (pass.new.own ≡ pass.old.own) }
         ensures refused { IfErr result (IsRefusalAt pass.new.seen (length reports.now)) }
@@ -217,10 +229,13 @@ impl<M: Maker, N: Profile<M::Table>, B: Bases> LogState<M, N, B> {
         ensures raised { self.old.posted ≤ self.new.posted }
         ensures whole { IfOk result (λ ended. ended.ack ≡ self.old.log) }
         ensures history { IfOk result (λ ended. ended.history.items ≡ self.old.log) }
-        ensures seen { IfOk result (λ ended. All (λ pass. IsPrefix pass.seen ended.ack) passes.items) }
+        ensures seen { IfOk result (λ ended. All (λ pass. IsPrefix pass.seen ended.ack)
+            passes.items) }
         ensures length { IfOk result (λ ended. ended.length ≡ length self.old.log) }
-        ensures sent { IfOk result (λ ended. ended.length ≡ sum_by (λ pass. length pass.own) passes.items) }
-        ensures exact { OnOk result (All (λ pass. pass.own ≡ own_of pass.number self.old.log) passes.items) }
+        ensures sent { IfOk result (λ ended. ended.length ≡ sum_by (λ pass. length pass.own)
+            passes.items) }
+        ensures exact { OnOk result (All (λ pass. pass.own ≡ own_of pass.number self.old.log)
+            passes.items) }
         ensures allowed { All (IsAllowed N.reporters (IsFit N.tasks N.links)) self.old.log }
         ensures covers { IfOk result (λ ended. M.Table.covers ended.table ≡ ended.length) }
         ensures table { IfOk result (λ ended. N.belongs self.old.log ended.table) }
@@ -279,20 +294,24 @@ impl<M: Maker, N: Profile<M::Table>, B: Bases> LogState<M, N, B> {
         self.poster.publish(rt)
     }
 
-    // Lays a table beside the log as it stands, to be published next. Only what was not laid before is copied.
+    // Lays a table beside the log as it stands, to be published next, unless a later one is posted
+    // or waits. Only what was not laid before is copied.
     fn lay(&mut self, alloc: Global, table: M::Table) -> Result<(), OutOfMemory>
-        requires later { self.old.pending ≤ M.Table.covers table }
         requires covers { M.Table.covers table ≤ length self.old.log }
         requires belongs { N.belongs (take (M.Table.covers table) self.old.log) table }
         ensures log { self.new.log ≡ self.old.log }
         ensures posted { self.new.posted ≡ self.old.posted }
-        ensures ok { OnOk result (self.new.pending ≡ M.Table.covers table) }
+        ensures ok { OnOk result (self.new.pending ≡ max self.old.pending (M.Table.covers table)) }
         ensures refused { OnErr result (self.new.pending ≡ self.old.pending) }
+        ensures below { self.new.posted ≤ self.new.pending }
     {
+        let pending = table.prefix();
+        if pending <= self.pending {
+            return Ok(());
+        }
         let from = self.laid;
         let len = self.log.len() as u64;
         let more = Vec::from_slice(alloc, &self.log[from as usize..])?;
-        let pending = table.prefix();
         let news = News::new(alloc, from, more, table, self.whole.first(len));
         if self.poster.append(news).is_err() {
             return Err(OutOfMemory);
@@ -360,7 +379,7 @@ fn grow<B: Bases>(
     piece: &Vec<Report>,
 ) -> Result<(), OutOfMemory>
     requires whole { whole.old ≡ log.old.items }
-    requires room { length log.old.items ≤ MAX_REPORTS }
+    requires room { length log.old.items ≤ 200_000 }
     ensures whole { whole.new ≡ log.new.items }
     ensures ok { OnOk result (log.new.items ≡ log.old.items ++ piece.now.items) }
     ensures refused { OnErr result (log.new.items ≡ log.old.items) }

@@ -1,10 +1,10 @@
-//! How a table is made while the log lock is free. The maker stands in a lock of its own, which is taken before the log lock and never inside it.
+//! How a table is made while the log lock is free. The maker stands in a lock of its own, which is
+//! taken before the log lock and never inside it.
 ghost use Rattle.std.specs.Prelude.{◌≡◌, ◌≤◌, ◌+◌, ◌++◌, [], List, length, IfOk, OnOk, OnErr};
 ghost use Rattle.std.specs.List.{All};
 ghost use Rattle.std.specs.Bool.{OnTrue};
 ghost use mathlib.Core.List.{IsPrefix};
 ghost use Rattle.bwe_specs.specs.declared.report.Report.{Report};
-ghost use Rattle.bwe_specs.specs.declared.limits.TheConstants.{MAX_REPORTS};
 ghost use Rattle.demand_book.specs.Fit.{IsFit};
 ghost use Rattle.board_core.specs.Core.{IsAllowed};
 ghost use Rattle.board_pair.specs.Plan.{NamesTables};
@@ -19,7 +19,8 @@ use std::collections::VecDeque;
 use std::marker::{Model, PhantomData};
 use std::sync::{Mutex, Wait};
 
-/// What the maker's lock holds: the maker, and the reports that it has not absorbed yet of the log that was seen here. Contracts see that log.
+/// What the maker's lock holds: the maker, and the reports that it has not absorbed yet of the log
+/// that was seen here. Contracts see that log.
 ///
 /// Of what was absorbed it keeps no copy.
 #[derive(Drop)]
@@ -39,7 +40,9 @@ impl<M: Maker, N: Profile<M::Table>, B: Bases> Model for Workshop<M, N, B> {
 
     ghost view = { λ shop. shop.known };
 
-    ghost invariant = { λ shop. IsShop (M.absorbed shop.maker) (M.table_of (M.plan shop.maker)) (M.plan_tasks (M.plan shop.maker)) (M.plan_links (M.plan shop.maker)) N.belongs N.reporters N.tasks N.links shop.waiting.items shop.known };
+    ghost invariant = { λ shop. IsShop (M.absorbed shop.maker) (M.table_of (M.plan shop.maker))
+        (M.plan_tasks (M.plan shop.maker)) (M.plan_links (M.plan shop.maker)) N.belongs N.reporters
+        N.tasks N.links shop.waiting.items shop.known };
 }
 
 impl<M: Maker, N: Profile<M::Table>, B: Bases> Workshop<M, N, B> {
@@ -63,7 +66,7 @@ impl<M: Maker, N: Profile<M::Table>, B: Bases> Workshop<M, N, B> {
     // Sees the log as it stands. Only what is new in it is copied.
     pub(crate) fn look(&mut self, whole: Beginning<B>, log: &[Report]) -> Result<(), OutOfMemory>
         requires whole { whole ≡ log.now }
-        requires room { length log.now ≤ MAX_REPORTS }
+        requires room { length log.now ≤ 200_000 }
         requires allowed { All (IsAllowed N.reporters (IsFit N.tasks N.links)) log.now }
         ensures ok { OnOk result (self.new ≡ log.now) }
         ensures refused { OnErr result (self.new ≡ self.old) }
@@ -120,10 +123,13 @@ fn absorb_all<M: Maker>(
     maker: &mut M,
     waiting: &mut VecDeque<Report>,
 ) -> Result<(), OutOfMemory>
-    requires absorbed { (taken : List Report) × M.absorbed maker.old taken × (length taken + length waiting.old.items ≤ MAX_REPORTS) }
-    requires fit { All (IsFit (M.plan_tasks (M.plan maker.old)) (M.plan_links (M.plan maker.old))) waiting.old.items }
+    requires absorbed { (taken : List Report) × M.absorbed maker.old taken
+        × (length taken + length waiting.old.items ≤ 200_000) }
+    requires fit { All (IsFit (M.plan_tasks (M.plan maker.old)) (M.plan_links (M.plan maker.old)))
+        waiting.old.items }
     ensures plan { M.plan maker.new ≡ M.plan maker.old }
-    ensures absorbed { (taken : List Report) → M.absorbed maker.old taken → (more : List Report) × (waiting.old.items ≡ more ++ waiting.new.items) × M.absorbed maker.new (taken ++ more) }
+    ensures absorbed { (taken : List Report) → M.absorbed maker.old taken → (more : List Report)
+        × (waiting.old.items ≡ more ++ waiting.new.items) × M.absorbed maker.new (taken ++ more) }
     ensures all { OnOk result (waiting.new.items ≡ []) }
 {
     while let Some(report) = waiting.front().copied() {
@@ -133,7 +139,8 @@ fn absorb_all<M: Maker>(
     Ok(())
 }
 
-/// Sees the log, makes the table of it while the log lock is free, and posts it. The ack of what is then posted holds what is known.
+/// Sees the log, makes the table of it while the log lock is free, and posts it. The ack of what is
+/// then posted holds what is known.
 pub(crate) fn solve_and_post<M: Maker, N: Profile<M::Table>, B: Bases, R: Wait>(
     rt: &R,
     alloc: Global,

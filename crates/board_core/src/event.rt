@@ -9,8 +9,8 @@ use std::alloc::AllocError;
 pub enum CoreEvent {
     /// A reporter adds a piece to the log. The piece enters whole, or not at all.
     Report { reporter: u32, reports: Piece },
-    /// The table of the first `upto` reports is made and posted: of more where the maker has taken in more,
-    /// and of all where there are fewer.
+    /// The table of the first `upto` reports is made and posted: of more where the maker has taken
+    /// in more, and of all where there are fewer.
     Post { upto: u64 },
     /// A reader is told that a table of so many reports was posted.
     Tell { reader: u32, prefix: u64 },
@@ -34,7 +34,8 @@ pub enum CoreAnswer {
 /// Why an event was refused. `Full` is looked at first.
 #[derive(Clone, Copy, Debug, PartialEq, Eq)]
 pub enum CoreError {
-    /// With the piece the log would have more reports than a log may have. It carries how many are held.
+    /// With the piece the log would have more reports than a log may have. It carries how many are
+    /// held.
     Full { held: u64 },
     OutOfMemory,
 }

@@ -73,14 +73,15 @@ impl<M: Maker> CoreState<M> {
 
     /// One event of Core run. Only a report and a post take memory.
     ///
-    /// After a post that was refused for want of memory the maker may have taken in more than the posted table covers,
-    /// which a later post then covers too.
+    /// After a post that was refused for want of memory the maker may have taken in more than the
+    /// posted table covers, which a later post then covers too.
     pub fn step(&mut self, alloc: Global, event: CoreEvent) -> Result<CoreAnswer, CoreError>
         requires meant { IsMeant self.old.reporters (length self.old.state.floors)
             (IsFit (M.plan_tasks (M.plan self.old.maker)) (M.plan_links (M.plan self.old.maker))) event }
         ensures run { Steps
             (λ reports. M.Table.total_of (M.table_of (M.plan self.old.maker) reports)) self.old.state event result self.new.state }
-        ensures full { (result ≡ Err (CoreError.Full (length self.old.state.log))) ↔ IsOverfull self.old.state event }
+        ensures full { (result ≡ Err (CoreError.Full (length self.old.state.log))) ↔ IsOverfull
+            self.old.state event }
         ensures plan { M.plan self.new.maker ≡ M.plan self.old.maker }
         ensures reporters { self.new.reporters ≡ self.old.reporters }
         ensures readers { length self.new.state.floors ≡ length self.old.state.floors }
@@ -98,7 +99,8 @@ impl<M: Maker> CoreState<M> {
         requires reporter { reporter < self.old.reporters }
         requires fit { All (λ report. (report.reporter ≡ reporter) × IsFit
             (M.plan_tasks (M.plan self.old.maker)) (M.plan_links (M.plan self.old.maker)) report) piece.now }
-        ensures run { Steps (λ reports. M.Table.total_of (M.table_of (M.plan self.old.maker) reports))
+        ensures run { Steps (λ reports. M.Table.total_of
+            (M.table_of (M.plan self.old.maker) reports))
             self.old.state (CoreEvent.Report reporter piece.now) result self.new.state }
         ensures full { (result ≡ Err (CoreError.Full (length self.old.state.log)))
             ↔ IsOverfull self.old.state (CoreEvent.Report reporter piece.now) }
@@ -115,9 +117,11 @@ impl<M: Maker> CoreState<M> {
         Ok(CoreAnswer::Placed { first: held })
     }
 
-    // Makes and posts the table of the first reports, as many as asked for, or as the maker has taken in.
+    // Makes and posts the table of the first reports, as many as asked for, or as the maker has
+    // taken in.
     fn post(&mut self, alloc: Global, upto: u64) -> Result<CoreAnswer, CoreError>
-        ensures run { Steps (λ reports. M.Table.total_of (M.table_of (M.plan self.old.maker) reports))
+        ensures run { Steps (λ reports. M.Table.total_of
+            (M.table_of (M.plan self.old.maker) reports))
             self.old.state (CoreEvent.Post upto) result self.new.state }
         ensures plan { M.plan self.new.maker ≡ M.plan self.old.maker }
         ensures floors { self.new.state.floors ≡ self.old.state.floors }
@@ -139,7 +143,8 @@ impl<M: Maker> CoreState<M> {
     fn tell(&mut self, reader: u32, prefix: u64) -> CoreAnswer
         requires reader { reader < length self.old.state.floors }
         ensures answer { result ≡ CoreAnswer.Told (told_floor self.old.state reader prefix) }
-        ensures core { self.new ≡ with_floor self.old reader (told_floor self.old.state reader prefix) }
+        ensures core { self.new ≡ with_floor self.old reader
+            (told_floor self.old.state reader prefix) }
     {
         let floor = self.floors[reader as usize].max(prefix.min(self.table.prefix()));
         self.floors[reader as usize] = floor;
@@ -185,7 +190,8 @@ impl<M: Maker> CoreState<M> {
         self.table.prefix()
     }
 
-    /// How many reports the maker has taken in: as many as are posted, but for a post that was refused.
+    /// How many reports the maker has taken in: as many as are posted, but for a post that was
+    /// refused.
     pub fn taken(&self) -> u64
         ensures taken { result ≡ self.now.state.taken }
         ensures within { result ≤ length self.now.state.log }
@@ -213,8 +219,9 @@ fn absorb_upto<M: Maker>(
 ) -> Result<(), OutOfMemory>
     requires upto { (taken.old ≤ upto) × (upto ≤ length log.now) }
     requires absorbed { M.absorbed maker.old (take taken.old log.now) }
-    requires room { length log.now ≤ MAX_REPORTS }
-    requires fit { All (IsFit (M.plan_tasks (M.plan maker.old)) (M.plan_links (M.plan maker.old))) log.now }
+    requires room { length log.now ≤ 200_000 }
+    requires fit { All (IsFit (M.plan_tasks (M.plan maker.old)) (M.plan_links (M.plan maker.old)))
+        log.now }
     ensures plan { M.plan maker.new ≡ M.plan maker.old }
     ensures absorbed { M.absorbed maker.new (take taken.new log.now) }
     ensures taken { (taken.old ≤ taken.new) × (taken.new ≤ upto) }

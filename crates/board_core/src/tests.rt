@@ -34,15 +34,18 @@ fn answer<M: Maker>(
     event: CoreEvent,
 ) -> Result<CoreAnswer, CoreError>
     requires sizes { (core.old.reporters ≡ 1) × (length core.old.state.floors ≡ 1) }
-    requires plan { (M.plan_tasks (M.plan core.old.maker) ≡ 2) × (M.plan_links (M.plan core.old.maker) ≡ 1) }
+    requires plan { (M.plan_tasks (M.plan core.old.maker) ≡ 2)
+        × (M.plan_links (M.plan core.old.maker) ≡ 1) }
     requires event { IsMeant 1 1 (IsFit 2 1) event }
     ensures sizes { (core.new.reporters ≡ 1) × (length core.new.state.floors ≡ 1) }
-    ensures plan { (M.plan_tasks (M.plan core.new.maker) ≡ 2) × (M.plan_links (M.plan core.new.maker) ≡ 1) }
+    ensures plan { (M.plan_tasks (M.plan core.new.maker) ≡ 2)
+        × (M.plan_links (M.plan core.new.maker) ≡ 1) }
 {
     core.step(alloc, event)
 }
 
-// The case "Core walk", with a small maker in place of the allocator: nothing here depends on which one it is.
+// The case "Core walk", with a small maker in place of the allocator: nothing here depends on which
+// one it is.
 #[test]
 fn a_walk_of_the_core_with_a_small_maker(rt: HostRuntime) -> Result<(), Fail> {
     let alloc = rt.alloc();

@@ -13,7 +13,8 @@ use std::marker::{Model, PhantomData};
 // Reports that came in together. No value of it is made.
 type Piece = LinkedList<Report>;
 
-// The rule of the history: its word counts the pieces, and an empty one is the last: it marks the end.
+// The rule of the history: its word counts the pieces, and an empty one is the last: it marks the
+// end.
 struct PieceCount;
 
 impl Rule<Piece, u64> for PieceCount {
@@ -124,7 +125,8 @@ impl<B: Bases> Model for WholeLog<B> {
 
     ghost view = { λ whole. log_of whole.seen.log };
 
-    ghost invariant = { λ whole. IsCounted B.book whole.word whole.pieces whole.has_ended whole.seen.book whole.seen.log };
+    ghost invariant = { λ whole. IsCounted B.book whole.word whole.pieces whole.has_ended
+        whole.seen.book whole.seen.log };
 }
 
 /// The first reports of a log that was reached. Contracts see it as those reports.
@@ -146,10 +148,12 @@ impl<B: Bases> Model for Beginning<B> {
 
     ghost view = { λ beginning. take beginning.len (log_of beginning.seen.log) };
 
-    ghost invariant = { λ beginning. IsReached B.book beginning.len beginning.seen.book beginning.seen.log };
+    ghost invariant = { λ beginning. IsReached B.book beginning.len beginning.seen.book
+        beginning.seen.log };
 }
 
-/// A log that was reached, for who did not know that it goes on. Contracts see it as its pieces, of which an empty one marks the end.
+/// A log that was reached, for who did not know that it goes on. Contracts see it as its pieces, of
+/// which an empty one marks the end.
 #[derive(Drop)]
 pub struct LongerLog<B: Bases> {
     seen: Seen<Piece, u64, PieceCount>,
@@ -189,8 +193,9 @@ impl<B: Bases> Model for EndedLog<B> {
 impl<B: Bases> WholeLog<B> {
     /// Adds a piece at the end.
     ///
-    /// It does not where the log goes on behind what is known here, or has ended, and then it gives that log, which nobody can make up.
-    /// There is one `WholeLog` of a log, so before its `end` that never happens in a run, but no clause can say so.
+    /// It does not where the log goes on behind what is known here, or has ended, and then it gives
+    /// that log, which nobody can make up. There is one `WholeLog` of a log, so before its `end`
+    /// that never happens in a run, but no clause can say so.
     #[tactic(auto, using(crate::proofs::Adding::few_pieces))]
     pub fn append(&mut self, piece: &Vec<Report>) -> Result<(), LongerLog<B>>
         requires some { 0 < length piece.now.items }
@@ -233,9 +238,11 @@ impl<B: Bases> WholeLog<B> {
         Ok(())
     }
 
-    /// Ends the log: from then on `append` is refused, and whatever was seen of the log is a beginning of what this gives.
+    /// Ends the log: from then on `append` is refused, and whatever was seen of the log is a
+    /// beginning of what this gives.
     ///
-    /// It can be called again. It is refused where the log goes on behind what is known here, as `append` is.
+    /// It can be called again. It is refused where the log goes on behind what is known here, as
+    /// `append` is.
     #[tactic(auto, using(crate::proofs::Adding::few_pieces))]
     pub fn end(&mut self) -> Result<EndedLog<B>, LongerLog<B>>
         requires room { length self.old < 2 ^ 62 }
@@ -243,38 +250,40 @@ impl<B: Bases> WholeLog<B> {
         ensures ended { IfOk result (λ ended. ended ≡ self.old) }
         ensures longer { IfErr result (GoOn (length self.old)) }
     {
-        let mut seen = self.seen.again();
+        let mut reached = self.seen.again();
         if self.has_ended {
             return Ok(EndedLog {
-                seen,
+                seen: reached,
                 of: PhantomData,
             });
         }
-        let mut offer: Offer<Piece, u64, PieceCount, Nothing> = seen.plain::<Nothing, (), MarkEnd>(
-            &(),
-        );
-        let mut pen = seen.no_pen();
+        let mut offer: Offer<Piece, u64, PieceCount, Nothing> = reached.plain::<
+            Nothing,
+            (),
+            MarkEnd,
+        >(&());
+        let mut pen = reached.no_pen();
         let pieces = self.pieces;
         let found = self
             .word
             .compare_exchange::<AddPiece, Nothing>(
                 pieces,
                 pieces + 1,
-                &mut seen,
+                &mut reached,
                 &mut offer,
                 &mut pen,
             );
         if found != pieces {
             return Err(LongerLog {
-                seen,
+                seen: reached,
                 of: PhantomData,
             });
         }
-        self.seen = seen.again();
+        self.seen = reached.again();
         self.pieces += 1;
         self.has_ended = true;
         Ok(EndedLog {
-            seen,
+            seen: reached,
             of: PhantomData,
         })
     }

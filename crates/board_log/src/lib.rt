@@ -1,12 +1,13 @@
 //! The log of reports as a history: it only grows, and each log that was seen is a beginning of it.
 //!
-//! `board` keeps a `WholeLog` and a `Roll` under its log lock, and gives each pass a `Beginning`, each reporter's pass a `Member` too.
-//! It rests on four contracts. Of two beginnings one begins the other, and `begins` says which.
-//! Once `WholeLog::end` has ended the log, `EndedLog::holds` shows that whatever was seen of it is a beginning of that.
-//! `Roll::append` leaves a member with all reports of its number in the log, and `check` shows it.
-//! No call waits, and only `OpenedRoll::new` takes memory. A call costs by the piece and never by the log.
-//! The history exists in the proofs alone: what threads share of it are tokens of no bytes, and the roll is one word.
-//! Nothing is promised of the reports themselves: this crate knows no tables and no makers.
+//! `board` keeps a `WholeLog` and a `Roll` under its log lock, and gives each pass a `Beginning`,
+//! each reporter's pass a `Member` too. It rests on four contracts. Of two beginnings one begins
+//! the other, and `begins` says which. Once `WholeLog::end` has ended the log, `EndedLog::holds`
+//! shows that whatever was seen of it is a beginning of that. `Roll::append` leaves a member with
+//! all reports of its number in the log, and `check` shows it. No call waits, and only
+//! `OpenedRoll::new` takes memory. A call costs by the piece and never by the log. The history
+//! exists in the proofs alone: what threads share of it are tokens of no bytes, and the roll is one
+//! word. Nothing is promised of the reports themselves: this crate knows no tables and no makers.
 #![tactic(auto)]
 
 ghost use Rattle.board_log.specs.Laws.{OwnListsAreTheReports, OwnListsGrowByPieces, OwnListsStandInTheLog, OwnListsAddUp, PlacedPiecesAreThePieces};

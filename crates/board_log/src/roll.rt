@@ -1,4 +1,5 @@
-//! The roll of reporters: a word that counts the log, one seat that knows the log, and for each reporter's number one seat that knows its own list.
+//! The roll of reporters: a word that counts the log, one seat that knows the log, and for each
+//! reporter's number one seat that knows its own list.
 ghost use Rattle.std.specs.Prelude.{◌≡◌, ℕ, ◌+◌, ◌<◌, ◌++◌, ◌^◌, [], length, IfOk};
 ghost use Rattle.std.specs.List.{All};
 ghost use Rattle.board_log.specs.Roll.{knower, IsBy, own_of, placed};
@@ -98,7 +99,8 @@ type Place = Seat<Vec<Report>, Knows>;
 pub struct OpenedRoll {
     table: Words,
     keeper: Place,
-    pub ghost seated: { (keeper.table_id ≡ table.shared.table_id) × (table.shared.table_id.words ≡ 1) },
+    pub ghost seated: { (keeper.table_id ≡ table.shared.table_id)
+        × (table.shared.table_id.words ≡ 1) },
     pub ghost knows: { keeper.me ≡ (knower [] 0, []) },
 }
 
@@ -116,9 +118,14 @@ impl<B: Bases> Model for Roll<B> {
 
     ghost Value = { Rolled };
 
-    ghost view = { λ roll. record { log = roll.keeper.me.0.log; members = roll.keeper.me.0.seats } };
+    ghost view = { λ roll. record {
+      log = roll.keeper.me.0.log;
+      members =
+          roll.keeper.me.0.seats;
+    } };
 
-    ghost invariant = { λ roll. IsKeeper B.table roll.table.shared.table_id roll.keeper.table_id roll.keeper.me roll.len };
+    ghost invariant = { λ roll. IsKeeper B.table roll.table.shared.table_id roll.keeper.table_id
+        roll.keeper.me roll.len };
 }
 
 /// A reporter's seat in the roll. Contracts see it as its number and its own list.
@@ -133,7 +140,11 @@ impl<B: Bases> Model for Member<B> {
 
     ghost Value = { Membership };
 
-    ghost view = { λ member. record { number = member.seat.me.0.number; own = member.seat.me.0.own } };
+    ghost view = { λ member. record {
+      number = member.seat.me.0.number;
+      own =
+          member.seat.me.0.own;
+    } };
 
     ghost invariant = { λ member. IsMember B.table member.seat.table_id member.seat.me };
 }
@@ -183,7 +194,8 @@ impl<B: Bases> Roll<B> {
         ensures members { self.new.members ≡ self.old.members }
         ensures number { result.number ≡ member.number }
         // Its own list grows by the piece, and is then all of its number in the log.
-        ensures own { result.own ≡ member.own ++ placed member.number (length self.old.log) piece.now.items }
+        ensures own { result.own ≡ member.own ++ placed member.number (length self.old.log)
+            piece.now.items }
         ensures exact { result.own ≡ own_of member.number self.new.log }
     {
         let Member { seat, of } = member;

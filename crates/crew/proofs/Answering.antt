@@ -1,13 +1,15 @@
 -- What a call did with an item, said of the places of the lists.
 use Rattle.std.proofs.Common.{◌≡◌, ℕ, ◌+◌, List, Vec, Result, get_or, subst, arith}
-use Rattle.std.specs.Prelude.{IfOk}
+use Rattle.std.specs.Prelude.{IfOk, OnOk}
 use Rattle.std.specs.declared.alloc.Global.{Global}
 use Rattle.bwe_specs.specs.declared.memory.OutOfMemory.{OutOfMemory}
 use Rattle.bwe_specs.specs.declared.report.Report.{Report}
 use Rattle.board.specs.Reporting.{Reporting}
 use Rattle.board.specs.Reading.{Reading}
+use Rattle.board.specs.Allocating.{Allocating}
 use Rattle.board.specs.declared.refusal.ReportError.{ReportError}
 use Rattle.crew_log.specs.declared.log.ReadLine.{ReadLine}
+use Rattle.crew.specs.Allocators.{HasMade}
 use Rattle.crew.specs.Reporters.{HasReported}
 use Rattle.crew.specs.Readers.{HasLines}
 
@@ -23,3 +25,9 @@ pub lines_at : {T : Type 0} (covers : T → ℕ) (belongs : List Report → T �
     → left ≡ new → IfOk answer (λ read. HasLines covers belongs total_of reads read.items left) → IfOk answer (λ read. HasLines covers belongs total_of reads read.items new)
 lines_at {T} covers belongs total_of reads answer left new same has =
     subst (λ (p : Reading T). IfOk answer (λ read. HasLines covers belongs total_of reads read.items p)) same has
+
+pub made_at : (rounds : ℕ) (answer : Result (Unit {0}) OutOfMemory) (lent old left new : Allocating)
+    → lent ≡ old → left ≡ new → OnOk answer (HasMade rounds lent left) → OnOk answer (HasMade rounds old new)
+made_at rounds answer lent old left new before after has =
+    subst (λ (p : Allocating). OnOk answer (HasMade rounds p new)) before
+    (subst (λ (p : Allocating). OnOk answer (HasMade rounds lent p)) after has)

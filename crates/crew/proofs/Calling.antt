@@ -1,5 +1,6 @@
 -- Calls with the items of a list, from those with its halves.
-use Rattle.std.proofs.Common.{◌≡◌, refl, ℕ, zero, suc, ◌+◌, ◌<◌, ◌≤◌, List, [], ◌∷◌, ◌++◌, length, get_or, set, take, drop, subst, sym, ap, ◌∙◌, arith, length-append}
+use Rattle.std.proofs.Common.{◌≡◌, refl, ℕ, zero, suc, ◌+◌, ◌<◌, ◌≤◌, Result, Ok, Err, List, [], ◌∷◌, ◌++◌, length, get_or, set, take, drop, subst, sym, ap, ◌∙◌, arith, length-append}
+use Rattle.std.specs.Prelude.{IfOk}
 use denote.Param.Members.{Shared}
 use denote.Ref.{MutBor}
 use Rattle.crew.specs.Calls.{AcceptsEach, Calls, CallsEach}
@@ -46,3 +47,9 @@ module _ {F X A : Type 0} (g : Shared F (ℕ × (MutBor X × Unit {0})) (A × (M
     count = omega (arith, length-append xs xs', length-append ys ys', front.count, back.count);
     each = halves_each first next xs xs' bs bs' ys ys' at front.answered front.count front.each back.each;
   }
+
+-- a call whose answer is not a refusal
+pub calls_unrefused : {F X D E : Type 0} (g : Shared F (ℕ × (MutBor X × Unit {0})) (Result D E × (MutBor X × Unit {0}))) (f : F) (number : ℕ) (before : X) (answer : Result D E) (after : X)
+    → Calls g f number before answer after → IfOk answer (λ made. Calls g f number before (Ok made) after)
+calls_unrefused g f number before (Ok made) after calls = calls
+calls_unrefused g f number before (Err error) after calls = tt

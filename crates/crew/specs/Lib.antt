@@ -1,4 +1,5 @@
 pub mod Calls
 pub mod Starting
 pub mod Reporters
+pub mod Allocators
 pub mod Readers

@@ -1,13 +1,15 @@
 //! Calls with each item of a slice, each in a thread of its own.
-ghost use Rattle.std.specs.Prelude.{◌≡◌, ◌+◌, ◌^◌, ◌<◌, ◌≤◌, length, IfOk, ◌++◌};
+ghost use Rattle.std.specs.Prelude.{◌≡◌, ◌+◌, ◌^◌, ◌<◌, ◌≤◌, length, Ok, IfOk, ◌++◌};
 ghost use denote.Param.Send.{IsSend, IsSync};
 ghost use denote.Ref.{MutBor};
 ghost use Rattle.crew.specs.Calls.{AcceptsEach, Calls, CallsEach};
 
+use bwe_specs::OutOfMemory;
 use std::alloc::{AllocError, Global};
 use std::thread::{Threads, join_mut};
 
-/// Calls the function with each item and its number, counted from `first`, each in a thread of its own. The answers come in the order of the items.
+/// Calls the function with each item and its number, counted from `first`, each in a thread of its
+/// own. The answers come in the order of the items.
 ///
 /// It can't be refused a thread: where none can be made, a call is made after another.
 #[cycle(halves)]
@@ -19,7 +21,8 @@ pub(crate) fn map_each_mut<
 >(rt: &R, alloc: Global, call: &F, first: usize, items: &mut [X]) -> Result<Vec<A>, AllocError>
     requires room { first + length items.old < 2 ^ 64 }
     requires accepts { AcceptsEach F.Fn call.now first items.old }
-    ensures calls { IfOk result (λ answers. CallsEach F.Fn call.now first items.old answers.items items.new) }
+    ensures calls { IfOk result (λ answers. CallsEach F.Fn call.now first items.old answers.items
+        items.new) }
 {
     if items.len() < 2 {
         return map_one(alloc, call, first, items);
@@ -38,7 +41,8 @@ fn map_one<X, A: Drop, F: Fn(usize, &mut X) -> A>(
 ) -> Result<Vec<A>, AllocError>
     requires few { length items.old < 2 }
     requires accepts { AcceptsEach F.Fn call.now first items.old }
-    ensures calls { IfOk result (λ answers. CallsEach F.Fn call.now first items.old answers.items items.new) }
+    ensures calls { IfOk result (λ answers. CallsEach F.Fn call.now first items.old answers.items
+        items.new) }
 {
     if items.is_empty() {
         return Ok(Vec::new(alloc));
@@ -51,7 +55,8 @@ fn map_one<X, A: Drop, F: Fn(usize, &mut X) -> A>(
 
 // One call.
 fn call_with<X, A, F: Fn(usize, &mut X) -> A>(call: &F, number: usize, item: &mut X) -> A
-    requires accepts { (argument : MutBor X) → argument.now ≡ item.old → F.pre call.now number argument }
+    requires accepts { (argument : MutBor X) → argument.now ≡ item.old → F.pre call.now number
+        argument }
     ensures calls { Calls F.Fn call.now number item.old result item.new }
 {
     call(number, item)
@@ -73,17 +78,22 @@ fn map_halves<R: Threads + Sync, X: Send, A: Send + Drop, F: Fn(usize, &mut X) -
     requires room { next + length back.old < 2 ^ 64 }
     requires front { AcceptsEach F.Fn call.now first front.old }
     requires back { AcceptsEach F.Fn call.now next back.old }
-    ensures calls { IfOk result (λ answers. CallsEach F.Fn call.now first (front.old ++ back.old) answers.items (front.new ++ back.new)) }
+    ensures calls { IfOk result (λ answers. CallsEach F.Fn call.now first (front.old ++ back.old)
+        answers.items (front.new ++ back.new)) }
 {
     // a copy for each closure
     let theirs = alloc;
     let mut early = || -> Result<Vec<A>, AllocError>
-        requires { IsSync R.row × IsSync F.row × IsSend X.row × IsSend A.row × (first + length front.now < 2 ^ 64) × AcceptsEach F.Fn call.now first front.now }
-        ensures { IfOk result (λ answers. CallsEach F.Fn call.entry.now first front.entry.now answers.items front.exit.now) }
+        requires { IsSync R.row × IsSync F.row × IsSend X.row × IsSend A.row
+            × (first + length front.now < 2 ^ 64) × AcceptsEach F.Fn call.now first front.now }
+        ensures { IfOk result (λ answers. CallsEach F.Fn call.entry.now first front.entry.now
+            answers.items front.exit.now) }
     { map_each_mut(rt, alloc, call, first, front) };
     let mut late = || -> Result<Vec<A>, AllocError>
-        requires { IsSync R.row × IsSync F.row × IsSend X.row × IsSend A.row × (next + length back.now < 2 ^ 64) × AcceptsEach F.Fn call.now next back.now }
-        ensures { IfOk result (λ answers. CallsEach F.Fn call.entry.now next back.entry.now answers.items back.exit.now) }
+        requires { IsSync R.row × IsSync F.row × IsSend X.row × IsSend A.row
+            × (next + length back.now < 2 ^ 64) × AcceptsEach F.Fn call.now next back.now }
+        ensures { IfOk result (λ answers. CallsEach F.Fn call.entry.now next back.entry.now
+            answers.items back.exit.now) }
     { map_each_mut(rt, theirs, call, next, back) };
     let (ours, others) = join_mut(rt, &mut early, &mut late);
     let mut answers = ours?;
@@ -92,7 +102,8 @@ fn map_halves<R: Threads + Sync, X: Send, A: Send + Drop, F: Fn(usize, &mut X) -
     Ok(answers)
 }
 
-/// The calls with the items of two slices and one call more, all beside each other. All end before it answers.
+/// The calls with the items of two slices and one call more, all beside each other. All end before
+/// it answers. What the one call left is known where it was not refused.
 pub(crate) fn all_at_once<
     R: Threads + Sync,
     X: Send,
@@ -103,7 +114,7 @@ pub(crate) fn all_at_once<
     G: Fn(usize, &mut Y) -> C + Sync,
     Z: Send,
     D: Send + Drop,
-    H: Fn(usize, &mut Z) -> D + Sync,
+    H: Fn(usize, &mut Z) -> Result<D, OutOfMemory> + Sync,
 >(
     rt: &R,
     alloc: Global,
@@ -113,24 +124,49 @@ pub(crate) fn all_at_once<
     others: &mut [Y],
     third: &H,
     last: &mut Z,
-) -> (Result<Vec<A>, AllocError>, (Result<Vec<C>, AllocError>, D))
+) -> (
+    Result<Vec<A>, AllocError>,
+    (Result<Vec<C>, AllocError>, Result<D, OutOfMemory>),
+)
     requires few { (length items.old < 2 ^ 64) × (length others.old < 2 ^ 64) }
     requires first { AcceptsEach F.Fn first.now 0 items.old }
     requires second { AcceptsEach G.Fn second.now 0 others.old }
     requires third { (argument : MutBor Z) → argument.now ≡ last.old → H.pre third.now 0 argument }
-    ensures first { IfOk result.0 (λ answers. CallsEach F.Fn first.now 0 items.old answers.items items.new) }
-    ensures second { IfOk result.1.0 (λ answers. CallsEach G.Fn second.now 0 others.old answers.items others.new) }
+    ensures first { IfOk result.0 (λ answers. CallsEach F.Fn first.now 0 items.old answers.items
+        items.new) }
+    ensures second { IfOk result.1.0 (λ answers. CallsEach G.Fn second.now 0 others.old
+        answers.items others.new) }
+    ensures third { IfOk result.1.1 (λ made. Calls H.Fn third.now 0 last.old (Ok made) last.new) }
 {
     let theirs = alloc;
     let mut early = || -> Result<Vec<A>, AllocError>
-        requires { IsSync R.row × IsSync F.row × IsSend X.row × IsSend A.row × (length items.now < 2 ^ 64) × AcceptsEach F.Fn first.now 0 items.now }
-        ensures { IfOk result (λ answers. CallsEach F.Fn first.entry.now 0 items.entry.now answers.items items.exit.now) }
+        requires { IsSync R.row × IsSync F.row × IsSend X.row × IsSend A.row
+            × (length items.now < 2 ^ 64) × AcceptsEach F.Fn first.now 0 items.now }
+        ensures { IfOk result (λ answers. CallsEach F.Fn first.entry.now 0 items.entry.now
+            answers.items items.exit.now) }
     { map_each_mut(rt, alloc, first, 0, items) };
-    let mut late = || -> (Result<Vec<C>, AllocError>, D)
-        requires { IsSync R.row × IsSync G.row × IsSync H.row × IsSend Y.row × IsSend C.row × IsSend Z.row × IsSend D.row × (length others.now < 2 ^ 64) × AcceptsEach G.Fn second.now 0 others.now × ((argument : MutBor Z) → argument.now ≡ last.now → H.pre third.now 0 argument) }
-        ensures { IfOk result.0 (λ answers. CallsEach G.Fn second.entry.now 0 others.entry.now answers.items others.exit.now) }
+    let mut late = || -> (Result<Vec<C>, AllocError>, Result<D, OutOfMemory>)
+        requires { IsSync R.row × IsSync G.row × IsSync H.row × IsSend Y.row × IsSend C.row × IsSend
+            Z.row × IsSend D.row × (length others.now < 2 ^ 64) × AcceptsEach G.Fn second.now 0
+            others.now × ((argument : MutBor Z) → argument.now ≡ last.now → H.pre third.now 0
+            argument) }
+        ensures { IfOk result.0 (λ answers. CallsEach G.Fn second.entry.now 0 others.entry.now
+            answers.items others.exit.now)
+            × IfOk result.1 (λ made. Calls H.Fn third.entry.now 0 last.entry.now (Ok made)
+            last.exit.now) }
     { beside(rt, theirs, second, third, last, others) };
     join_mut(rt, &mut early, &mut late)
+}
+
+// One call that may be refused.
+fn call_once<Z, D, H: Fn(usize, &mut Z) -> Result<D, OutOfMemory>>(
+    call: &H,
+    item: &mut Z,
+) -> Result<D, OutOfMemory>
+    requires accepts { (argument : MutBor Z) → argument.now ≡ item.old → H.pre call.now 0 argument }
+    ensures calls { IfOk result (λ made. Calls H.Fn call.now 0 item.old (Ok made) item.new) }
+{
+    call(0, item)
 }
 
 // The calls with the items of a slice beside one call more.
@@ -141,7 +177,7 @@ fn beside<
     G: Fn(usize, &mut Y) -> C + Sync,
     Z: Send,
     D: Send + Drop,
-    H: Fn(usize, &mut Z) -> D + Sync,
+    H: Fn(usize, &mut Z) -> Result<D, OutOfMemory> + Sync,
 >(
     rt: &R,
     alloc: Global,
@@ -149,19 +185,24 @@ fn beside<
     once: &H,
     last: &mut Z,
     items: &mut [Y],
-) -> (Result<Vec<C>, AllocError>, D)
+) -> (Result<Vec<C>, AllocError>, Result<D, OutOfMemory>)
     requires few { length items.old < 2 ^ 64 }
     requires each { AcceptsEach G.Fn each.now 0 items.old }
     requires once { (argument : MutBor Z) → argument.now ≡ last.old → H.pre once.now 0 argument }
-    ensures each { IfOk result.0 (λ answers. CallsEach G.Fn each.now 0 items.old answers.items items.new) }
+    ensures each { IfOk result.0 (λ answers. CallsEach G.Fn each.now 0 items.old answers.items
+        items.new) }
+    ensures once { IfOk result.1 (λ made. Calls H.Fn once.now 0 last.old (Ok made) last.new) }
 {
     let mut many = || -> Result<Vec<C>, AllocError>
-        requires { IsSync R.row × IsSync G.row × IsSend Y.row × IsSend C.row × (length items.now < 2 ^ 64) × AcceptsEach G.Fn each.now 0 items.now }
-        ensures { IfOk result (λ answers. CallsEach G.Fn each.entry.now 0 items.entry.now answers.items items.exit.now) }
+        requires { IsSync R.row × IsSync G.row × IsSend Y.row × IsSend C.row
+            × (length items.now < 2 ^ 64) × AcceptsEach G.Fn each.now 0 items.now }
+        ensures { IfOk result (λ answers. CallsEach G.Fn each.entry.now 0 items.entry.now
+            answers.items items.exit.now) }
     { map_each_mut(rt, alloc, each, 0, items) };
-    let mut one = || -> D
+    let mut one = || -> Result<D, OutOfMemory>
         requires { (argument : MutBor Z) → argument.now ≡ last.now → H.pre once.now 0 argument }
-        ensures { Calls H.Fn once.entry.now 0 last.entry.now result last.exit.now }
-    { call_with(once, 0, last) };
+        ensures { IfOk result (λ made. Calls H.Fn once.entry.now 0 last.entry.now (Ok made)
+            last.exit.now) }
+    { call_once(once, last) };
     join_mut(rt, &mut many, &mut one)
 }

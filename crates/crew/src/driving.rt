@@ -1,13 +1,12 @@
 //! How the actors are run on a board that is there.
 ghost use Rattle.std.specs.Prelude.{◌≡◌, ◌+◌, ◌^◌, ◌<◌, ◌≤◌, Ok, length, map, slice_index_or, IfOk, IfErr, OnOk};
 ghost use Rattle.std.specs.List.{All};
-ghost use mathlib.Core.List.{IsPrefix};
-ghost use Rattle.bwe_specs.specs.declared.limits.TheConstants.{MAX_REPORTS};
 ghost use Rattle.board.specs.declared.refusal.ReportError.TheVariants as refusal;
 ghost use Rattle.board.specs.Reading.{IsNewReader};
 ghost use Rattle.board.specs.Reporting.{AreFresh};
 ghost use Rattle.crew_log.specs.LegalCrewLog.{IsClosed, IsLegalCrewLog, IsReaderOf};
 ghost use Rattle.crew.specs.Reporters.{IsReady, AreReady, HasReported, HaveReported, scripted};
+ghost use Rattle.crew.specs.Allocators.{HasMade};
 ghost use Rattle.crew.specs.Readers.{HasLines, HaveLines, HaveEnded};
 ghost use Rattle.crew.specs.Starting.{AreScripts};
 ghost use Rattle.board_core.specs.Core.{IsAllowed};
@@ -26,11 +25,13 @@ use std::mem;
 use std::sync::{Mutex, Wait};
 use std::thread::Threads;
 
-/// Runs the actors of a board that was just opened, each in a thread of its own, and answers the log of the run.
+/// Runs the actors of a board that was just opened, each in a thread of its own, and answers the
+/// log of the run.
 ///
-/// Each reporter reports its script and settles, the allocator makes `reads + 1` rounds, and each reader reads `reads` times.
-/// When all have ended, each reader learns the acknowledgement of `finish` and reads once more.
-/// After a refusal the reporters' passes are gone, and the others have what they had seen by then.
+/// Each reporter reports its script and settles, the allocator makes `reads + 1` rounds, and each
+/// reader reads `reads` times. When all have ended, each reader learns the acknowledgement of
+/// `finish` and reads once more. After a refusal the reporters' passes are gone, and the others
+/// have what they had seen by then.
 pub fn drive<
     M: Maker + Send,
     N: Profile<M::Table> + Send + Sync,
@@ -60,13 +61,17 @@ where
     requires few_readers { length readers.old < 2 ^ 32 }
     requires readers { All (IsNewReader M.Table.covers N.belongs) readers.old }
     requires scripts { AreScripts N.tasks N.links scripts.now }
-    requires room { scripted scripts.now ≤ MAX_REPORTS }
-    requires reads { reads ≤ 1000 }
-    ensures legal { IfOk result (IsLegalCrewLog N.belongs M.Table.total_of N.tasks N.links scripts.now (length readers.old) reads) }
+    requires room { scripted scripts.now ≤ 200_000 }
+    requires reads { reads ≤ 1_000 }
+    ensures legal { IfOk result (IsLegalCrewLog N.belongs M.Table.total_of N.tasks N.links
+        scripts.now (length readers.old) reads) }
     // No reader's final log is longer than the history.
     ensures closed { IfOk result IsClosed }
+    // The allocator has made its rounds.
+    ensures rounds { OnOk result (HasMade (reads + 1) allocator.old allocator.new) }
     // What each reader's pass has seen, its floor, and how often it has read.
-    ensures passes { IfOk result (λ log. HaveEnded M.Table.covers reads log.history.items log.readers.items readers.new) }
+    ensures passes { IfOk result (λ log. HaveEnded M.Table.covers reads log.history.items
+        log.readers.items readers.new) }
 {
     let mut reporters = reporters;
     let answers = run_actors(
@@ -126,17 +131,23 @@ where
     <M::Table as Posted>::Change: Send + Sync,
     requires ready { AreReady N.reporters N.tasks N.links scripts.now reporters.old }
     requires few_readers { length readers.old < 2 ^ 32 }
-    requires few_reads { reads ≤ 1000 }
+    requires few_reads { reads ≤ 1_000 }
     requires readers { All (IsNewReader M.Table.covers N.belongs) readers.old }
-    ensures reported { IfOk result (λ answers. HaveReported scripts.now reporters.old answers.reported.items reporters.new) }
-    ensures read { IfOk result (λ answers. HaveLines M.Table.covers N.belongs M.Table.total_of reads answers.read.items readers.new) }
+    ensures reported { IfOk result (λ answers. HaveReported scripts.now reporters.old
+        answers.reported.items reporters.new) }
+    ensures read { IfOk result (λ answers. HaveLines M.Table.covers N.belongs M.Table.total_of reads
+        answers.read.items readers.new) }
+    ensures rounds { OnOk result (HasMade (reads + 1) allocator.old allocator.new) }
     ensures readers { length readers.new ≡ length readers.old }
 {
     let newest: NewestAck<B> = Mutex::new(None);
     let newest = &newest;
     let report = |number: usize, pass: &mut ReporterPass<B>| -> Result<(), ReportError>
-        requires { (number < length scripts.now) × ((script : _) → IsReady N.reporters N.tasks N.links (slice_index_or scripts.now number script).items pass.old) }
-        ensures { (script : _) → HasReported (slice_index_or scripts.entry.now number script).items pass.old result pass.new }
+        requires { (number < length scripts.now)
+            × ((script : _) → IsReady N.reporters N.tasks N.links
+            (slice_index_or scripts.now number script).items pass.old) }
+        ensures { (script : _) → HasReported (slice_index_or scripts.entry.now number script).items
+            pass.old result pass.new }
     {
         report_and_settle(
             rt,
@@ -152,12 +163,14 @@ where
         Vec<ReadLine>,
         OutOfMemory,
     >
-        requires { (number < 2 ^ 32) × (reads ≤ 1000) × IsNewReader M.Table.covers N.belongs pass.old }
-        ensures { IfOk result (λ read. HasLines M.Table.covers N.belongs M.Table.total_of reads read.items pass.new) }
+        requires { (number < 2 ^ 32) × (reads ≤ 1_000) × IsNewReader M.Table.covers N.belongs
+            pass.old }
+        ensures { IfOk result (λ read. HasLines M.Table.covers N.belongs M.Table.total_of reads
+            read.items pass.new) }
     { read_lines(rt, alloc, newest, gate, number as u32, reads, pass) };
     let rounds = |_: usize, pass: &mut AllocatorPass<B>| -> Result<(), OutOfMemory>
-        requires { reads ≤ 1000 }
-        ensures { IsPrefix pass.old.posted pass.new.posted }
+        requires { reads ≤ 1_000 }
+        ensures { OnOk result (HasMade (reads + 1) pass.old pass.new) }
     { make_rounds(rt, alloc, board, gate, reads + 1, pass) };
     let (reported, (read, made)) = all_at_once(
         rt, alloc, &report, reporters, &read, readers, &rounds, allocator,
@@ -179,9 +192,11 @@ fn sent_of<B: Bases>(alloc: Global, passes: &[ReporterPass<B>]) -> Result<Vec<u6
     Ok(sent)
 }
 
-// Whether no call of a reporter was refused. No reporter can have met a full log: it would hold more than all scripts.
+// Whether no call of a reporter was refused. No reporter can have met a full log: it would hold
+// more than all scripts.
 fn all_reported(answers: &[Result<(), ReportError>]) -> Result<(), OutOfMemory>
-    requires never_full { All (λ answer. IfErr answer (λ error. error ≡ refusal.OutOfMemory)) answers.now }
+    requires never_full { All (λ answer. IfErr answer (λ error. error ≡ refusal.OutOfMemory))
+        answers.now }
     ensures ok { OnOk result (All (λ answer. answer ≡ Ok tt) answers.now) }
 {
     for answer in answers {
@@ -201,7 +216,8 @@ fn is_reported(answer: Result<(), ReportError>) -> Result<(), OutOfMemory>
     }
 }
 
-// Each reader learns the acknowledgement of the end and reads once more. A reader's log is made of that and of its lines before.
+// Each reader learns the acknowledgement of the end and reads once more. A reader's log is made of
+// that and of its lines before.
 fn end_all<T: Posted, N: Profile<T>, B: Bases, G: Gate>(
     alloc: Global,
     gate: &G,
@@ -211,11 +227,15 @@ fn end_all<T: Posted, N: Profile<T>, B: Bases, G: Gate>(
     passes: &mut [ReaderPass<T, N, B>],
 ) -> Result<Vec<ReaderLog>, OutOfMemory>
     requires numbers { length passes.old < 2 ^ 32 }
-    requires few_reads { reads ≤ 1000 }
+    requires few_reads { reads ≤ 1_000 }
     requires lines { HaveLines T.covers N.belongs T.total_of reads lines.items passes.old }
-    ensures readers { IfOk result (λ readers. All (IsReaderOf N.belongs T.total_of (IsAllowed N.reporters (IsFit N.tasks N.links)) reads end.now) readers.items) }
-    ensures closed { IfOk result (λ readers. All (λ reader. reader.length ≡ length end.now) readers.items) }
-    ensures passes { IfOk result (λ readers. HaveEnded T.covers reads end.now readers.items passes.new) }
+    ensures readers { IfOk result (λ readers. All
+        (IsReaderOf N.belongs T.total_of (IsAllowed N.reporters (IsFit N.tasks N.links)) reads
+        end.now) readers.items) }
+    ensures closed { IfOk result (λ readers. All (λ reader. reader.length ≡ length end.now)
+        readers.items) }
+    ensures passes { IfOk result (λ readers. HaveEnded T.covers reads end.now readers.items
+        passes.new) }
     ensures count { length passes.new ≡ length passes.old }
 {
     let mut lines = lines;

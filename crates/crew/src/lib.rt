@@ -1,15 +1,20 @@
-//! A whole run of a board: reporters, readers and an allocator, each in a thread of its own, and the log of what they did.
+//! A whole run of a board: reporters, readers and an allocator, each in a thread of its own, and
+//! the log of what they did.
 //!
-//! The program's line `run` calls `run_crew`. Its contract is that of the run's log: it is a legal crew log ("Legal crew log", docs/DEFINITIONS.md),
-//! and a closed one: no reader's final log is longer than the history.
-//! `drive` does the same over a board and passes that it is lent. There the log is tied to what each reader's pass has seen.
-//! The history and the table are those of the board's `finish`; a reader's lines are those of its reads.
-//! No call can be refused a thread: where none can be made, an actor runs after another. Nothing is promised of waiting,
-//! of the order of actors that told each other nothing, or that any two ran at once.
+//! The program's line `run` calls `run_crew`. Its contract is that of the run's log: it is a legal
+//! crew log ("Legal crew log", docs/DEFINITIONS.md), and a closed one: no reader's final log is
+//! longer than the history. `drive` does the same over a board and passes that it is lent. There
+//! the log is tied to what each reader's pass has seen, how often each pass has read, and how many
+//! rounds the allocator's has made. The history and the table are those of the board's `finish`; a
+//! reader's lines are those of its reads. No call can be refused a thread: where none can be made,
+//! an actor runs after another. Nothing is promised of waiting, of the order of actors that told
+//! each other nothing, or that any two ran at once.
 //!
 //! Some bodies meet every clause and are wrong. Each was tried by hand, and a test refuses it:
-//! - a reporter that keeps its acknowledgement, and a reader that learns none before a read: `a_held_reader_is_told_what_was_settled`;
-//! - an allocator that makes no round: the calls that the same test counts.
+//! - a reporter that keeps its acknowledgement, and a reader that learns none before a read:
+//!   `a_held_reader_is_told_what_was_settled`;
+//! - a settle that is not made: the same test, whose reader is told nothing then;
+//! - a call that the gate is not told of: the calls that the same test counts.
 #![tactic(auto)]
 
 mod at_once;

@@ -16,10 +16,12 @@ use std::marker::Brand;
 use std::sync::Wait;
 use std::thread::Threads;
 
-/// Opens a board for a maker that has absorbed nothing, runs a reporter for each script, an allocator and so many readers on it, and closes it.
+/// Opens a board for a maker that has absorbed nothing, runs a reporter for each script, an
+/// allocator and so many readers on it, and closes it.
 ///
-/// Each reader makes `reads` reads, and one more at the end, of the history and no more. A report of the script at a place is by the reporter of that number.
-/// The board is closed whatever the run came to.
+/// Each reader makes `reads` reads, and one more at the end, of the history and no more. A report
+/// of the script at a place is by the reporter of that number. The board is closed whatever the run
+/// came to.
 pub fn run_crew<M: Maker + Send, G: Gate + Sync, R: Threads + Wait + Sync>(
     rt: &R,
     alloc: Global,
@@ -36,12 +38,15 @@ where
     <M::Table as Posted>::Change: Send + Sync,
     requires absorbed { M.absorbed maker [] }
     requires few_scripts { length scripts.now ≤ 64 }
-    requires scripts { AreScripts (M.plan_tasks (M.plan maker)) (M.plan_links (M.plan maker)) scripts.now }
-    requires room { scripted scripts.now ≤ 200000 }
+    requires scripts { AreScripts (M.plan_tasks (M.plan maker)) (M.plan_links (M.plan maker))
+        scripts.now }
+    requires room { scripted scripts.now ≤ 200_000 }
     requires some_readers { 1 ≤ readers }
     requires few_readers { readers ≤ 64 }
-    requires few_reads { reads ≤ 1000 }
-    ensures legal { IfOk result (IsLegalCrewLog (λ reports table. table ≡ M.table_of (M.plan maker) reports) M.Table.total_of (M.plan_tasks (M.plan maker)) (M.plan_links (M.plan maker)) scripts.now readers reads) }
+    requires few_reads { reads ≤ 1_000 }
+    ensures legal { IfOk result (IsLegalCrewLog
+        (λ reports table. table ≡ M.table_of (M.plan maker) reports) M.Table.total_of
+        (M.plan_tasks (M.plan maker)) (M.plan_links (M.plan maker)) scripts.now readers reads) }
     ensures closed { IfOk result IsClosed }
 {
     run_profiled::<M, Brand, G, R>(rt, alloc, maker, scripts, readers, reads, gate)
@@ -74,11 +79,12 @@ where
     requires reporters { length scripts.now ≡ N.reporters }
     requires few_scripts { length scripts.now ≤ 64 }
     requires scripts { AreScripts N.tasks N.links scripts.now }
-    requires room { scripted scripts.now ≤ 200000 }
+    requires room { scripted scripts.now ≤ 200_000 }
     requires some_readers { 1 ≤ readers }
     requires few_readers { readers ≤ 64 }
-    requires few_reads { reads ≤ 1000 }
-    ensures legal { IfOk result (IsLegalCrewLog N.belongs M.Table.total_of N.tasks N.links scripts.now readers reads) }
+    requires few_reads { reads ≤ 1_000 }
+    ensures legal { IfOk result (IsLegalCrewLog N.belongs M.Table.total_of N.tasks N.links
+        scripts.now readers reads) }
     ensures closed { IfOk result IsClosed }
 {
     let reporters = scripts.len() as u32;
@@ -110,10 +116,11 @@ where
     requires table { opened.table ≡ B.table }
     requires reporters { length scripts.now ≡ N.reporters }
     requires scripts { AreScripts N.tasks N.links scripts.now }
-    requires room { scripted scripts.now ≤ 200000 }
+    requires room { scripted scripts.now ≤ 200_000 }
     requires few_readers { opened.readers ≤ 64 }
-    requires few_reads { reads ≤ 1000 }
-    ensures legal { IfOk result (IsLegalCrewLog N.belongs M.Table.total_of N.tasks N.links scripts.now opened.readers reads) }
+    requires few_reads { reads ≤ 1_000 }
+    ensures legal { IfOk result (IsLegalCrewLog N.belongs M.Table.total_of N.tasks N.links
+        scripts.now opened.readers reads) }
     ensures closed { IfOk result IsClosed }
 {
     let (board, reporters, mut readers, mut allocator) = opened.named::<B, R>(rt, alloc)?;

@@ -12,7 +12,8 @@ use std::test::Fail;
 
 const RUNS: u64 = 100;
 
-// Two reporters with a demand each, and two readers with three reads each. The run is made a hundred times.
+// Two reporters with a demand each, and two readers with three reads each. The run is made a
+// hundred times.
 #[test]
 fn a_run_ends_with_the_history_each_time(rt: HostRuntime) -> Result<(), Fail> {
     let alloc = rt.alloc();
@@ -38,8 +39,9 @@ fn a_run_ends_with_the_history_each_time(rt: HostRuntime) -> Result<(), Fail> {
     Ok(())
 }
 
-// One reporter of two demands, and one reader of two reads. The gate holds the first report until the first read was shown, and
-// the reader from then on until the settle was answered: its next line has the acknowledgement's floor.
+// One reporter of two demands, and one reader of two reads. The gate holds the first report until
+// the first read was shown, and the reader from then on until the settle was answered: its next
+// line has the acknowledgement's floor.
 #[test]
 fn a_held_reader_is_told_what_was_settled(rt: HostRuntime) -> Result<(), Fail> {
     let alloc = rt.alloc();
@@ -75,7 +77,12 @@ fn line_of(prefix: u64, total: u64) -> ReadLine {
 // A demand of the task that has the reporter's number.
 fn demand_by(reporter: u32, amount: u64) -> Report
     requires amount { amount ≤ 1000 }
-    ensures report { result ≡ record { reporter = reporter; target = Target.Task reporter; amount = amount } }
+    ensures report { result ≡ record {
+      reporter = reporter;
+      target = Target.Task reporter;
+      amount =
+          amount;
+    } }
 {
     Report {
         reporter,

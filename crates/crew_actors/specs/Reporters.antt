@@ -7,5 +7,5 @@ use Rattle.board.specs.declared.refusal.ReportError.TheVariants.{Full, OutOfMemo
 
 -- full where the pass has seen a full log and has not sent its whole script; else memory was wanting
 abbrev pub IsCutShort : List Report → Reporting → ReportError → Type 0
-IsCutShort script pass (Full held) = (200000 ≤ length pass.seen) × (length pass.own < length script)
+IsCutShort script pass (Full held) = (200_000 ≤ length pass.seen) × (length pass.own < length script)
 IsCutShort script pass OutOfMemory = Unit {0}

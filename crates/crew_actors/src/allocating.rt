@@ -9,7 +9,8 @@ use demand_book::Maker;
 use std::alloc::Global;
 use std::sync::Wait;
 
-/// Makes so many rounds. Each posts a table of the log as it stands, where none covers it, and the pass has the ack of the last.
+/// Makes so many rounds. Each posts a table of the log as it stands, where none covers it, and the
+/// pass has the ack of the last.
 pub fn make_rounds<M: Maker, N: Profile<M::Table>, B: Bases, G: Gate, R: Wait>(
     rt: &R,
     alloc: Global,

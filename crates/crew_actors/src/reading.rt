@@ -70,7 +70,8 @@ fn read_last<T: Posted, N: Profile<T>, B: Bases, G: Gate>(
     ensures length { IfOk result (λ last. last.length ≡ length pass.new.log) }
     ensures beyond { IfOk result (λ last. last.beyond.items ≡ drop (length end.now) pass.new.log) }
     ensures within { IsPrefix pass.new.log end.now }
-    ensures allowed { OnOk result (All (IsAllowed N.reporters (IsFit N.tasks N.links)) pass.new.log) }
+    ensures allowed { OnOk result (All (IsAllowed N.reporters (IsFit N.tasks N.links))
+        pass.new.log) }
     ensures log { IsPrefix pass.old.log pass.new.log }
     ensures reads { pass.new.reads ≡ min (pass.old.reads + 1) (2 ^ 64 - 1) }
 {
@@ -146,7 +147,8 @@ fn learn_newest<T: Posted, N: Profile<T>, B: Bases, R: Wait>(
     learn_left(alloc, &left, pass)
 }
 
-/// Reads so often, and learns the newest acknowledgement before each read, if there is one. It waits for the place where that is left.
+/// Reads so often, and learns the newest acknowledgement before each read, if there is one. It
+/// waits for the place where that is left.
 pub fn read_lines<T: Posted, N: Profile<T>, B: Bases, G: Gate, R: Wait>(
     rt: &R,
     alloc: Global,
@@ -168,7 +170,8 @@ pub fn read_lines<T: Posted, N: Profile<T>, B: Bases, G: Gate, R: Wait>(
     Ok(lines)
 }
 
-/// Learns the acknowledgement of the end, reads once more, and makes the reader's log of this read and of the lines before.
+/// Learns the acknowledgement of the end, reads once more, and makes the reader's log of this read
+/// and of the lines before.
 ///
 /// The log that it has then seen is the one that has ended, and no longer one.
 pub fn read_to_the_end<T: Posted, N: Profile<T>, B: Bases, G: Gate>(

@@ -30,7 +30,8 @@ fn report_one<M: Maker, N: Profile<M::Table>, B: Bases, G: Gate, R: Wait>(
     requires by { report.reporter ≡ pass.old.number }
     requires allowed { IsAllowed N.reporters (IsFit N.tasks N.links) report }
     ensures number { pass.new.number ≡ pass.old.number }
-    ensures own { OnOk result (without_places pass.new.own ≡ without_places pass.old.own ++ report ∷ []) }
+    ensures own { OnOk result (without_places pass.new.own ≡ without_places pass.old.own ++ report
+        ∷ []) }
     ensures kept { OnErr result (pass.new.own ≡ pass.old.own) }
     ensures refused { IfErr result (IsRefusalAt pass.new.seen 1) }
 {
@@ -99,7 +100,8 @@ fn settle_and_leave<M: Maker, N: Profile<M::Table>, B: Bases, R: Wait>(
     Ok(())
 }
 
-/// Reports each entry of a script by a call of its own, and settles. The acknowledgement is left for the readers before the settle is answered.
+/// Reports each entry of a script by a call of its own, and settles. The acknowledgement is left
+/// for the readers before the settle is answered.
 ///
 /// A call that is refused ends it.
 pub fn report_and_settle<M: Maker, N: Profile<M::Table>, B: Bases, G: Gate, R: Wait>(

@@ -1,6 +1,7 @@
 use bwe_specs::Report;
 
-/// One read of a reader: its floor before, how many reports the table covers that it was shown, and that table's total in kilobits per second.
+/// One read of a reader: its floor before, how many reports the table covers that it was shown, and
+/// that table's total in kilobits per second.
 #[derive(Clone, Copy, Debug, PartialEq, Eq)]
 pub struct ReadLine {
     pub floor: u64,
@@ -18,7 +19,8 @@ pub struct ReaderLog {
     pub beyond: Vec<Report>,
 }
 
-/// What a run leaves behind: the log at its end, how many reports each reporter sent, what each reader saw, and the table of the history.
+/// What a run leaves behind: the log at its end, how many reports each reporter sent, what each
+/// reader saw, and the table of the history.
 #[derive(Drop)]
 pub struct CrewLog<T> {
     pub history: Vec<Report>,

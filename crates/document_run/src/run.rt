@@ -17,9 +17,9 @@ use std::alloc::Global;
 use std::sync::Wait;
 use std::thread::Threads;
 
-/// Runs the document's script: a reporter for each of its reporters, the allocator, and so many readers, each of which
-/// makes `reads` reads and one more at the end. The document's names are given back with the log.
-/// No reader's final log is longer than the history.
+/// Runs the document's script: a reporter for each of its reporters, the allocator, and so many
+/// readers, each of which makes `reads` reads and one more at the end. The document's names are
+/// given back with the log. No reader's final log is longer than the history.
 pub fn run_document<G: Gate + Sync, R: Threads + Wait + Sync>(
     rt: &R,
     alloc: Global,
@@ -31,7 +31,7 @@ pub fn run_document<G: Gate + Sync, R: Threads + Wait + Sync>(
     requires usable { IsUsable document }
     requires some_readers { 1 ≤ readers }
     requires few_readers { readers ≤ 64 }
-    requires few_reads { reads ≤ 1000 }
+    requires few_reads { reads ≤ 1_000 }
     ensures log { IfOk result (λ made. IsRunOf
         (record {
           top = document.tree.top;

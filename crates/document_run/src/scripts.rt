@@ -22,7 +22,7 @@ pub fn scripts_of_document(
     ensures few { IfOk result (λ scripts. length scripts.items ≤ 64) }
     ensures scripts { IfOk result (λ scripts.
         AreScripts (tasks_in document.now) (link_count document.now) scripts.items) }
-    ensures room { IfOk result (λ scripts. scripted scripts.items ≤ 200000) }
+    ensures room { IfOk result (λ scripts. scripted scripts.items ≤ 200_000) }
 {
     let reporters = document.names.reporters.len() as u32;
     split_by_reporter(alloc, &document.script, reporters)

@@ -307,7 +307,8 @@ fn read_often<N: Profile<SmallTable>, B: Bases>(
     }
 }
 
-// The end, which is refused once where the maker refuses its call 7, the first that no settle makes.
+// The end, which is refused once where the maker refuses its call 7, the first that no settle
+// makes.
 fn end<N: Profile<SmallTable>, B: Bases, R: Wait + Abort>(
     rt: &R,
     alloc: Global,
@@ -338,7 +339,8 @@ fn end<N: Profile<SmallTable>, B: Bases, R: Wait + Abort>(
     Ok(())
 }
 
-// How many reports the acknowledgement, the log and the table of the end have, and the table's total.
+// How many reports the acknowledgement, the log and the table of the end have, and the table's
+// total.
 fn end_of(case: Case<'_>) -> (u64, u64, u64, u64) {
     match case {
         Case::Told => (1, 1, 1, 80),
@@ -352,7 +354,12 @@ fn end_of(case: Case<'_>) -> (u64, u64, u64, u64) {
 // A demand of the task that has the reporter's number.
 fn demand_by(reporter: u32, amount: u64) -> Report
     requires amount { amount ≤ 1000 }
-    ensures report { result ≡ record { reporter = reporter; target = Target.Task reporter; amount = amount } }
+    ensures report { result ≡ record {
+      reporter = reporter;
+      target = Target.Task reporter;
+      amount =
+          amount;
+    } }
 {
     Report {
         reporter,

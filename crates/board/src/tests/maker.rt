@@ -40,7 +40,8 @@ impl Meeting {
     }
 }
 
-/// A small maker that counts its calls from 0 and refuses one of them, and whose table of a list that isn't empty waits for a meeting.
+/// A small maker that counts its calls from 0 and refuses one of them, and whose table of a list
+/// that isn't empty waits for a meeting.
 #[derive(Drop)]
 pub struct TestMaker<'a> {
     pub inner: SmallMaker,

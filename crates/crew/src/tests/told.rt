@@ -32,7 +32,8 @@ fn count(calls: &AtomicU64) {
 
 /// A gate for one reporter of two reports, and one reader.
 ///
-/// The first report waits until the first read was shown. The reader is held there until the settle, call 2, was answered.
+/// The first report waits until the first read was shown. The reader is held there until the
+/// settle, call 2, was answered.
 #[derive(Drop)]
 pub struct ToldGate {
     reporter: Calls,

@@ -1,4 +1,4 @@
-use Rattle.std.proofs.Common.{◌≡◌, ℕ, ◌+◌, List, Vec, Result, length, get_or, sym, subst, ap, ◌∙◌, arith}
+use Rattle.std.proofs.Common.{◌≡◌, ℕ, ◌+◌, List, Vec, Result, Ok, length, get_or, sym, subst, ap, ◌∙◌, arith}
 use Rattle.std.specs.Prelude.{IfOk}
 use Rattle.std.specs.declared.alloc.Global.{Global}
 use Rattle.std.proofs.lemmas.Result.{IfOk-at_ok}
@@ -7,7 +7,7 @@ use Rattle.board.specs.Reporting.{Reporting}
 use Rattle.board.specs.Reading.{Reading}
 use Rattle.crew.specs.Reporters.{IsReady, HasReported}
 use Rattle.crew.specs.Readers.{HasLines}
-use Rattle.crew.proofs.Answering.{reported_at, lines_at}
+use Rattle.crew.proofs.Answering.{reported_at, lines_at, made_at}
 use Rattle.crew.proofs.driving.run_actors.Goals as goal
 
 pub all_at_once-reported-requires-clause-first : goal.all_at_once-reported-requires-clause-first
@@ -41,3 +41,8 @@ returns-clause-read g c =
           lines_at g.M.Table.Posted.covers g.N.Profile.belongs g.M.Table.Posted.total_of c.args.reads (get_or c.in_ok-read.read.items number read)
           one.after_call.now (get_or c.all_at_once-reported.new.others number pass) one.left one.call;
     }
+
+pub returns-clause-rounds : goal.returns-clause-rounds
+returns-clause-rounds g c =
+    let one = IfOk-at_ok _ c.in_ok-made.was c.all_at_once-reported.ensures.third in
+    made_at (c.args.reads + 1) (Ok tt) one.argument.now c.args.allocator.now one.after_call.now c.all_at_once-reported.new.last one.argument_is one.left one.call
