@@ -20,9 +20,11 @@ place_rule name = record (new_rule name) { required = true; action = Some Set }
 abbrev pub run_app : App
 run_app = with_rule (with_rule (new_app (codes "run")) (option_rule (codes "readers"))) (option_rule (codes "reads"))
 
+abbrev pub first_places_app : Text → App
+first_places_app name = with_rule (with_rule (new_app name) (place_rule (codes "seed"))) (place_rule (codes "groups"))
+
 abbrev pub sized_app : Text → App
-sized_app name =
-    with_rule (with_rule (with_rule (new_app name) (place_rule (codes "seed"))) (place_rule (codes "groups"))) (place_rule (codes "tasks"))
+sized_app name = with_rule (first_places_app name) (place_rule (codes "tasks"))
 
 abbrev pub estimate_app : App
 estimate_app = with_rule (with_rule (new_app (codes "estimate")) (place_rule (codes "window"))) (place_rule (codes "headroom"))
@@ -42,15 +44,20 @@ bare_app = record {
 }
 
 -- a subcommand for each line, in the order of the usage line
-abbrev pub first_lines : App
-first_lines =
-    with_subcommand (with_subcommand (with_subcommand (with_subcommand (with_subcommand bare_app
-    (new_shape (codes "solve"))) (new_shape (codes "check"))) run_app.top) (sized_app (codes "make")).top) (sized_app (codes "bulk")).top
+abbrev pub app_to_check : App
+app_to_check = with_subcommand (with_subcommand bare_app (new_shape (codes "solve"))) (new_shape (codes "check"))
+
+abbrev pub app_to_make : App
+app_to_make = with_subcommand (with_subcommand app_to_check run_app.top) (sized_app (codes "make")).top
+
+abbrev pub app_to_audit : App
+app_to_audit = with_subcommand (with_subcommand app_to_make (sized_app (codes "bulk")).top) (new_shape (codes "audit"))
+
+abbrev pub app_to_enforce : App
+app_to_enforce = with_subcommand (with_subcommand app_to_audit (new_shape (codes "tiers"))) (new_shape (codes "enforce"))
 
 abbrev pub bwe_app : App
-bwe_app =
-    with_subcommand (with_subcommand (with_subcommand (with_subcommand (with_subcommand first_lines
-    (new_shape (codes "audit"))) (new_shape (codes "tiers"))) (new_shape (codes "enforce"))) estimate_app.top) levels_app.top
+bwe_app = with_subcommand (with_subcommand app_to_enforce estimate_app.top) levels_app.top
 
 -- the texts that an option was given
 abbrev pub texts_in : Text → List Row → List Text

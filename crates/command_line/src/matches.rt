@@ -4,7 +4,7 @@ ghost use Rattle.std.specs.List.{list_any};
 ghost use Rattle.clap.specs.Words.{app_of, found_of, rows_of, rule_of, shape_of, subcommand_rows_of};
 ghost use Rattle.clap.specs.declared.builder.command.Command.TheViews.{out-Command};
 ghost use Rattle.command_line.specs.Lines.{estimate_in as estimate_in_texts, is_hyphens, levels_in as levels_in_text, line_of_texts, number_given as number_of_option, run_line as line_of_given, size_in as size_in_texts, texts_of};
-ghost use Rattle.command_line.specs.Matches.{bwe_app, estimate_app, estimate_given, first_lines, given_in, levels_app, levels_given, line_entered, line_met, option_rule, place_rule, run_app, size_given, sized_app, texts_in};
+ghost use Rattle.command_line.specs.Matches.{app_to_audit, app_to_check, app_to_enforce, app_to_make, bare_app, bwe_app, estimate_app, estimate_given, first_places_app, given_in, levels_app, levels_given, line_entered, line_met, option_rule, place_rule, run_app, size_given, sized_app, texts_in};
 
 use crate::CommandLine;
 use crate::number::{any_number, number_in};
@@ -30,32 +30,60 @@ pub(crate) fn line_split(
     }
 }
 
-// All lines: a subcommand for each.
+// All lines: a subcommand for each. Each step below adds two.
 fn command<'a>(alloc: Global) -> Result<Command<'a>, AllocError>
     ensures { IfOk result (λ command. app_of command ≡ bwe_app) }
 {
-    first_commands(alloc)?
-        .subcommand(Command::new(alloc, "audit"))?
-        .subcommand(Command::new(alloc, "tiers"))?
-        .subcommand(Command::new(alloc, "enforce"))?
+    lines_to_enforce(alloc)?
         .subcommand(estimate_command(alloc)?)?
         .subcommand(levels_command(alloc)?)
 }
 
-// The first five of them.
-fn first_commands<'a>(alloc: Global) -> Result<Command<'a>, AllocError>
-    ensures { IfOk result (λ command. app_of command ≡ first_lines) }
+// The lines up to `enforce`.
+fn lines_to_enforce<'a>(alloc: Global) -> Result<Command<'a>, AllocError>
+    ensures { IfOk result (λ command. app_of command ≡ app_to_enforce) }
+{
+    lines_to_audit(alloc)?
+        .subcommand(Command::new(alloc, "tiers"))?
+        .subcommand(Command::new(alloc, "enforce"))
+}
+
+// The lines up to `audit`.
+fn lines_to_audit<'a>(alloc: Global) -> Result<Command<'a>, AllocError>
+    ensures { IfOk result (λ command. app_of command ≡ app_to_audit) }
+{
+    lines_to_make(alloc)?
+        .subcommand(sized_command(alloc, "bulk")?)?
+        .subcommand(Command::new(alloc, "audit"))
+}
+
+// The lines up to `make`.
+fn lines_to_make<'a>(alloc: Global) -> Result<Command<'a>, AllocError>
+    ensures { IfOk result (λ command. app_of command ≡ app_to_make) }
+{
+    lines_to_check(alloc)?
+        .subcommand(run_command(alloc)?)?
+        .subcommand(sized_command(alloc, "make")?)
+}
+
+// `solve` and `check`.
+fn lines_to_check<'a>(alloc: Global) -> Result<Command<'a>, AllocError>
+    ensures { IfOk result (λ command. app_of command ≡ app_to_check) }
+{
+    bare_command(alloc)
+        .subcommand(Command::new(alloc, "solve"))?
+        .subcommand(Command::new(alloc, "check"))
+}
+
+// The program without a line.
+fn bare_command<'a>(alloc: Global) -> Command<'a>
+    ensures { app_of result ≡ bare_app }
 {
     Command::new(alloc, "bwe")
         .no_binary_name(true)
         .disable_help_flag(true)
         .disable_help_subcommand(true)
         .subcommand_required(true)
-        .subcommand(Command::new(alloc, "solve"))?
-        .subcommand(Command::new(alloc, "check"))?
-        .subcommand(run_command(alloc)?)?
-        .subcommand(sized_command(alloc, "make")?)?
-        .subcommand(sized_command(alloc, "bulk")?)
 }
 
 // `run`, whose options have one text for each use.
@@ -73,10 +101,17 @@ fn sized_command<'a>(alloc: Global, name: &'a str) -> Result<Command<'a>, AllocE
     ensures app { IfOk result (λ command. app_of command ≡ sized_app name.entry.now) }
     ensures local { IfOk result (λ command. (out-Command command).has_globals ≡ false) }
 {
+    first_places(alloc, name)?.arg(place(alloc, "tasks"))
+}
+
+// The first two of the places.
+fn first_places<'a>(alloc: Global, name: &'a str) -> Result<Command<'a>, AllocError>
+    ensures app { IfOk result (λ command. app_of command ≡ first_places_app name.entry.now) }
+    ensures local { IfOk result (λ command. (out-Command command).has_globals ≡ false) }
+{
     Command::new(alloc, name)
         .arg(place(alloc, "seed"))?
-        .arg(place(alloc, "groups"))?
-        .arg(place(alloc, "tasks"))
+        .arg(place(alloc, "groups"))
 }
 
 // `estimate`, with its two places.

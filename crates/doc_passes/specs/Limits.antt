@@ -1,7 +1,7 @@
--- Counts above their limits, in the order of the list and not of the walk.
+-- Counts above their limits, in the order of the list and not of the walk. The limits stand here as numbers, so that a
+-- constant of the code cannot move them.
 use Rattle.std.specs.Prelude.{ℕ, ◌+◌, List, [], ◌∷◌, length, Option, Some, None, nat_lt, if◌then◌else◌}
 use Rattle.std.specs.Option.{option_or}
-use Rattle.bwe_specs.specs.declared.limits.TheConstants.{MAX_GROUPS, MAX_REPORTERS, MAX_REPORTS}
 use Rattle.doc_passes.specs.declared.limit.What.{What}
 use Rattle.doc_passes.specs.declared.limit.What.TheVariants as counts
 use Rattle.doc_passes.specs.declared.limit.Overrun.{Overrun}
@@ -54,13 +54,13 @@ hops groups = sum_of group_hops groups
 
 abbrev pub lists_overrun : Raw → Option Overrun
 lists_overrun raw =
-    option_or (overrun_of counts.Reporters MAX_REPORTERS (length raw.reporters))
-    (option_or (overrun_of counts.Script MAX_REPORTS (length raw.script))
-    (overrun_of counts.Closings 4096 (length raw.closings)))
+    option_or (overrun_of counts.Reporters 64 (length raw.reporters))
+    (option_or (overrun_of counts.Script 200_000 (length raw.script))
+    (overrun_of counts.Closings 4_096 (length raw.closings)))
 
 unfoldable pub overrun : Raw → Option Overrun
 overrun raw =
-    option_or (overrun_of counts.Groups MAX_GROUPS (length raw.groups))
+    option_or (overrun_of counts.Groups 1_024 (length raw.groups))
     (option_or (first_some group_overrun raw.groups)
     (option_or (overrun_of counts.Hops 1_000_000 (hops raw.groups))
     (lists_overrun raw)))

@@ -1,7 +1,7 @@
--- Numbers and names in their ranges, in the order of the walk.
+-- Numbers and names in their ranges, in the order of the walk. The ranges stand here as numbers, so that a constant of
+-- the code cannot move them.
 use Rattle.std.specs.Prelude.{ℕ, ◌==◌, ◌&&◌, ◌||◌, Bool, List, length, Option, Some, None, Result, Ok, nat_le, ⊤}
 use Rattle.std.specs.List.{list_all}
-use Rattle.bwe_specs.specs.declared.limits.TheConstants.{MAX_AMOUNT, MAX_SHARE, MAX_WEIGHT}
 use Rattle.raw_document.specs.declared.key.DocKey.{DocKey}
 use Rattle.raw_document.specs.declared.key.DocKey.TheVariants as keys
 use Rattle.raw_document.specs.declared.doc_path.PathStep.{PathStep}
@@ -53,7 +53,7 @@ unfoldable pub task_range : Task → Result ⊤ (List PathStep)
 task_range task = do
   name ← member_range keys.Name (is_name task.name)
   reporter ← member_range keys.Reporter (is_name task.reporter)
-  member_range keys.Weight (is_within 1 MAX_WEIGHT task.weight)
+  member_range keys.Weight (is_within 1 1_000 task.weight)
 
 unfoldable pub job_range : Job → Result ⊤ (List PathStep)
 job_range job = do
@@ -74,8 +74,8 @@ group_range group = do
   items_range keys.Users user_range group.users
 
 abbrev pub target_range : Target → ℕ → Result ⊤ (List PathStep)
-target_range (of_task name) amount = member_range keys.Task (is_name name) >>= λ _. member_range keys.Demand (is_within 0 MAX_AMOUNT amount)
-target_range (of_link name) amount = member_range keys.Link (is_name name) >>= λ _. member_range keys.Capacity (is_within 0 MAX_AMOUNT amount)
+target_range (of_task name) amount = member_range keys.Task (is_name name) >>= λ _. member_range keys.Demand (is_within 0 1_000_000_000_000 amount)
+target_range (of_link name) amount = member_range keys.Link (is_name name) >>= λ _. member_range keys.Capacity (is_within 0 1_000_000_000_000 amount)
 
 unfoldable pub report_range : Report → Result ⊤ (List PathStep)
 report_range report = member_range keys.Reporter (is_name report.reporter) >>= λ _. target_range report.target report.amount
@@ -83,12 +83,12 @@ report_range report = member_range keys.Reporter (is_name report.reporter) >>= �
 unfoldable pub closing_range : Closing → Result ⊤ (List PathStep)
 closing_range closing = do
   link ← member_range keys.Link (is_name closing.link)
-  member_range keys.Share (is_within 0 MAX_SHARE closing.share)
+  member_range keys.Share (is_within 0 1_000_000_000 closing.share)
 
 unfoldable pub ranges : Raw → Result ⊤ (List PathStep)
 ranges raw = do
   version ← member_range keys.Version (is_within 1 3 raw.version)
-  top ← member_range keys.Top (is_within 1 MAX_SHARE raw.top)
+  top ← member_range keys.Top (is_within 1 1_000_000_000 raw.top)
   links ← items_range keys.Links link_range raw.links
   groups ← items_range keys.Groups group_range raw.groups
   reporters ← items_range keys.Reporters name_range raw.reporters

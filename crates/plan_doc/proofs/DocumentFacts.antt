@@ -1,6 +1,6 @@
 -- A document that has passed every refusal is the definition's, and meets the conditions of the calls that take its parts.
 use Rattle.std.proofs.Common.{◌≡◌, ℕ, ◌<◌, ◌≤◌, List, length, map, replicate, Option, Some, None, Result, Ok, Err, refl, sym, ap, subst, ◌∙◌, arith}
-use Rattle.std.specs.Prelude.{All, ⊤}
+use Rattle.std.specs.Prelude.{All, IfSome, ⊤}
 use Rattle.std.proofs.lemmas.List.{length-map, length-replicate}
 use Rattle.std.proofs.lemmas.List.Elements.{All-same, All-weaker}
 use Rattle.bwe_specs.specs.declared.report.Report.{Report}
@@ -33,7 +33,7 @@ use Rattle.plan_doc.specs.TreeParts.{cluster_part}
 use Rattle.plan_doc.specs.Owners.{not_owned, owner_of}
 use Rattle.plan_doc.specs.Refusals.{Refusal, refused_function, refused_links, refused_paths, refused_tree, not_owner}
 use Rattle.plan_doc.specs.Document as documents
-use Rattle.plan_doc.specs.Document.{Accepted, accepted, unless, links_of, clusters_of, document_by}
+use Rattle.plan_doc.specs.Document.{Accepted, accepted, unless, links_of, clusters_of, document_by, parts_ok}
 use Rattle.plan_doc.specs.Accepted.{tree_of, IsDocumentOf}
 use Rattle.doc_passes.specs.Passed.{HasOwnerBelow, IsReport, IsClosing, AreNamesOf, AreNumbersOf, HasPassed}
 use Rattle.plan_doc.specs.Conditions.{link_count, tasks_in, reporter_count, IsByOwner, IsUsable}
@@ -90,6 +90,31 @@ module _ (raw : raw.Raw) (names : NameLists) (numbers : Numbers) where
       let planned : after_links ≡ Ok (accepted raw names numbers) = then refused_paths (plan_fault (network_of (links_of raw)) numbers.groups) (λ _. after_paths) (Ok (accepted raw names numbers)) (ap (λ n. plan_fault n numbers.groups) (sym topology) ∙ paths) built in
       let linked : after_functions ≡ Ok (accepted raw names numbers) = then refused_links (topology_fault (links_of raw)) (λ _. after_links) (Ok (accepted raw names numbers)) links planned in
       then refused_function (refused_in_groups raw.top raw.groups) (λ _. after_functions) (Ok (accepted raw names numbers)) functions linked
+
+-- ---- a refusal of a builder
+
+err-bind : {A B : Type 0} (read : Result ⊤ Refusal) (next : ⊤ → Result A Refusal) (other : ⊤ → Result B Refusal) (refusal : Refusal)
+    → (next tt ≡ Err refusal → other tt ≡ Err refusal) → documents.◌>>=◌ read next ≡ Err refusal → documents.◌>>=◌ read other ≡ Err refusal
+err-bind (Ok u) next other refusal later is = later is
+err-bind (Err found) next other refusal later is = let same : found ≡ refusal = cc in ap Err same
+
+err-last : {B : Type 0} (read : Result ⊤ Refusal) (other : ⊤ → Result B Refusal) (refusal : Refusal) → read ≡ Err refusal → documents.◌>>=◌ read other ≡ Err refusal
+err-last (Ok u) other refusal is = absurd cc
+err-last (Err found) other refusal is = let same : found ≡ refusal = cc in ap Err same
+
+refused_first : (raw : raw.Raw) (names : NameLists) (numbers : Numbers) (refusal : Refusal) → parts_ok raw numbers.groups ≡ Err refusal → document_by raw names numbers ≡ Err refusal
+unfolding parts_ok document_by
+refused_first raw names numbers refusal is =
+    err-bind (unless refused_function (refused_in_groups raw.top raw.groups)) _ _ refusal
+    (err-bind (unless refused_links (topology_fault (links_of raw))) _ _ refusal
+    (err-bind (unless refused_paths (plan_fault (network_of (links_of raw)) numbers.groups)) _ _ refusal
+    (err-last (unless refused_tree (tree_fault (clusters_of raw))) _ refusal))) is
+
+-- the first refusal of a builder is that of the document
+pub first_refusal : (raw : raw.Raw) (names : NameLists) (numbers : Numbers) (named : Option Refusal)
+    → IfSome named (λ refusal. parts_ok raw numbers.groups ≡ Err refusal) → IfSome named (λ refusal. document_by raw names numbers ≡ Err refusal)
+first_refusal raw names numbers None is = is
+first_refusal raw names numbers (Some refusal) is = refused_first raw names numbers refusal is
 
 -- the tree of specs that were built of the groups
 pub idle_tree_is : (spec : TreeSpec) (groups : List raw.Group) → map idle_cluster spec.clusters.items ≡ map (cluster_part spec.top) groups

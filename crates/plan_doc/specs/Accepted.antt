@@ -1,13 +1,14 @@
 -- What of the definition Document the code answers.
-use Rattle.std.specs.Prelude.{◌≡◌, ℕ, List, length, replicate, Option, Some, None, Result, Ok, Err, IfSome}
+use Rattle.std.specs.Prelude.{◌≡◌, ℕ, List, length, replicate, Option, Some, None, Result, Ok, Err, IfSome, ⊤}
 use Rattle.wan_topology.specs.Network.{network_of}
 use Rattle.path_groups.specs.Given.{path_groups_of}
+use Rattle.raw_document.specs.declared.doc_path.PathStep.{PathStep}
 use Rattle.policy_tree.specs.Trees.{Tree, task_numbers}
 use Rattle.plan_doc.specs.declared.document.Document.{Document}
 use Rattle.plan_doc.specs.declared.doc_error.DocError.{DocError}
 use Rattle.plan_doc.specs.Links.{names_view}
 use Rattle.plan_doc.specs.Refusals.{Refusal, refusal_of}
-use Rattle.plan_doc.specs.Document.{Accepted, unless}
+use Rattle.plan_doc.specs.Document.{Accepted, refused_by, unless}
 
 -- the tree of an accepted document, of which nobody has asked anything
 abbrev pub tree_of : Accepted → Tree
@@ -40,3 +41,8 @@ Answers (Err error) read = NamesRefusal read error
 abbrev pub Makes : {X C : Type 0} → Result X DocError → (C → Refusal) → Option C → (X → Type 0) → Type 0
 Makes (Ok made) number fault IsMade = (fault ≡ None) × IsMade made
 Makes (Err error) number fault IsMade = NamesRefusal (unless number fault) error
+
+-- The pass lets through; else the error is the refusal of its fault, unless memory ran out.
+abbrev pub PassesBy : (List PathStep → Refusal) → Result ⊤ (List PathStep) → Result ⊤ DocError → Type 0
+PassesBy number pass (Ok passed) = pass ≡ Ok tt
+PassesBy number pass (Err error) = NamesRefusal (refused_by number pass) error

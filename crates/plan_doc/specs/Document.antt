@@ -85,6 +85,14 @@ accepted raw names numbers = record {
 
 -- ---- the passes
 
+-- refusals 7 to 10
+unfoldable pub parts_ok : Raw → List groups.Group → Result ⊤ Refusal
+parts_ok raw groups = do
+  functions_ok ← unless refused_function (refused_in_groups raw.top raw.groups)
+  links_ok ← unless refused_links (topology_fault (links_of raw))
+  paths_ok ← unless refused_paths (plan_fault (networks.network_of (links_of raw)) groups)
+  unless refused_tree (tree_fault (clusters_of raw))
+
 -- refusals 7 to 11
 unfoldable pub document_by : Raw → NameLists → Numbers → Result Accepted Refusal
 document_by raw names numbers = do
@@ -95,14 +103,24 @@ document_by raw names numbers = do
   owners_ok ← unless not_owner (not_owned numbers.task_owners numbers.link_owners 0 numbers.script)
   Ok (accepted raw names numbers)
 
+-- refusals 6 to 11 of a document with these names
+abbrev pub document_numbered : Raw → NameLists → Result Accepted Refusal
+document_numbered raw names = do
+  numbers ← refused_by unknown_name (numbers names.links names.tasks names.reporters raw)
+  document_by raw names numbers
+
+-- refusals 5 to 11
+abbrev pub document_named : Raw → Result Accepted Refusal
+document_named raw = do
+  names ← refused_by repeated_name (name_lists raw)
+  document_numbered raw names
+
 -- refusals 3 to 11
 unfoldable pub document_of_raw : Raw → Result Accepted Refusal
 document_of_raw raw = do
   counts_ok ← unless over_limit (overrun raw)
   ranges_ok ← refused_by out_of_range (ranges raw)
-  names ← refused_by repeated_name (name_lists raw)
-  numbers ← refused_by unknown_name (numbers names.links names.tasks names.reporters raw)
-  document_by raw names numbers
+  document_named raw
 
 -- refusals 2 to 11
 unfoldable pub document_of_value : Data → Result Accepted Refusal

@@ -6,7 +6,9 @@ pub mod Owners
 pub mod Refusals
 pub mod RefusalLines
 pub mod Links
+pub mod Tables
 pub mod Document
 pub mod Accepted
+pub mod Parts
 pub mod Conditions
 pub mod Plans

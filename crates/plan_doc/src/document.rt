@@ -1,6 +1,6 @@
 //! The reading of a document, pass by pass.
 
-ghost use Rattle.std.specs.Prelude.{◌≡◌, ◌≤◌, ◌<◌, ◌^◌, map, length, IfOk, IfSome};
+ghost use Rattle.std.specs.Prelude.{◌≡◌, ◌≤◌, ◌<◌, ◌^◌, None, Ok, map, length, IfOk, IfSome};
 ghost use Rattle.serde_json.specs.View.{view};
 ghost use Rattle.wan_topology.specs.Network.{network_of};
 ghost use Rattle.wan_topology.specs.Faults.{topology_fault};
@@ -12,7 +12,7 @@ ghost use Rattle.policy_tree.specs.Asked.{idle_cluster};
 ghost use Rattle.policy_tree.specs.Childless.{idle_tree};
 ghost use Rattle.raw_document.specs.Reading.{each_view};
 ghost use Rattle.raw_document.specs.Raw.{link_view, group_view, raw_view};
-ghost use Rattle.plan_doc.specs.Document.{document, document_of_value, document_of_raw, document_by, clusters_of};
+ghost use Rattle.plan_doc.specs.Document.{document, document_of_value, document_of_raw, document_named, document_numbered, document_by, clusters_of, over_limit};
 ghost use Rattle.plan_doc.specs.Functions.{refused_in_groups};
 ghost use Rattle.plan_doc.specs.TreeParts.{cluster_part};
 ghost use Rattle.doc_passes.specs.InRange.{IsInRange};
@@ -20,26 +20,30 @@ ghost use Rattle.doc_passes.specs.Counts.{task_count};
 ghost use Rattle.plan_doc.specs.Links.{link_part, names_view};
 ghost use Rattle.doc_passes.specs.NumbersView.{numbers_view};
 ghost use Rattle.plan_doc.specs.Owners.{not_owned};
-ghost use Rattle.plan_doc.specs.Refusals.{refused_function, refused_links, refused_paths, refused_tree, not_owner};
-ghost use Rattle.plan_doc.specs.Accepted.{Answers, Makes};
+ghost use Rattle.plan_doc.specs.Refusals.{out_of_range, refused_function, refused_links, refused_paths, refused_tree, not_owner};
+ghost use Rattle.plan_doc.specs.Accepted.{Answers, Makes, PassesBy};
+ghost use Rattle.plan_doc.specs.Names.{name_lists};
+ghost use Rattle.plan_doc.specs.Parts.{BuildsParts};
+ghost use Rattle.plan_doc.specs.Tables.{tables_view};
+ghost use Rattle.doc_passes.specs.Limits.{overrun};
+ghost use Rattle.doc_passes.specs.Ranges.{ranges};
 ghost use Rattle.doc_passes.specs.Passed.{HasPassed};
 ghost use Rattle.plan_doc.specs.Conditions.{IsUsable};
 
 use crate::doc_error::DocError;
 use crate::functions::cluster_specs;
-use crate::names::{link_specs, names_of};
+use crate::names::{Tables, link_specs, names_of, tables_of};
 use crate::nodes::has_node_numbers;
 use crate::owner::find_not_owned;
 use bwe_specs::{Closing, MAX_GROUPS, MAX_SHARE, Report};
 use doc_names::Names;
-use doc_passes::{
-    DocumentNumbers, NameTable, check_ranges, document_numbers, fill_tables, find_overrun,
-};
+use doc_passes::{DocumentNumbers, check_ranges, document_numbers, find_overrun};
 use json::Scratch;
 use path_groups::{GroupSpec, PathError, PathPlan};
 use policy_tree::{ClusterSpec, PolicyTree, TreeError, TreeSpec};
-use raw_document::{JsonError, RawDocument, RawGroup, RawLink, read_json, read_shape};
+use raw_document::{RawDocument, RawGroup, RawLink};
 use raw_reader::read_straight;
+use raw_shape::{JsonError, read_json, read_shape};
 use serde_json::Value;
 use std::alloc::Global;
 use wan_topology::{Topology, TopologyError};
@@ -147,6 +151,34 @@ fn check_owners(
     }
 }
 
+// What is built of a document.
+#[derive(Drop)]
+struct Parts {
+    tree: PolicyTree,
+    topology: Topology,
+    plan: PathPlan,
+}
+
+// The parts, or the first of the refusals 7 to 10.
+#[tactic(auto, unfolding(crate::specs::Document::parts_ok))]
+fn build_parts(alloc: Global, raw: &RawDocument, groups: Vec<GroupSpec>) -> Result<Parts, DocError>
+    requires range { IsInRange (raw_view raw.now) }
+    requires tasks { task_count (raw_view raw.now).groups < 2 ^ 64 }
+    requires few { length groups.items ≤ MAX_GROUPS }
+    requires in_range { AreInRange (length (raw_view raw.now).links) (groups_of groups.items) }
+    ensures { BuildsParts (raw_view raw.now) (groups_of groups.items) result }
+{
+    let clusters = build_clusters(alloc, &raw.groups, raw.top)?;
+    let topology = build_topology(alloc, &raw.links)?;
+    let plan = build_plan(alloc, &topology, groups)?;
+    let tree = build_tree(alloc, raw, clusters)?;
+    Ok(Parts {
+        tree,
+        topology,
+        plan,
+    })
+}
+
 /// The document that has passed the refusals 3 to 6, or the first of the refusals 7 to 11.
 #[tactic(auto, unfolding(crate::specs::Document::document_by))]
 fn build_document(
@@ -167,15 +199,15 @@ fn build_document(
         script,
         closings,
     } = numbers;
-    let clusters = build_clusters(alloc, &raw.groups, raw.top)?;
-    let topology = build_topology(alloc, &raw.links)?;
-    let plan = build_plan(alloc, &topology, groups)?;
-    let tree = build_tree(alloc, raw, clusters)?;
+    let parts = match build_parts(alloc, raw, groups) {
+        Ok(parts) => parts,
+        Err(error) => return Err(error),
+    };
     check_owners(&task_owners, &link_owners, &script)?;
     Ok(Document {
-        tree,
-        topology,
-        plan,
+        tree: parts.tree,
+        topology: parts.topology,
+        plan: parts.plan,
         script,
         closings,
         names,
@@ -184,47 +216,80 @@ fn build_document(
     })
 }
 
+// Nothing, or refusal 3.
+fn check_counts(raw: &RawDocument) -> Result<(), DocError>
+    ensures { Makes result over_limit (overrun (raw_view raw.now)) (λ _. Unit) }
+{
+    match find_overrun(raw) {
+        Ok(None) => Ok(()),
+        Ok(Some(overrun)) => Err(DocError::Limit {
+            what: overrun.what,
+            count: overrun.count,
+        }),
+        Err(_) => Err(DocError::OutOfMemory),
+    }
+}
+
+// Nothing, or refusal 4.
+fn check_each_range(alloc: Global, raw: &RawDocument) -> Result<(), DocError>
+    ensures { PassesBy out_of_range (ranges (raw_view raw.now)) result }
+{
+    match check_ranges(alloc, raw) {
+        Ok(()) => Ok(()),
+        Err(fault) => Err(DocError::range(fault)),
+    }
+}
+
+// The document of these names, or the first of the refusals 6 to 11.
+fn document_from_names(
+    alloc: Global,
+    raw: &RawDocument,
+    tables: &Tables,
+) -> Result<Document, DocError>
+    requires few { overrun (raw_view raw.now) ≡ None }
+    requires range { ranges (raw_view raw.now) ≡ Ok tt }
+    requires names { name_lists (raw_view raw.now) ≡ Ok (tables_view tables.now) }
+    ensures exact { Answers result (document_numbered (raw_view raw.now) (tables_view tables.now)) }
+    ensures usable { IfOk result IsUsable }
+{
+    let numbers = match document_numbers(
+        alloc,
+        raw,
+        &tables.links,
+        &tables.tasks,
+        &tables.reporters,
+    ) {
+        Ok(numbers) => numbers,
+        Err(fault) => return Err(DocError::unknown_name(fault)),
+    };
+    match names_of(alloc, tables) {
+        Ok(names) => build_document(alloc, raw, names, numbers),
+        Err(_) => Err(DocError::OutOfMemory),
+    }
+}
+
+// The document of the raw one that is in its limits and ranges, or the first of the refusals 5 to 11.
+fn document_in_range(alloc: Global, raw: &RawDocument) -> Result<Document, DocError>
+    requires few { overrun (raw_view raw.now) ≡ None }
+    requires range { ranges (raw_view raw.now) ≡ Ok tt }
+    ensures exact { Answers result (document_named (raw_view raw.now)) }
+    ensures usable { IfOk result IsUsable }
+{
+    match tables_of(alloc, raw) {
+        Ok(tables) => document_from_names(alloc, raw, &tables),
+        Err(fault) => Err(DocError::repeated_name(fault)),
+    }
+}
+
 /// The document of the raw one, or the first of the refusals 3 to 11.
 #[tactic(auto, unfolding(crate::specs::Document::document_of_raw))]
 fn document_from_raw(alloc: Global, raw: &RawDocument) -> Result<Document, DocError>
     ensures exact { Answers result (document_of_raw (raw_view raw.now)) }
     ensures usable { IfOk result IsUsable }
 {
-    match find_overrun(raw) {
-        Ok(None) => (),
-        Ok(Some(overrun)) => {
-            return Err(DocError::Limit {
-                what: overrun.what,
-                count: overrun.count,
-            });
-        }
-        Err(_) => return Err(DocError::OutOfMemory),
-    }
-    if let Err(fault) = check_ranges(alloc, raw) {
-        return Err(DocError::range(fault));
-    }
-    let mut links = NameTable::new(alloc);
-    let mut groups = NameTable::new(alloc);
-    let mut tasks = NameTable::new(alloc);
-    let mut reporters = NameTable::new(alloc);
-    if let Err(fault) = fill_tables(
-        alloc,
-        raw,
-        &mut links,
-        &mut groups,
-        &mut tasks,
-        &mut reporters,
-    ) {
-        return Err(DocError::repeated_name(fault));
-    }
-    let numbers = match document_numbers(alloc, raw, &links, &tasks, &reporters) {
-        Ok(numbers) => numbers,
-        Err(fault) => return Err(DocError::unknown_name(fault)),
-    };
-    match names_of(alloc, &links, &groups, &tasks, &reporters) {
-        Ok(names) => build_document(alloc, raw, names, numbers),
-        Err(_) => Err(DocError::OutOfMemory),
-    }
+    check_counts(raw)?;
+    check_each_range(alloc, raw)?;
+    document_in_range(alloc, raw)
 }
 
 /// The document of the JSON value, or the first of the refusals 2 to 11.

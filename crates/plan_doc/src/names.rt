@@ -1,32 +1,61 @@
 //! The names of a document, and its links as they are given to the topology.
 
 ghost use Rattle.std.specs.Prelude.{◌≡◌, map, IfOk};
-ghost use Rattle.raw_document.specs.Raw.{link_view};
+ghost use Rattle.raw_document.specs.Raw.{link_view, raw_view};
+ghost use Rattle.raw_document.specs.Reading.{Gives};
 ghost use Rattle.wan_topology.specs.Held.{link_of, links_of};
 ghost use Rattle.plan_doc.specs.Links.{link_part, names_view};
+ghost use Rattle.plan_doc.specs.Names.{name_lists};
+ghost use Rattle.plan_doc.specs.Tables.{tables_view};
 
 use doc_names::Names;
-use doc_passes::NameTable;
-use raw_document::RawLink;
+use doc_passes::{NameTable, fill_tables};
+use raw_document::{Fault, RawDocument, RawLink};
 use std::alloc::{AllocError, Global};
 use wan_topology::LinkSpec;
 
+/// The names of a document, in their tables.
+#[derive(Drop)]
+pub struct Tables<'a> {
+    pub links: NameTable<'a>,
+    pub groups: NameTable<'a>,
+    pub tasks: NameTable<'a>,
+    pub reporters: NameTable<'a>,
+}
+
+/// The tables of the document's names, or the first name that stood before.
+pub fn tables_of<'a>(alloc: Global, raw: &RawDocument<'a>) -> Result<Tables<'a>, Fault>
+    ensures { Gives tables_view result (name_lists (raw_view raw.now)) }
+{
+    let mut links = NameTable::new(alloc);
+    let mut groups = NameTable::new(alloc);
+    let mut tasks = NameTable::new(alloc);
+    let mut reporters = NameTable::new(alloc);
+    fill_tables(
+        alloc,
+        raw,
+        &mut links,
+        &mut groups,
+        &mut tasks,
+        &mut reporters,
+    )?;
+    Ok(Tables {
+        links,
+        groups,
+        tasks,
+        reporters,
+    })
+}
+
 /// The names that the tables hold.
-pub fn names_of(
-    alloc: Global,
-    links: &NameTable,
-    groups: &NameTable,
-    tasks: &NameTable,
-    reporters: &NameTable,
-) -> Result<Names, AllocError>
-    ensures { IfOk result (λ names. names_view names ≡
-        record { links = links.now; groups = groups.now; tasks = tasks.now; reporters = reporters.now }) }
+pub fn names_of(alloc: Global, tables: &Tables) -> Result<Names, AllocError>
+    ensures { IfOk result (λ names. names_view names ≡ tables_view tables.now) }
 {
     Ok(Names {
-        links: links.copies(alloc)?,
-        groups: groups.copies(alloc)?,
-        tasks: tasks.copies(alloc)?,
-        reporters: reporters.copies(alloc)?,
+        links: tables.links.copies(alloc)?,
+        groups: tables.groups.copies(alloc)?,
+        tasks: tables.tasks.copies(alloc)?,
+        reporters: tables.reporters.copies(alloc)?,
     })
 }
 

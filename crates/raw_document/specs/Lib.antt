@@ -4,6 +4,4 @@ pub mod Shape
 pub mod Raw
 pub mod Visits
 pub mod Forms
-pub mod Parts
 pub mod Json
-pub mod Members

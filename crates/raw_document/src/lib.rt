@@ -1,26 +1,19 @@
-//! A document's JSON and its shape: the first two passes of reading it.
+//! A document with its shape found, as data: its keys, the paths of its places, and the going through of its lists.
 //!
-//! `plan_doc` above calls `read_json` and then `read_shape`, and builds its later passes with `each_of`, `check_each` and `under`.
-//! What a reader answers is its definition's answer: the value, or the path of the first fault in the order of the walk.
-//! Names are lent by the JSON value and not copied. Nothing is promised of ranges, limits, or names that refer to others.
+//! `specs/` says what JSON is, which values have the shape of a document, and what is read of them. `raw_shape` reads so by
+//! the tree of the JSON value, `raw_reader` straight from the tokens, and the passes behind are built with `each_of`,
+//! `check_each` and `under`. Names are lent by the text. Nothing is promised of ranges, limits, or names that refer to others.
 #![tactic(auto)]
 
 mod doc_path;
-mod json;
 mod key;
 mod raw;
-mod shape;
 mod walk;
 
 pub use doc_path::{DocPath, Fault, PathStep};
-pub use json::{JsonError, read_json};
 pub use key::DocKey;
 pub use raw::{
     RawClosing, RawDocument, RawGroup, RawJob, RawLink, RawPath, RawReport, RawTarget, RawTask,
     RawUser,
 };
-pub use shape::forms::read_shape;
 pub use walk::{check_each, each_of, under};
-
-#[cfg(test)]
-mod tests;

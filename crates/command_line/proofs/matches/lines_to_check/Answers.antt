@@ -1,0 +1,11 @@
+use Rattle.std.proofs.Common.{codes}
+use Rattle.std.proofs.lemmas.Result.{IfOk-weaker}
+use Rattle.clap.specs.Simple.{new_app}
+use Rattle.command_line.specs.Matches.{bare_app}
+use Rattle.command_line.proofs.Apps.{with_sub}
+use Rattle.command_line.proofs.matches.lines_to_check.Goals as goal
+
+pub returns : goal.returns
+returns c =
+    let solve = with_sub _ _ _ bare_app (new_app (codes "solve")) c.bare_command.ensures c.new.ensures.app c.new.ensures.local c.in_ok-subcommand.ensures in
+    IfOk-weaker c.subcommand-2.result _ _ (λ made adds. with_sub _ _ made _ (new_app (codes "check")) solve c.new-2.ensures.app c.new-2.ensures.local adds) c.subcommand-2.ensures
