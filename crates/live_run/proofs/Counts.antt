@@ -1,6 +1,6 @@
 -- Counts of faults over several calls.
-use Rattle.std.proofs.Common.{◌≡◌, ◌⊎◌, inl, inr, ℕ, ◌<◌, ◌≤◌, arith}
-use Rattle.bwe_io.specs.Faults.{HasRisen, last_count}
+use Rattle.std.proofs.Common.{inl, inr, ℕ, ◌≤◌, arith}
+use Rattle.bwe_io.specs.Faults.{HasRisen}
 use Rattle.live_stream.specs.Talk.{Faults, NeverFall}
 
 pub NeverFall-same : (a : Faults) → NeverFall a a

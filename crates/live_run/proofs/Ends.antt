@@ -1,8 +1,8 @@
 -- How a conversation ends, from what its document is.
-use Rattle.std.proofs.Common.{◌≡◌, ◌∙◌, ◌⊎◌, inl, inr, ℕ, ◌+◌, ◌≤◌, Bool, true, false, cond, List, [], ◌∷◌, ◌++◌, Option, Some, None, Result, Ok, Err, ap, refl, sym, subst, arith, length, take, drop, append-nil, length-append}
+use Rattle.std.proofs.Common.{◌≡◌, ◌∙◌, ℕ, ◌+◌, ◌-◌, ◌≤◌, Bool, true, false, cond, List, [], ◌++◌, Option, Some, Result, Ok, Err, ap, refl, sym, subst, arith, length, take, drop, append-nil, length-append}
 use Rattle.std.specs.Prelude.{MatchResult, IfOk, IfErr}
 use Rattle.std.proofs.Math.Seq.{take-append-add}
-use Rattle.std.proofs.lemmas.List.{take-append-drop, take-append-le}
+use Rattle.std.proofs.lemmas.List.{take-append-drop, take-append-le, take_rest}
 use Rattle.bwe_io.specs.Faults.{HasRisen}
 use Rattle.live_lines.specs.Cutting.{Held, lines_from, held_after}
 use Rattle.live_stream.specs.Talk.{Faults, NeverFall, Talk, IsOver}
@@ -10,11 +10,12 @@ use Rattle.two_part.specs.declared.Parts.{Parts}
 use Rattle.two_part.specs.TwoPart.{parts_of}
 use Rattle.live_run.specs.declared.ending.Stop.{Stop}
 use Rattle.live_run.specs.declared.ending.Stop.TheVariants.{ReadFault, WriteFault, OutOfMemory}
-use Rattle.live_run.specs.Follow.{Follow, answers, called_for, document_in, follow_text, text_at}
+use Rattle.live_run.specs.Follow.{Follow, answers, called_for, document_in, text_at}
 use Rattle.live_run.specs.Conversation.{Passed, Converses}
-use Rattle.live_run.specs.Answers.{AnswersPart, AnswersPiece, Brings, Gives, GivesFirst, IsAtEnd, IsBefore, IsBehind, IsUpTo, answers_to}
-use Rattle.live_run.specs.Endings.{AreWhole, Ending, no_words, ended, refused, no_document, too_long, read_fault, write_fault, out_of_memory, HasStopped, IsDue, IsFirstOfDue, IsJudged, IsServed, so_far, stop_status}
+use Rattle.live_run.specs.Answers.{AnswersPiece, Brings, Gives, GivesFirst, IsAtEnd, IsBefore, IsBehind, IsUpTo, answers_to}
+use Rattle.live_run.specs.Endings.{AreWhole, Ending, GoesOn, no_words, ended, refused, no_document, too_long, read_fault, write_fault, out_of_memory, HasStopped, IsDue, IsFirstOfDue, IsJudged, IsServed, so_far, stop_status}
 use Rattle.live_run.proofs.Conversing.{Converses-append, Converses-gives}
+use Rattle.live_run.proofs.Fronts.{before-parts}
 use Rattle.live_run.proofs.LinesBehind.{calls-behind, calls-more}
 use Rattle.live_run.proofs.Counts.{HasRisen-after}
 use Rattle.live_run.proofs.Steps.{HasStopped-after, first-due}
@@ -45,10 +46,14 @@ unfolding lines_from held_after
 behind-nothing has_followed document follower held followed same = record { followed = followed; held_so = same }
 
 -- an accepted document whose front this is, is judged so whatever comes behind it
-pub judged : (follow : Follow) (front document behind read : List ℕ) → IsBefore follow front document → read ≡ front ++ behind → IsJudged true follow read
-judged follow front document behind read before same =
-    subst (λ r. IsJudged true follow r) (sym same)
-    (before.parts, before.found behind, ap follow.accepts (before.document_so behind) ∙ before.accepted)
+pub judged : (follow : Follow) (front document behind read : List ℕ) → IsBefore follow front document → length document ≤ 67_108_864 → read ≡ front ++ behind → IsJudged true follow read
+judged follow front document behind read before few same =
+    subst (λ r. IsJudged true follow r) (sym same) (record {
+      parts = before.parts;
+      found = before.found behind;
+      few = subst (λ (d : List ℕ). length d ≤ 67_108_864) (sym (before.document_so behind)) few;
+      judged = ap follow.accepts (before.document_so behind) ∙ before.accepted;
+    })
 
 -- a refused document calls for its first text alone
 pub refused-text : (follow : Follow) (bytes : List ℕ) (parts : Parts) → parts_of bytes ≡ Some parts → follow.accepts (document_in bytes parts) ≡ false
@@ -89,6 +94,54 @@ module _ (follow : Follow) (front document : List ℕ) (before : IsBefore follow
       first-due follow 0 bytes (follow.first_text document) text (called_for follow bytes) count so_far
       (ap (called_for follow) same ∙ opened-called piece text brings) within
 
+-- what has been read behind the front of an opened document, and that its lines are answered
+module _ (follow : Follow) (bytes : List ℕ) (parts : Parts) (found : parts_of bytes ≡ Some parts) (accepted : follow.accepts (document_in bytes parts) ≡ true) where
+  abbrev front : List ℕ
+  front = take parts.end bytes
+
+  abbrev document : List ℕ
+  document = document_in bytes parts
+
+  pub before-opened : IsBefore follow front document
+  before-opened = before-parts follow bytes parts found accepted
+
+  pub behind-opened : (read : List ℕ) → read ≡ bytes → bytes ≡ front ++ take (length read - parts.end) (drop parts.end read)
+  behind-opened read same =
+      parted bytes parts ∙ ap (λ (rest : List ℕ). front ++ rest) (ap (drop parts.end) (sym same) ∙ sym (take_rest read parts.end))
+
+  pub up-to-opened : {F : Type 0} (has_followed : F → List ℕ → List Held → Type 0) (follower : F) (held : Held) (piece text : List ℕ) → bytes ≡ front ++ piece
+      → IsBehind has_followed document follower held piece → Brings follow document [] piece text
+      → IsUpTo follow has_followed front document follower held (record { read = bytes; written = follow.first_text document ++ text })
+  up-to-opened has_followed follower held piece text same behind brings = record {
+    behind = piece;
+    is_behind = behind;
+    read_so = same;
+    written_so = sym (ap (called_for follow) same ∙ opened-called follow front document before-opened piece text brings);
+  }
+
+  ends-behind : (after : Passed) (talk : Option Talk) (a b c : Faults) (result : Result ℕ Stop) → length document ≤ 67_108_864 → NeverFall a b
+      → MatchResult result (λ status. (status ≡ 0) × IsOver talk × IsAtEnd follow front after) (HasStopped follow 0 b c after)
+      → MatchResult result (Ending follow 0 talk a c after) (HasStopped follow 0 a c after)
+  ends-behind after talk a b c (Ok status) few never end =
+      subst (λ (s : ℕ). Ending follow 0 talk a c after s) (sym end.0)
+      (ended refl end.1 (judged follow front document end.2.behind after.read before-opened few end.2.read_so) end.2.written_so)
+  ends-behind after talk a b c (Err stop) few never stopped = HasStopped-after follow a b c after stop never stopped
+
+  -- what follows the answers to these lines follows the first text
+  pub goes-behind : {F : Type 0} (has_followed : F → List ℕ → List Held → Type 0) (follower : F) (held : Held) (first then last : Option Talk) (a b c : Faults) (piece : List ℕ) (result : Result ℕ Stop)
+      → length document ≤ 67_108_864 → bytes ≡ front ++ piece → IsBehind has_followed document follower held piece → AnswersPiece follow document first then [] piece → NeverFall a b
+      → ((passed : Passed) → IsUpTo follow has_followed front document follower held passed
+      → (after : Passed) × Converses follow then last passed after × MatchResult result (λ status. (status ≡ 0) × IsOver last × IsAtEnd follow front after) (HasStopped follow 0 b c after))
+      → GoesOn follow first last a c (record { read = bytes; written = follow.first_text document }) result
+  goes-behind has_followed follower held first then last a b c piece result few same behind done never lines =
+      let text : List ℕ = follow.first_text document in
+      let passed : Passed = record { read = bytes; written = text ++ done.text } in
+      let ends = lines passed (up-to-opened has_followed follower held piece done.text same behind done.brings) in (
+        ends.0,
+        Converses-append follow first then last _ passed ends.0 (Converses-gives follow first then bytes text done.text (text ++ done.text) done.gives refl) ends.1,
+        ends-behind ends.0 last a b c result few never ends.2,
+      )
+
 -- a first part of the first text
 pub first-part : (follow : Follow) (bytes : List ℕ) (parts : Parts) (count : ℕ) → parts_of bytes ≡ Some parts → count ≤ length (follow.first_text (document_in bytes parts))
     → IsFirstOfDue follow 0 (record { read = bytes; written = take count (follow.first_text (document_in bytes parts)) })
@@ -108,7 +161,7 @@ pub Ending-after : (follow : Follow) (talk : Option Talk) (a b c : Faults) (p : 
 Ending-after follow talk a b c p status never (no_words some read written) = no_words some read written
 Ending-after follow talk a b c p status never (ended none over accepted written) = ended none over accepted written
 Ending-after follow talk a b c p status never (refused none judged written) = refused none judged written
-Ending-after follow talk a b c p status never (no_document none parts why written) = no_document none parts why written
+Ending-after follow talk a b c p status never (no_document none parts short why written) = no_document none parts short why written
 Ending-after follow talk a b c p status never (too_long none says written) = too_long none says written
 Ending-after follow talk a b c p status never (read_fault risen written) = read_fault (HasRisen-after a.reads b.reads c.reads never.reads risen) written
 Ending-after follow talk a b c p status never (write_fault risen first) = write_fault (HasRisen-after a.writes b.writes c.writes never.writes risen) first

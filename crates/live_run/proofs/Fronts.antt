@@ -1,5 +1,5 @@
 -- What the first bytes of an input say of its front.
-use Rattle.std.proofs.Common.{◌≡◌, ◌∙◌, ℕ, suc, ◌+◌, ◌<◌, ◌≤◌, Bool, true, false, cond, ◌&&◌, ◌==◌, List, [], ◌∷◌, ◌++◌, length, get_or, take, drop, Option, Some, None, refl, sym, ap, subst, nat_lt, nat_le, arith, append_assoc, length-append, add-one}
+use Rattle.std.proofs.Common.{◌≡◌, ◌∙◌, ℕ, suc, ◌+◌, ◌<◌, ◌≤◌, Bool, true, false, ◌&&◌, ◌==◌, List, [], ◌∷◌, ◌++◌, length, get_or, take, drop, Option, Some, None, refl, sym, ap, subst, nat_lt, nat_le, arith, append_assoc, length-append}
 use Rattle.std.specs.Prelude.{position}
 use Rattle.std.specs.Char.{is_ascii_digit}
 use Rattle.std.specs.List.{position_or_len}
@@ -9,14 +9,13 @@ use Rattle.std.proofs.Math.Seq.{take-append_seam, drop-append_seam, drop-append-
 use Rattle.std.proofs.lemmas.Bool.{eqb-true, ltb-false, ltb-true, leb-true, le-leb, leb-false, ne_eqb, and_parts}
 use Rattle.std.proofs.lemmas.List.{take-append-le, take-append-drop, take_at}
 use Rattle.std.proofs.lemmas.List.Quantifiers.{position-Some}
-use Rattle.one_run.specs.Endings.{max_input}
 use Rattle.text_scan.specs.Numbers.{is_number, number_of}
 use Rattle.two_part.specs.declared.Parts.{Parts}
 use Rattle.two_part.specs.TwoPart.{IsTwoPart, AreParts, parts_behind, parts_of}
 use Rattle.two_part.proofs.PartsFacts.{parts_found, parts_complete}
 use Rattle.live_run.specs.Follow.{Follow, document_in}
 use Rattle.live_run.specs.Answers.{IsBefore}
-use Rattle.live_run.specs.Front.{HasNoDocument, SaysTooLong}
+use Rattle.live_run.specs.Front.{HasDocument, HasNoDocument, SaysNotTooLong, SaysTooLong}
 
 abbrev is_line_feed : ℕ → Bool
 is_line_feed byte = byte == 10
@@ -134,11 +133,11 @@ missing-unended bytes e some wrong = λ more. no_parts (bytes ++ more) (λ digit
 
 -- ---- a number that is too great
 
-above : (digits : List ℕ) → is_number digits ≡ true → number_of digits ≡ None → max_input < digits_value 10 digits
+above : (digits : List ℕ) → is_number digits ≡ true → number_of digits ≡ None → 67_108_864 < digits_value 10 digits
 unfolding number_of
 above digits number none = go (nat_lt (digits_value 10 digits) 18446744073709551616) refl
   where
-    go : (b : Bool) → nat_lt (digits_value 10 digits) 18446744073709551616 ≡ b → max_input < digits_value 10 digits
+    go : (b : Bool) → nat_lt (digits_value 10 digits) 18446744073709551616 ≡ b → 67_108_864 < digits_value 10 digits
     go true h = absurd (let f : Some (digits_value 10 digits) ≡ None = sym (rw (number, h) refl) ∙ none in cc)
     go false h = omega (arith, ltb-false (digits_value 10 digits) 18446744073709551616 h)
 
@@ -150,7 +149,7 @@ exactly digits number is some = go (nat_lt (digits_value 10 digits) 184467440737
     go false h = absurd (let f : None ≡ Some number = sym (rw (is, h) refl) ∙ some in cc)
     go true h = let f : Some (digits_value 10 digits) ≡ Some number = sym (rw (is, h) refl) ∙ some in cc
 
-too_long : (bytes : List ℕ) (at : ℕ) → position is_line_feed bytes ≡ Some at → is_number (take at bytes) ≡ true → max_input < digits_value 10 (take at bytes) → SaysTooLong bytes
+too_long : (bytes : List ℕ) (at : ℕ) → position is_line_feed bytes ≡ Some at → is_number (take at bytes) ≡ true → 67_108_864 < digits_value 10 (take at bytes) → SaysTooLong bytes
 too_long bytes at e number great =
     let stands = position-Some is_line_feed bytes at 0 e in
     record {
@@ -165,9 +164,35 @@ too_long bytes at e number great =
 pub too_long-none : (bytes : List ℕ) (at : ℕ) → position is_line_feed bytes ≡ Some at → is_number (take at bytes) ≡ true → number_of (take at bytes) ≡ None → SaysTooLong bytes
 too_long-none bytes at e number none = too_long bytes at e number (above (take at bytes) number none)
 
-pub too_long-some : (bytes : List ℕ) (at great : ℕ) → position is_line_feed bytes ≡ Some at → is_number (take at bytes) ≡ true → number_of (take at bytes) ≡ Some great → max_input < great → SaysTooLong bytes
+pub too_long-some : (bytes : List ℕ) (at great : ℕ) → position is_line_feed bytes ≡ Some at → is_number (take at bytes) ≡ true → number_of (take at bytes) ≡ Some great → 67_108_864 < great → SaysTooLong bytes
 too_long-some bytes at great e number some more =
     too_long bytes at e number (omega (arith, exactly (take at bytes) great number some, more))
+
+-- ---- a number that is not
+
+digits-stand : (bytes : List ℕ) (says : SaysTooLong bytes) → position_or_len is_line_feed bytes ≡ length says.digits
+digits-stand bytes says =
+    let alone = and_parts (all_ascii_digits says.digits) (nat_le 1 (length says.digits) && nat_le (length says.digits) 20) says.number in
+    ap (position_or_len is_line_feed) says.in_order ∙ behind_digits says.digits says.rest alone.0
+
+digits-are : (bytes : List ℕ) (at : ℕ) → position is_line_feed bytes ≡ Some at → (says : SaysTooLong bytes) → take at bytes ≡ says.digits
+digits-are bytes at e says =
+    let same : at ≡ length says.digits = sym (is_first bytes at e).0 ∙ digits-stand bytes says in
+    ap (take at) says.in_order ∙ take_at says.digits (10 ∷ says.rest) at (sym same)
+
+pub short-unended : (bytes : List ℕ) → position is_line_feed bytes ≡ None → SaysNotTooLong bytes
+short-unended bytes e says =
+    let whole : length bytes ≡ length says.digits + length (10 ∷ says.rest) = ap length says.in_order ∙ length-append says.digits (10 ∷ says.rest) in
+    omega (arith, is_none bytes e, digits-stand bytes says, whole)
+
+pub short-missing : (bytes : List ℕ) (at : ℕ) → position is_line_feed bytes ≡ Some at → is_number (take at bytes) ≡ false → SaysNotTooLong bytes
+short-missing bytes at e wrong says =
+    let right : is_number (take at bytes) ≡ true = ap is_number (digits-are bytes at e says) ∙ says.number in
+    let clash : true ≡ false = sym right ∙ wrong in cc
+
+pub short-number : (bytes : List ℕ) (at number : ℕ) → position is_line_feed bytes ≡ Some at → is_number (take at bytes) ≡ true → number_of (take at bytes) ≡ Some number → number ≤ 67_108_864 → SaysNotTooLong bytes
+short-number bytes at number e is some few says =
+    omega (arith, exactly (take at bytes) number is some, ap (digits_value 10) (digits-are bytes at e says), says.above, few)
 
 -- ---- a whole document
 
@@ -184,18 +209,26 @@ before-two follow digits document two accepted =
       accepted = accepted;
     }
 
+-- the bytes up to the end of their document, and the document
+parts-end : (bytes : List ℕ) (parts : Parts) (are : AreParts bytes parts) → take parts.end bytes ≡ are.digits ++ 10 ∷ are.document
+parts-end bytes parts are =
+    let front : List ℕ = are.digits ++ 10 ∷ are.document in
+    let whole : bytes ≡ front ++ are.rest = are.two_part.in_order ∙ sym (append_assoc are.digits (10 ∷ are.document) are.rest) in
+    let front_length : length front ≡ length are.digits + 1 + length are.document = omega (arith, length-append are.digits (10 ∷ are.document)) in
+    ap (λ (p : Parts). take p.end bytes) are.are ∙ ap (take (length are.digits + 1 + length are.document)) whole ∙ take_at front are.rest (length are.digits + 1 + length are.document) front_length
+
+document-lies : (bytes : List ℕ) (parts : Parts) (are : AreParts bytes parts) → document_in bytes parts ≡ are.document
+document-lies bytes parts are =
+    ap (λ (b : List ℕ). drop parts.start b) (parts-end bytes parts are) ∙ ap (λ (p : Parts). drop p.start (are.digits ++ 10 ∷ are.document)) are.are
+    ∙ drop-append-add are.digits (10 ∷ are.document) 1
+
 -- the bytes up to the end of their document are before what follows
 pub before-parts : (follow : Follow) (bytes : List ℕ) (parts : Parts) → parts_of bytes ≡ Some parts → follow.accepts (document_in bytes parts) ≡ true
     → IsBefore follow (take parts.end bytes) (document_in bytes parts)
 before-parts follow bytes parts e accepted =
     let are = parts_found bytes (Some parts) (sym e) in
-    let front : List ℕ = are.digits ++ 10 ∷ are.document in
-    let whole : bytes ≡ front ++ are.rest = are.two_part.in_order ∙ sym (append_assoc are.digits (10 ∷ are.document) are.rest) in
-    let front_length : length front ≡ length are.digits + 1 + length are.document = omega (arith, length-append are.digits (10 ∷ are.document)) in
-    let ends : take parts.end bytes ≡ front =
-    ap (λ (p : Parts). take p.end bytes) are.are ∙ ap (take (length are.digits + 1 + length are.document)) whole ∙ take_at front are.rest (length are.digits + 1 + length are.document) front_length in
-    let lies : document_in bytes parts ≡ are.document =
-    ap (λ (b : List ℕ). drop parts.start b) ends ∙ ap (λ (p : Parts). drop p.start front) are.are ∙ drop-append-add are.digits (10 ∷ are.document) 1 in
+    let ends = parts-end bytes parts are in
+    let lies = document-lies bytes parts are in
     let two : (behind : List ℕ) → IsTwoPart (are.digits ++ 10 ∷ (are.document ++ behind)) are.digits are.document behind =
     λ behind. record {
       in_order = refl;
@@ -216,6 +249,30 @@ parts-within bytes parts e =
       omega (arith, ap (λ (p : Parts). p.start) are.are, ap (λ (p : Parts). p.end) are.are),
       omega (arith, whole, length-append are.document are.rest, ap (λ (p : Parts). p.end) are.are),
     )
+
+-- a document that is in front is no longer than one may be
+pub has-document : (bytes : List ℕ) (parts : Parts) → parts_of bytes ≡ Some parts → SaysNotTooLong bytes → HasDocument bytes parts
+has-document bytes parts e short =
+    let are = parts_found bytes (Some parts) (sym e) in
+    let lies = parts-within bytes parts e in record {
+      found = e;
+      start = lies.0;
+      end = lies.1;
+      few = subst (λ (document : List ℕ). length document ≤ 67_108_864) (sym (document-lies bytes parts are)) (few bytes parts are short);
+    }
+  where
+    few : (bytes : List ℕ) (parts : Parts) (are : AreParts bytes parts) → SaysNotTooLong bytes → length are.document ≤ 67_108_864
+    few bytes parts are short = go (nat_le (length are.document) 67_108_864) refl
+      where
+        go : (b : Bool) → nat_le (length are.document) 67_108_864 ≡ b → length are.document ≤ 67_108_864
+        go true h = leb-true (length are.document) 67_108_864 h
+        go false h = absurd (short (record {
+          digits = are.digits;
+          rest = are.document ++ are.rest;
+          in_order = are.two_part.in_order;
+          number = number-so are.digits are.two_part.digits_alone are.two_part.some_digit are.two_part.few_digits;
+          above = omega (arith, leb-false (length are.document) 67_108_864 h, are.two_part.says_length);
+        }))
 
 pub some-of : (n : ℕ) → (n == 0) ≡ false → 1 ≤ n
 some-of n e = go (nat_le 1 n) refl

@@ -1,6 +1,6 @@
 -- Texts that were written, one after the other.
-use Rattle.std.proofs.Common.{◌≡◌, ◌∙◌, ℕ, ◌+◌, ◌≤◌, List, [], ◌∷◌, ◌++◌, Option, ap, refl, sym, subst, arith, length, take, append-nil, length-append}
-use Rattle.std.proofs.lemmas.List.{take-append-le, take_all}
+use Rattle.std.proofs.Common.{◌≡◌, ◌∙◌, ℕ, ◌+◌, List, [], ◌∷◌, ◌++◌, Option, ap, refl, sym, subst, arith, length, take, length-append}
+use Rattle.std.proofs.lemmas.List.{take-append-le}
 use Rattle.std.proofs.Math.Seq.{take-append-add}
 use Rattle.live_stream.specs.Talk.{Event, Took, Gave, Talk, Goes, GivesPrefix, given, gives}
 use Rattle.live_stream.proofs.Going.{Goes-append, Goes-nothing, given-append, given-gives}

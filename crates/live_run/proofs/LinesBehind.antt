@@ -1,5 +1,5 @@
 -- The answers to lines behind a document.
-use Rattle.std.proofs.Common.{◌≡◌, ◌∙◌, ℕ, ◌+◌, ◌<◌, ◌≤◌, Bool, true, false, ◌==◌, cond, List, [], ◌∷◌, ◌++◌, Option, Some, None, ap, refl, sym, subst, arith, length, take, drop, append_assoc, append-nil, length-append}
+use Rattle.std.proofs.Common.{◌≡◌, ◌∙◌, ℕ, Bool, true, false, ◌==◌, cond, List, [], ◌∷◌, ◌++◌, Some, None, ap, refl, sym, subst, drop, append_assoc, append-nil}
 use Rattle.live_lines.specs.Cutting.{Held, all_lines, lines_from, held_after, with_byte, last_line, is_nothing}
 use Rattle.live_lines.proofs.CutterFacts.{lines_from-append, held_after-append}
 use Rattle.two_part.specs.TwoPart.{parts_of}

@@ -1,10 +1,10 @@
 -- Answers to a piece, byte for byte.
-use Rattle.std.proofs.Common.{◌≡◌, ◌∙◌, ℕ, ◌+◌, ◌<◌, ◌≤◌, true, false, ◌==◌, List, [], ◌∷◌, ◌++◌, Option, ap, refl, sym, subst, arith, length, get_or, take, drop, append_assoc, append-nil}
+use Rattle.std.proofs.Common.{◌≡◌, ◌∙◌, ℕ, ◌+◌, ◌<◌, true, false, ◌==◌, List, [], ◌∷◌, ◌++◌, Option, ap, sym, subst, length, get_or, take, drop, append_assoc}
 use Rattle.std.proofs.lemmas.List.{take_more, take-append-drop}
-use Rattle.live_lines.specs.Cutting.{Held, lines_from, held_after}
+use Rattle.live_lines.specs.Cutting.{Held, lines_from}
 use Rattle.live_stream.specs.Talk.{Talk}
 use Rattle.live_run.specs.Follow.{Follow, answers}
-use Rattle.live_run.specs.Answers.{AnswersPart, AnswersPiece, Brings, Gives, GivesFirst, IsBehind}
+use Rattle.live_run.specs.Answers.{AnswersPart, AnswersPiece, Brings, Gives, GivesFirst}
 use Rattle.live_run.proofs.Giving.{Gives-append, Gives-nothing, GivesFirst-after, GivesFirst-longer}
 use Rattle.live_run.proofs.LinesBehind.{brings-append, brings-fed, brings-held, brings-nothing, brings-piece, lines, held}
 

@@ -1,15 +1,15 @@
 -- What one step of a conversation leaves, from what it read and wrote.
-use Rattle.std.proofs.Common.{◌≡◌, ◌∙◌, ℕ, ◌+◌, ◌≤◌, true, false, List, [], ◌∷◌, ◌++◌, Option, Some, ap, refl, sym, subst, arith, length, take, append_assoc, append-nil, length-append, None, Result, Ok, Err}
+use Rattle.std.proofs.Common.{◌≡◌, ◌∙◌, ℕ, ◌+◌, ◌≤◌, List, [], ◌∷◌, ◌++◌, Option, Some, ap, refl, sym, subst, arith, length, take, append_assoc, length-append, None, Result, Ok, Err}
 use Rattle.std.specs.Prelude.{MatchResult}
 use Rattle.std.proofs.Math.Seq.{take-append-add}
 use Rattle.std.proofs.lemmas.List.{take_all}
-use Rattle.live_lines.specs.Cutting.{Held, held_after, lines_from}
+use Rattle.live_lines.specs.Cutting.{lines_from}
 use Rattle.two_part.specs.TwoPart.{parts_of}
-use Rattle.live_stream.specs.Talk.{Faults, NeverFall, Talk, Took, Goes, IsOver, taken}
+use Rattle.live_stream.specs.Talk.{Faults, NeverFall, Talk, Took, Goes, IsOver}
 use Rattle.live_stream.proofs.Going.{IsOver-after}
 use Rattle.live_run.specs.Follow.{Follow, called_for, follow_text, text_at}
 use Rattle.live_run.specs.Conversation.{Passed, Converses}
-use Rattle.live_run.specs.Answers.{AnswersPart, AnswersPiece, AsksNothing, Brings, EndsWith, Gives, GivesFirst, IsAtEnd, IsBefore, IsBehind, IsUpTo}
+use Rattle.live_run.specs.Answers.{Brings, EndsWith, Gives, IsAtEnd, IsBefore}
 use Rattle.live_run.specs.Endings.{AreWhole, HasStopped, IsDue, IsFirstOfDue, so_far, at_end}
 use Rattle.live_run.specs.declared.ending.Stop.{Stop}
 use Rattle.live_run.specs.declared.ending.Stop.TheVariants.{ReadFault, WriteFault, OutOfMemory}

@@ -1,5 +1,5 @@
 -- How a conversation may end: a row of the table of statuses for each way.
-use Rattle.std.specs.Prelude.{◌≡◌, ◌⊎◌, ℕ, ◌<◌, ◌≤◌, Bool, true, false, List, [], ◌++◌, length, take, codes, Option, Some, None}
+use Rattle.std.specs.Prelude.{◌≡◌, ◌⊎◌, ℕ, ◌<◌, ◌≤◌, Bool, true, false, List, [], length, take, codes, Option, Some, None, Result, MatchResult}
 use Rattle.bwe_io.specs.Faults.{HasRisen}
 use Rattle.live_stream.specs.Talk.{Talk, Faults, IsOver}
 use Rattle.one_run.specs.Endings.{too_long_line}
@@ -9,7 +9,7 @@ use Rattle.live_run.specs.declared.ending.Stop.TheVariants.{ReadFault, WriteFaul
 use Rattle.two_part.specs.TwoPart.{parts_of}
 use Rattle.live_run.specs.Follow.{Follow, called_for, document_in, follow_text}
 use Rattle.live_run.specs.Conversation.{Passed, Converses}
-use Rattle.live_run.specs.Front.{HasNoDocument, SaysTooLong}
+use Rattle.live_run.specs.Front.{HasNoDocument, SaysNotTooLong, SaysTooLong}
 
 -- the line for words, of which there are none
 abbrev pub usage_line : List ℕ
@@ -19,9 +19,12 @@ usage_line = codes "usage: bwe-live\n"
 abbrev pub no_parts_line : List ℕ
 no_parts_line = codes "refused 14 parts\n"
 
--- the document in front is whole, and is accepted or is not
-abbrev pub IsJudged : Bool → Follow → List ℕ → Type 0
-IsJudged verdict follow read = (parts : Parts) × (parts_of read ≡ Some parts) × (follow.accepts (document_in read parts) ≡ verdict)
+-- the document in front is whole and of at most 67,108,864 bytes, and is accepted or is not
+pub record IsJudged (verdict : Bool) (follow : Follow) (read : List ℕ) : Type 0 where
+  pub parts : Parts
+  pub found : parts_of read ≡ Some parts
+  pub few : length (document_in read parts) ≤ 67_108_864
+  pub judged : follow.accepts (document_in read parts) ≡ verdict
 
 -- a text that may be due after these bytes, or at their end
 pub data IsDue (follow : Follow) (words : ℕ) (read : List ℕ) : List ℕ → Type 0 where
@@ -69,10 +72,11 @@ pub data Ending (follow : Follow) (words : ℕ) (talk_after : Option Talk) (faul
   -- the document is refused, and the line that says so is written
   refused : words ≡ 0 → IsJudged false follow passed.read → passed.written ≡ called_for follow passed.read
       → Ending follow words talk_after faults faults_after passed 3
-  -- there is no document in front: the input has ended, or nothing that follows would make one
-  no_document : words ≡ 0 → parts_of passed.read ≡ None → IsOver talk_after ⊎ HasNoDocument passed.read
+  -- there is no document in front, nor the number of one that is too long: the input has ended, or nothing that follows
+  -- would make one
+  no_document : words ≡ 0 → parts_of passed.read ≡ None → SaysNotTooLong passed.read → IsOver talk_after ⊎ HasNoDocument passed.read
       → passed.written ≡ no_parts_line → Ending follow words talk_after faults faults_after passed 3
-  -- the document in front is to have more bytes than an input may
+  -- the document in front is to have more than 67,108,864 bytes
   too_long : words ≡ 0 → SaysTooLong passed.read → passed.written ≡ too_long_line
       → Ending follow words talk_after faults faults_after passed 8
   -- a read failed, and all that the bytes so far call for is written
@@ -83,6 +87,12 @@ pub data Ending (follow : Follow) (words : ℕ) (talk_after : Option Talk) (faul
       → Ending follow words talk_after faults faults_after passed 5
   -- memory was wanting, and whole answers are written
   out_of_memory : AreWhole follow passed → Ending follow words talk_after faults faults_after passed 6
+
+-- a stream went from here to there as a conversation without words that was live all the way, and ended or stopped
+abbrev pub GoesOn : Follow → Option Talk → Option Talk → Faults → Faults → Passed → Result ℕ Stop → Type 0
+GoesOn follow talk talk_after faults faults_after before result =
+    (passed : Passed) × Converses follow talk talk_after before passed
+    × MatchResult result (Ending follow 0 talk_after faults faults_after passed) (HasStopped follow 0 faults faults_after passed)
 
 -- Nothing was read or written before; then the stream went from here to there as a conversation that was live all the way, and
 -- ended as this status says.

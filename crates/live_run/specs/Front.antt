@@ -1,10 +1,10 @@
 -- The document in front of an input, as its bytes come.
-use Rattle.std.specs.Prelude.{◌≡◌, ℕ, ◌+◌, ◌<◌, ◌≤◌, true, List, ◌∷◌, ◌++◌, length, Option, Some, None, ⊤}
+use Rattle.std.specs.Prelude.{◌≡◌, ℕ, ◌<◌, ◌≤◌, true, List, ◌∷◌, ◌++◌, length, Some, None}
 use Rattle.std.specs.Str.Parse.{digits_value}
-use Rattle.one_run.specs.Endings.{max_input}
 use Rattle.text_scan.specs.Numbers.{is_number}
 use Rattle.two_part.specs.declared.Parts.{Parts}
 use Rattle.two_part.specs.TwoPart.{parts_of}
+use Rattle.live_run.specs.Follow.{document_in}
 use Rattle.live_run.specs.declared.front.Front.{Front}
 use Rattle.live_run.specs.declared.front.Front.TheVariants.{Open, Found, Missing, TooLong}
 
@@ -12,17 +12,27 @@ use Rattle.live_run.specs.declared.front.Front.TheVariants.{Open, Found, Missing
 abbrev pub HasNoDocument : List ℕ → Type 0
 HasNoDocument bytes = (more : List ℕ) → parts_of (bytes ++ more) ≡ None
 
--- a number is in front, and it is above the most bytes of an input
+-- a number is in front, and it is above 67,108,864, the most bytes that a document may have
 pub record SaysTooLong (bytes : List ℕ) : Type 0 where
   pub digits : List ℕ
   pub rest : List ℕ
   pub in_order : bytes ≡ digits ++ 10 ∷ rest
   pub number : is_number digits ≡ true
-  pub above : max_input < digits_value 10 digits
+  pub above : 67_108_864 < digits_value 10 digits
+
+abbrev pub SaysNotTooLong : List ℕ → Type 0
+SaysNotTooLong bytes = SaysTooLong bytes → ⊥
+
+-- a document is in front, at these parts, and it has no more bytes than it may
+pub record HasDocument (bytes : List ℕ) (parts : Parts) : Type 0 where
+  pub found : parts_of bytes ≡ Some parts
+  pub start : parts.start ≤ parts.end
+  pub end : parts.end ≤ length bytes
+  pub few : length (document_in bytes parts) ≤ 67_108_864
 
 -- what is known of the front
 abbrev pub IsFront : List ℕ → Front → Type 0
-IsFront bytes Open = parts_of bytes ≡ None
-IsFront bytes (Found parts) = (parts_of bytes ≡ Some parts) × (parts.start ≤ parts.end) × (parts.end ≤ length bytes)
-IsFront bytes Missing = HasNoDocument bytes
+IsFront bytes Open = (parts_of bytes ≡ None) × SaysNotTooLong bytes
+IsFront bytes (Found parts) = HasDocument bytes parts
+IsFront bytes Missing = HasNoDocument bytes × SaysNotTooLong bytes
 IsFront bytes TooLong = SaysTooLong bytes

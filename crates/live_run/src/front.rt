@@ -2,7 +2,7 @@
 
 ghost use Rattle.std.specs.Prelude.{◌≡◌, ◌==◌, None, position};
 ghost use Rattle.two_part.specs.TwoPart.{parts_of};
-ghost use Rattle.live_run.specs.Front.{IsFront};
+ghost use Rattle.live_run.specs.Front.{IsFront, SaysNotTooLong};
 
 use one_run::MAX_INPUT;
 use text_scan::{is_number, number_of};
@@ -17,7 +17,7 @@ pub(crate) enum Front {
     Found(Parts),
     /// There is none, whatever follows.
     Missing,
-    /// It is to have more bytes than an input may.
+    /// It is to have more bytes than a document may.
     TooLong,
 }
 
@@ -61,8 +61,9 @@ fn unended(bytes: &[u8]) -> Front
     Front::Missing
 }
 
-// The front where a number stands before it.
+// The front where a number stands before it that is not too great.
 fn whole(bytes: &[u8]) -> Front
+    requires { SaysNotTooLong bytes.now }
     ensures { IsFront bytes.now result }
 {
     match find_parts(bytes) {

@@ -1,14 +1,14 @@
 //! A whole conversation: the document in front, and the lines behind it.
 
-ghost use Rattle.std.specs.Prelude.{◌≡◌, ◌≢◌, ◌<◌, ◌≤◌, ℕ, List, [], Some, Err, true, false, length, vec_len, MatchResult, IsNone, IfSome, IfOk, IfErr, OnOk, OnErr, IsErrOf};
+ghost use Rattle.std.specs.Prelude.{◌≡◌, ◌≢◌, ◌<◌, ◌≤◌, ℕ, List, [], Some, Err, true, false, length, vec_len, IsNone, IfSome, IfOk, IfErr, OnOk, OnErr, IsErrOf};
 ghost use Rattle.bwe_io.specs.Faults.{HasRisen};
 ghost use Rattle.live_stream.specs.Talk.{IsOver, NeverFall};
 ghost use Rattle.two_part.specs.TwoPart.{parts_of};
 ghost use Rattle.live_run.specs.Answers.{Gives, GivesFirst};
 ghost use Rattle.live_run.specs.Conversation.{Passed, Converses};
-ghost use Rattle.live_run.specs.Endings.{Ending, HasStopped, IsServed};
+ghost use Rattle.live_run.specs.Endings.{GoesOn, HasStopped, IsServed};
 ghost use Rattle.live_run.specs.Follow.{Follow, document_in};
-ghost use Rattle.live_run.specs.Front.{IsFront};
+ghost use Rattle.live_run.specs.Front.{HasDocument, IsFront};
 
 use crate::behind::follow_lines;
 use crate::ending::status_of;
@@ -55,11 +55,8 @@ pub fn serve<F: Follower, S: Stream>(alloc: Global, words: &[String], stream: &m
 
 // A conversation without words: the document in front, and the lines behind it.
 fn converse<F: Follower, S: Stream>(alloc: Global, stream: &mut S) -> Result<u8, Stop>
-    ensures { (passed : Passed) × Converses F.follow (S.talk stream.old) (S.talk stream.new)
-        (record { read = []; written = [] }) passed
-        × MatchResult result
-        (Ending F.follow 0 (S.talk stream.new) (S.faults stream.old) (S.faults stream.new) passed)
-        (HasStopped F.follow 0 (S.faults stream.old) (S.faults stream.new) passed) }
+    ensures { GoesOn F.follow (S.talk stream.old) (S.talk stream.new)
+        (S.faults stream.old) (S.faults stream.new) (record { read = []; written = [] }) result }
 {
     let mut buffer = match zeros(alloc, PIECE) {
         Ok(buffer) => buffer,
@@ -157,14 +154,9 @@ fn follow_document<F: Follower, S: Stream>(
     stream: &mut S,
 ) -> Result<u8, Stop>
     requires some { 0 < length buffer.old }
-    requires found { parts_of bytes.items ≡ Some parts }
-    requires start { parts.start ≤ parts.end }
-    requires end { parts.end ≤ vec_len bytes }
-    ensures { (passed : Passed) × Converses F.follow (S.talk stream.old) (S.talk stream.new)
-        (record { read = bytes.items; written = [] }) passed
-        × MatchResult result
-        (Ending F.follow 0 (S.talk stream.new) (S.faults stream.old) (S.faults stream.new) passed)
-        (HasStopped F.follow 0 (S.faults stream.old) (S.faults stream.new) passed) }
+    requires document { HasDocument bytes.items parts }
+    ensures { GoesOn F.follow (S.talk stream.old) (S.talk stream.new)
+        (S.faults stream.old) (S.faults stream.new) (record { read = bytes.items; written = [] }) result }
 {
     let opened = match open_document::<F, S>(alloc, &bytes, parts, stream) {
         Ok(opened) => opened,
@@ -186,16 +178,12 @@ fn follow_opened<F: Follower, S: Stream>(
     stream: &mut S,
 ) -> Result<u8, Stop>
     requires some { 0 < length buffer.old }
-    requires found { parts_of bytes.items ≡ Some parts }
-    requires start { parts.start ≤ parts.end }
-    requires end { parts.end ≤ vec_len bytes }
+    requires document { HasDocument bytes.items parts }
     requires accepted { F.follow.accepts (document_in bytes.items parts) ≡ true }
     requires followed { F.has_followed follower (document_in bytes.items parts) [] }
-    ensures { (passed : Passed) × Converses F.follow (S.talk stream.old) (S.talk stream.new)
-        (record { read = bytes.items; written = F.follow.first_text (document_in bytes.items parts) }) passed
-        × MatchResult result
-        (Ending F.follow 0 (S.talk stream.new) (S.faults stream.old) (S.faults stream.new) passed)
-        (HasStopped F.follow 0 (S.faults stream.old) (S.faults stream.new) passed) }
+    ensures { GoesOn F.follow (S.talk stream.old) (S.talk stream.new)
+        (S.faults stream.old) (S.faults stream.new)
+        (record { read = bytes.items; written = F.follow.first_text (document_in bytes.items parts) }) result }
 {
     let mut cutter = match LineCutter::new(alloc) {
         Ok(cutter) => cutter,
@@ -219,9 +207,7 @@ fn open_document<F: Follower, S: Stream>(
     parts: Parts,
     stream: &mut S,
 ) -> Result<Option<F>, Stop>
-    requires found { parts_of bytes.now ≡ Some parts }
-    requires start { parts.start ≤ parts.end }
-    requires end { parts.end ≤ length bytes.now }
+    requires { HasDocument bytes.now parts }
     ensures given { IfOk result (λ _. Gives (S.talk stream.old) (S.talk stream.new)
         (F.follow.first_text (document_in bytes.now parts))) }
     ensures refused { IfOk result (λ opened. IsNone opened

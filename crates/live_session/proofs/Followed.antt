@@ -21,7 +21,7 @@ use Rattle.live_lines.specs.declared.line.LineMeaning.{LineMeaning}
 use Rattle.live_core.specs.Live as live
 use Rattle.live_core.specs.Live.{Live, IsLive}
 use Rattle.live_session.specs.Standing.{Standing, after_line}
-use Rattle.live_session.specs.Answers.{known_of, standing_in, answer_in, answer_by, answer_of, first_by}
+use Rattle.live_session.specs.Answers.{known_of, printed, standing_in, answer_in, answer_by, answer_of, first_by}
 use Rattle.live_session.specs.Following.{Session, HasOwners, Stands, IsSession, HasFollowed}
 use Rattle.live_session.proofs.Lines.{standing-more}
 
@@ -89,10 +89,7 @@ plan-is accepted document is =
 
 abbrev known_parts : NameLists → List ℕ → List (Option ℕ) → Known
 known_parts names task_owners link_owners = record {
-  links = names.links;
-  groups = names.groups;
-  tasks = names.tasks;
-  reporters = names.reporters;
+  names = printed names;
   task_owners = task_owners;
   link_owners = link_owners;
 }

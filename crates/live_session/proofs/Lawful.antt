@@ -17,7 +17,7 @@ use Rattle.live_lines.specs.declared.line.LineMeaning.TheVariants.{NewReport, Po
 use Rattle.change_text.specs.ChangeText.{change_text_of}
 use Rattle.change_text.proofs.LawFacts.{kept_are_made}
 use Rattle.live_session.specs.Standing.{Standing, at_first, after_line, after_lines}
-use Rattle.live_session.specs.Answers.{known_of, printed, standing_in, answer_in}
+use Rattle.live_session.specs.Answers.{known_of, standing_in, answer_in}
 use Rattle.live_session.specs.Laws.{written_table, with_reports, is_refused, KeptTables, PostsAlone, NeverBack, RefusedLinesAreNoReports, SnapshotPromise}
 use Rattle.live_session.proofs.Lines.{standing-more, accepted-is, written-other, IsFurther, further, accepted-reports}
 
@@ -41,12 +41,12 @@ kept accepted lines line is =
     record {
       change =
           ap (answer_in known plan standing (length lines + 1)) is
-          ∙ ap (λ reports. change_text_of (printed known) (allocation plan standing.written) (allocation plan reports)) (sym (written-post accepted lines line is));
+          ∙ ap (λ reports. change_text_of known.names (allocation plan standing.written) (allocation plan reports)) (sym (written-post accepted lines line is));
       made = made-post accepted lines line is;
       kept =
-          kept_are_made (printed known) (written_table accepted lines) (written_table accepted (lines ++ line ∷ []))
+          kept_are_made known.names (written_table accepted lines) (written_table accepted (lines ++ line ∷ []))
           (one_frame-allocation plan standing.written (standing_in accepted (lines ++ line ∷ [])).written)
-          ∙ ap (text_of (printed known)) (made-post accepted lines line is);
+          ∙ ap (text_of known.names) (made-post accepted lines line is);
     }
 
 pub alone : PostsAlone

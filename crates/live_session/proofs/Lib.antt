@@ -1,3 +1,4 @@
 pub mod Lines
 pub mod Lawful
 pub mod Followed
+pub mod Printed

@@ -4,36 +4,33 @@ use Rattle.bwe_specs.specs.Allocation.{Plan, allocation}
 use Rattle.allocator.specs.Frames.{task_count}
 use Rattle.last_reports.specs.Snapshot.{snapshot}
 use Rattle.plan_doc.specs.Document.{Accepted, document}
+use Rattle.plan_doc.specs.Names.{NameLists}
 use Rattle.plan_doc.specs.Plans.{plan_of}
 use Rattle.plan_doc.specs.Refusals.{Refusal}
 use Rattle.plan_doc.specs.RefusalLines.{refusal_line}
-use Rattle.table_text.specs.TableText.{NameTexts, text_of}
+use Rattle.doc_names.specs.NameTexts.{NameTexts}
+use Rattle.table_text.specs.TableText.{text_of}
 use Rattle.live_lines.specs.Cutting.{Held}
 use Rattle.live_lines.specs.Known.{Known}
 use Rattle.live_lines.specs.Meaning.{meaning_of}
 use Rattle.live_lines.specs.declared.line.LineMeaning.{LineMeaning}
 use Rattle.live_lines.specs.declared.line.LineMeaning.TheVariants.{NewReport, Post, State, Refused}
 use Rattle.change_text.specs.ChangeText.{change_text_of}
-use Rattle.change_text.specs.StateText.{ReportNames, state_text_of}
+use Rattle.change_text.specs.StateText.{state_text_of}
 use Rattle.change_text.specs.RefusedText.{refused_text_of}
 use Rattle.live_session.specs.Standing.{Standing, at_first, after_lines}
 
--- what lines may name in an accepted document, and the names that texts print
+-- the names that texts print and lines may have
+abbrev pub printed : NameLists → NameTexts
+printed names = record { links = names.links; groups = names.groups; tasks = names.tasks; reporters = names.reporters }
+
+-- what lines may name in an accepted document, and who owns it
 abbrev pub known_of : Accepted → Known
 known_of accepted = record {
-  links = accepted.names.links;
-  groups = accepted.names.groups;
-  tasks = accepted.names.tasks;
-  reporters = accepted.names.reporters;
+  names = printed accepted.names;
   task_owners = accepted.task_owners;
   link_owners = accepted.link_owners;
 }
-
-abbrev pub printed : Known → NameTexts
-printed known = record { links = known.links; groups = known.groups; tasks = known.tasks }
-
-abbrev pub printed_in_reports : Known → ReportNames
-printed_in_reports known = record { reporters = known.reporters; tasks = known.tasks; links = known.links }
 
 -- what lines have made of an accepted document
 abbrev pub standing_in : Accepted → List Held → Standing
@@ -44,9 +41,9 @@ standing_in accepted lines = after_lines (at_first accepted.script) (map (meanin
 abbrev pub answer_in : Known → Plan → Standing → ℕ → LineMeaning → List ℕ
 answer_in known plan standing number (NewReport report) = []
 answer_in known plan standing number Post =
-    change_text_of (printed known) (allocation plan standing.written) (allocation plan standing.accepted)
+    change_text_of known.names (allocation plan standing.written) (allocation plan standing.accepted)
 answer_in known plan standing number State =
-    state_text_of (printed_in_reports known) (snapshot (task_count plan) (length plan.capacities) standing.accepted) (length standing.accepted)
+    state_text_of known.names (snapshot (task_count plan) (length plan.capacities) standing.accepted) (length standing.accepted)
 answer_in known plan standing number (Refused cause) = refused_text_of number cause
 
 -- the answer to a line of an accepted document, after those before it; lines count from 1
@@ -56,7 +53,7 @@ answer_after accepted lines line =
 
 -- the table text of an accepted document, as `bwe solve` writes it
 abbrev pub table_text_of : Accepted → List ℕ
-table_text_of accepted = text_of (printed (known_of accepted)) (allocation (plan_of accepted) accepted.script)
+table_text_of accepted = text_of (known_of accepted).names (allocation (plan_of accepted) accepted.script)
 
 abbrev pub first_by : Result Accepted Refusal → List ℕ
 first_by (Ok accepted) = table_text_of accepted

@@ -1,19 +1,21 @@
 -- What holds of all inputs behind an accepted document.
-use Rattle.std.specs.Prelude.{◌≡◌, ◌≢◌, ◌≤◌, ◌++◌, not, Bool, true, false, List, [], ◌∷◌, length, map, filter, flat_map, All}
+use Rattle.std.specs.Prelude.{◌≡◌, ◌≢◌, ◌<◌, ◌≤◌, ◌++◌, ℕ, not, Bool, true, false, List, [], ◌∷◌, length, map, filter, flat_map, codes, decimal, All}
 use Rattle.bwe_specs.specs.declared.report.Report.{Report}
 use Rattle.bwe_specs.specs.Allocation.{Table, allocation}
-use Rattle.demand_book.specs.Fit.{IsInRange}
+use Rattle.demand_book.specs.Fit.{IsFit, IsInRange}
 use Rattle.allocator.specs.Frames.{task_count}
 use Rattle.last_reports.specs.Snapshot.{snapshot}
 use Rattle.plan_doc.specs.Document.{Accepted}
 use Rattle.plan_doc.specs.Plans.{plan_of}
-use Rattle.live_lines.specs.Cutting.{Held}
+use Rattle.live_lines.specs.Cutting.{Held, all_lines}
+use Rattle.live_lines.specs.Known.{Known, IsByOwner}
 use Rattle.live_lines.specs.Meaning.{meaning_of}
 use Rattle.live_lines.specs.declared.line.LineMeaning.{LineMeaning}
 use Rattle.live_lines.specs.declared.line.LineMeaning.TheVariants.{NewReport, Post, State, Refused}
 use Rattle.change_text.specs.ChangeText.{change_text_of}
 use Rattle.change_text.specs.Laws.{kept_text}
-use Rattle.live_session.specs.Answers.{known_of, printed, standing_in, answer_after, table_text_of}
+use Rattle.change_text.specs.StateLaw.{AreReadable}
+use Rattle.live_session.specs.Answers.{known_of, standing_in, answer_after, table_text_of}
 
 -- the table that was written last
 abbrev pub written_table : Accepted → List Held → Table
@@ -38,9 +40,9 @@ with_reports accepted lines =
 -- end of its script
 pub record IsKept (accepted : Accepted) (lines : List Held) (line : Held) : Type 0 where
   pub change : answer_after accepted lines line
-      ≡ change_text_of (printed (known_of accepted)) (written_table accepted lines) (written_table accepted (lines ++ line ∷ []))
+      ≡ change_text_of (known_of accepted).names (written_table accepted lines) (written_table accepted (lines ++ line ∷ []))
   pub made : written_table accepted (lines ++ line ∷ []) ≡ allocation (plan_of accepted) (with_reports accepted lines).script
-  pub kept : kept_text (printed (known_of accepted)) (written_table accepted lines) (written_table accepted (lines ++ line ∷ []))
+  pub kept : kept_text (known_of accepted).names (written_table accepted lines) (written_table accepted (lines ++ line ∷ []))
       ≡ table_text_of (with_reports accepted lines)
 
 abbrev pub KeptTables : Type 0
@@ -94,3 +96,28 @@ SnapshotPromise = (accepted : Accepted) (lines said : List Held)
     All (λ report. IsInRange (task_count plan) (length plan.capacities) report.target) reports
     → map (meaning_of (known_of accepted)) said ≡ map (λ report. NewReport report) (snapshot (task_count plan) (length plan.capacities) reports)
     → record (allocation plan (standing_in (without_script accepted) said).accepted) { prefix = length reports } ≡ allocation plan reports
+
+-- a report of a reporter, a task or link and an amount that there are, by the owner
+pub record IsSaid (known : Known) (report : Report) : Type 0 where
+  pub reporter : report.reporter < length known.names.reporters
+  pub fit : IsFit (length known.names.tasks) (length known.names.links) report
+  pub owner : IsByOwner known report
+
+-- the bytes that `state` writes before its last line, behind the same document with an empty script, and a post, write the
+-- same table but for the count of reports
+pub record IsTakenUp (accepted : Accepted) (lines : List Held) (line : Held) : Type 0 where
+  pub said : List ℕ
+  pub written : answer_after accepted lines line
+      ≡ said ++ codes "state " ++ decimal (length (standing_in accepted lines).accepted) ++ codes "\n"
+  pub table : record (allocation (plan_of accepted) (standing_in (without_script accepted) (all_lines said)).accepted)
+      { prefix = length (standing_in accepted lines).accepted }
+      ≡ allocation (plan_of accepted) (standing_in accepted lines).accepted
+
+-- so it is of each `state`, where the names of the document are those of documents and its reports are by their owners
+abbrev pub PrintedSnapshot : Type 0
+PrintedSnapshot = (accepted : Accepted) (lines : List Held) (line : Held)
+    → let known = known_of accepted in
+    let plan = plan_of accepted in
+    AreReadable known → length known.names.tasks ≡ task_count plan → length known.names.links ≡ length plan.capacities
+    → All (IsSaid known) (standing_in accepted lines).accepted
+    → meaning_of known line ≡ State → IsTakenUp accepted lines line

@@ -9,7 +9,7 @@ ghost use Rattle.change_text.specs.ChangeText.{change_text_of};
 ghost use Rattle.change_text.specs.StateText.{state_text_of};
 ghost use Rattle.live_core.specs.Live.{links_of, plan_of, reports_of, tasks_of};
 ghost use Rattle.live_session.specs.Standing.{Standing, after_line};
-ghost use Rattle.live_session.specs.Answers.{answer_in, printed, printed_in_reports};
+ghost use Rattle.live_session.specs.Answers.{answer_in};
 ghost use Rattle.live_session.specs.Following.{Stands};
 
 use bwe_specs::OutOfMemory;
@@ -49,7 +49,7 @@ pub(crate) fn answer_meaning(
 fn post(alloc: Global, core: &mut LiveCore, known: &Known) -> Result<Vec<u8>, OutOfMemory>
     ensures plan { plan_of core.new ≡ plan_of core.old }
     ensures text { IfOk result (λ text. (standing : Standing) → Stands core.old standing
-        → text.items ≡ change_text_of (printed known.now) (allocation (plan_of core.old) standing.written)
+        → text.items ≡ change_text_of known.now.names (allocation (plan_of core.old) standing.written)
         (allocation (plan_of core.old) standing.accepted)) }
     ensures stands { OnOk result ((standing : Standing) → Stands core.old standing
         → Stands core.new (record standing { written = standing.accepted })) }
@@ -62,7 +62,7 @@ fn post(alloc: Global, core: &mut LiveCore, known: &Known) -> Result<Vec<u8>, Ou
 // Says which reports count.
 fn state(alloc: Global, core: &LiveCore, known: &Known) -> Result<Vec<u8>, OutOfMemory>
     ensures { IfOk result (λ text. (standing : Standing) → Stands core.now standing
-        → text.items ≡ state_text_of (printed_in_reports known.now) (snapshot (tasks_of core.now) (links_of core.now) standing.accepted)
+        → text.items ≡ state_text_of known.now.names (snapshot (tasks_of core.now) (links_of core.now) standing.accepted)
         (length standing.accepted)) }
 {
     let reports = core.state(alloc)?;

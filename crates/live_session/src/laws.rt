@@ -1,6 +1,6 @@
 //! The laws of all inputs, each the contract of a function that does nothing.
 
-ghost use Rattle.live_session.specs.Laws.{KeptTables, NeverBack, PostsAlone, RefusedLinesAreNoReports, SnapshotPromise};
+ghost use Rattle.live_session.specs.Laws.{KeptTables, NeverBack, PostsAlone, PrintedSnapshot, RefusedLinesAreNoReports, SnapshotPromise};
 
 /// Kept tables: a post is answered by the change from the table that was written last; who makes it to that table's text
 /// has the text that `bwe solve` writes for the document with the accepted reports at the end of its script.
@@ -27,4 +27,10 @@ pub fn refused_lines_are_no_reports()
 /// count of reports.
 pub fn snapshot_promise()
     ensures { SnapshotPromise }
+{}
+
+/// The same of the printed bytes: what `state` wrote before its last line, behind the same document with an empty script,
+/// has the same table, but for the count of reports.
+pub fn printed_snapshot()
+    ensures { PrintedSnapshot }
 {}

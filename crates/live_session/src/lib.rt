@@ -1,9 +1,10 @@
 //! An accepted document followed line by line: what `bwe-live` writes first, and what it answers to each line behind it.
 //!
-//! `LiveSession` is the follower that the program runs. Its two calls answer by definitions over the bytes of the document
-//! and the lines (`specs/Answers.antt`): the table text, or the line of a refusal, and then the answer of each line. The laws of
-//! `specs/Laws.antt` are contracts of functions here: tables that are kept by changes, counts that never fall, refused lines
-//! that count for nothing, and the promise of a snapshot. Nothing is promised of time, nor after a want of memory.
+//! `LiveSession` is the follower that the program runs. Its two calls answer by definitions over the bytes of the
+//! document and the lines (`specs/Answers.antt`): the table text, or the line of a refusal, and then the answer of each
+//! line. The laws of `specs/Laws.antt` are contracts of functions here: tables that are kept by changes, counts that never
+//! fall, refused lines that count for nothing, and the promise of a snapshot, also of its printed bytes. Nothing is
+//! promised of time, nor after a want of memory.
 #![tactic(auto)]
 
 mod answer;
@@ -13,6 +14,7 @@ mod session;
 mod tests;
 
 pub use laws::{
-    kept_tables, never_back, posts_alone, refused_lines_are_no_reports, snapshot_promise,
+    kept_tables, never_back, posts_alone, printed_snapshot, refused_lines_are_no_reports,
+    snapshot_promise,
 };
 pub use session::{LiveSession, OpenedSession};

@@ -1,4 +1,4 @@
-use Rattle.std.proofs.Common.{◌≡◌, ◌∙◌, List, [], ◌++◌, None, Err, ap, refl, sym, append-nil, take}
+use Rattle.std.proofs.Common.{◌∙◌, [], ◌++◌, None, Err, ap, refl, sym, append-nil, take}
 use Rattle.live_run.specs.Conversation.{Converses, Passed}
 use Rattle.live_run.specs.Endings.{HasStopped}
 use Rattle.live_run.proofs.Conversing.{Converses-gives, Converses-nothing}

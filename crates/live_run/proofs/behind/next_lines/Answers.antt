@@ -1,4 +1,4 @@
-use Rattle.std.proofs.Common.{◌≡◌, List, ℕ, ◌++◌, Err, ap, sym, arith, take}
+use Rattle.std.proofs.Common.{List, ℕ, ◌++◌, Err, ap, sym, arith, take}
 use Rattle.std.proofs.lemmas.Bool.{ltb-false}
 use Rattle.live_run.specs.Conversation.{Converses, Passed}
 use Rattle.live_run.specs.Endings.{HasStopped}

@@ -1,10 +1,13 @@
 use Rattle.std.proofs.Common.{◌∙◌, arith, sym}
-use Rattle.live_run.proofs.Fronts.{missing-number, too_long-none, too_long-some}
+use Rattle.live_run.proofs.Fronts.{missing-number, short-missing, short-number, too_long-none, too_long-some}
 use Rattle.live_run.proofs.front.front_of.Goals as goal
 
 pub returns-then-not-is_number : goal.returns-then-not-is_number
 returns-then-not-is_number c =
-    missing-number c.args.bytes.now c.in-Some.line_feed (sym c.in-Some.ensures) (sym c.is_number.ensures ∙ c.if-not-is_number.true)
+    let wrong = sym c.is_number.ensures ∙ c.if-not-is_number.true in (
+      missing-number c.args.bytes.now c.in-Some.line_feed (sym c.in-Some.ensures) wrong,
+      short-missing c.args.bytes.now c.in-Some.line_feed (sym c.in-Some.ensures) wrong,
+    )
 
 pub returns-in_default-number_of : goal.returns-in_default-number_of
 returns-in_default-number_of c =
@@ -15,3 +18,8 @@ pub returns-then-number-gt-MAX_INPUT : goal.returns-then-number-gt-MAX_INPUT
 returns-then-number-gt-MAX_INPUT c =
     too_long-some c.args.bytes.now c.in-Some.line_feed c.in-Some-number_of.number (sym c.in-Some.ensures) (sym c.is_number.ensures ∙ c.if-not-is_number.false)
     (sym c.in-Some-number_of.ensures) (omega (arith, c.if-number-gt-MAX_INPUT.true))
+
+pub whole-requires : goal.whole-requires
+whole-requires c =
+    short-number c.args.bytes.now c.in-Some.line_feed c.in-Some-number_of.number (sym c.in-Some.ensures) (sym c.is_number.ensures ∙ c.if-not-is_number.false)
+    (sym c.in-Some-number_of.ensures) (omega (arith, c.if-number-gt-MAX_INPUT.false))

@@ -1,4 +1,4 @@
-use Rattle.std.proofs.Common.{◌≡◌, ◌∙◌, List, [], ◌∷◌, ◌++◌, ◌==◌, true, false, ap, subst}
+use Rattle.std.proofs.Common.{◌≡◌, ◌∙◌, [], ◌∷◌, ◌++◌, ◌==◌, true, false, ap, subst}
 use Rattle.std.proofs.lemmas.Bool.{ne_eqb}
 use Rattle.live_run.proofs.LinesBehind.{behind-fed, behind-held, lines}
 use Rattle.live_run.proofs.Pieces.{byte-fed, byte-fed-part, byte-held}

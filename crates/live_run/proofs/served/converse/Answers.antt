@@ -1,5 +1,6 @@
 use Rattle.live_run.specs.Front.{HasNoDocument, IsFront, SaysTooLong}
-use Rattle.std.proofs.Common.{◌≡◌, ◌∙◌, List, [], ◌++◌, ℕ, None, ap, append-nil, inl, inr, refl, subst, sym}
+use Rattle.std.proofs.Common.{◌≡◌, ◌∙◌, List, [], ℕ, None, ap, append-nil, inl, inr, refl, subst, sym}
+use Rattle.live_run.specs.declared.front.Front.TheVariants.{Open, Missing}
 use Rattle.live_run.specs.Endings.{IsDue, front_too_long, no_document, no_front, too_long}
 use Rattle.live_run.proofs.Conversing.{Converses-append, Converses-nothing}
 use Rattle.two_part.specs.TwoPart.{parts_of}
@@ -29,22 +30,24 @@ pub returns-in-Open : goal.returns-in-Open
 returns-in-Open g c =
     let bytes : List ℕ = c.in-Ok-read_front.read.0.items in
     let line : List ℕ = c.as_bytes.result.now in
-    let none : parts_of bytes ≡ None = subst (λ front. IsFront bytes front) c.in-Open.is c.in-Ok-read_front.ensures.front in
+    let front : IsFront bytes Open = subst (λ front. IsFront bytes front) c.in-Open.is c.in-Ok-read_front.ensures.front in
+    let none : parts_of bytes ≡ None = front.0 in
     refused-line g.F.Follower.follow _ _ _ _ _ _ bytes line 3 c.refuse.result c.in-Ok-read_front.ensures.counted (c.in-Ok-read_front.ensures.read g.F.Follower.follow)
     c.refuse.ensures.given c.refuse.ensures.partly
     (subst (λ (l : List ℕ). IsDue g.F.Follower.follow 0 bytes l) (sym c.as_bytes.ensures.value) (no_front none))
-    (λ gives. no_document refl none (inl (IsOver-gives _ _ line gives (c.in-Ok-read_front.ensures.end c.in-Open.is))) c.as_bytes.ensures.value)
+    (λ gives. no_document refl none front.1 (inl (IsOver-gives _ _ line gives (c.in-Ok-read_front.ensures.end c.in-Open.is))) c.as_bytes.ensures.value)
 
 pub returns-in-Missing : goal.returns-in-Missing
 returns-in-Missing g c =
     let bytes : List ℕ = c.in-Ok-read_front.read.0.items in
     let line : List ℕ = c.as_bytes-in-Missing.result.now in
-    let hopeless : HasNoDocument bytes = subst (λ front. IsFront bytes front) c.in-Missing.is c.in-Ok-read_front.ensures.front in
+    let front : IsFront bytes Missing = subst (λ front. IsFront bytes front) c.in-Missing.is c.in-Ok-read_front.ensures.front in
+    let hopeless : HasNoDocument bytes = front.0 in
     let none : parts_of bytes ≡ None = ap parts_of (sym (append-nil bytes)) ∙ hopeless [] in
     refused-line g.F.Follower.follow _ _ _ _ _ _ bytes line 3 c.refuse-in-Missing.result c.in-Ok-read_front.ensures.counted (c.in-Ok-read_front.ensures.read g.F.Follower.follow)
     c.refuse-in-Missing.ensures.given c.refuse-in-Missing.ensures.partly
     (subst (λ (l : List ℕ). IsDue g.F.Follower.follow 0 bytes l) (sym c.as_bytes-in-Missing.ensures.value) (no_front none))
-    (λ gives. no_document refl none (inr hopeless) c.as_bytes-in-Missing.ensures.value)
+    (λ gives. no_document refl none front.1 (inr hopeless) c.as_bytes-in-Missing.ensures.value)
 
 pub returns : goal.returns
 returns g c =

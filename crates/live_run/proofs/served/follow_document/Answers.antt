@@ -1,4 +1,4 @@
-use Rattle.std.proofs.Common.{◌≡◌, ◌∙◌, List, [], ◌++◌, ℕ, false, Err, ap, refl, subst, sym, take}
+use Rattle.std.proofs.Common.{◌≡◌, List, [], ℕ, false, Err, ap, refl, subst, sym, take}
 use Rattle.std.specs.Prelude.{IsNone}
 use Rattle.live_run.specs.Answers.{Gives, GivesFirst}
 use Rattle.live_run.specs.Conversation.{Converses, Passed}
@@ -24,7 +24,7 @@ returns-in-Err g c =
       Converses-gives g.F.Follower.follow _ _ c.args.bytes.items [] (take part.count first) (take part.count first) part.gives refl,
       (
         c.in-Err.ensures.fault (ap Err is),
-        first-part g.F.Follower.follow c.args.bytes.items c.args.parts part.count c.requires.found part.within,
+        first-part g.F.Follower.follow c.args.bytes.items c.args.parts part.count c.requires.document.found part.within,
       ),
     ))
     (λ is. (
@@ -54,5 +54,5 @@ returns-in-None g c =
     subst (λ (b : List ℕ). Gives (g.S.Stream.talk c.args.stream.now) (g.S.Stream.talk c.open_document.new.stream) (g.F.Follower.follow.first_text (document_in b c.args.parts))) c.deref.ensures.value c.in-Ok.ensures.given in (
       record { read = c.args.bytes.items; written = first },
       Converses-gives g.F.Follower.follow _ _ c.args.bytes.items [] first first given refl,
-      refused refl (c.args.parts, c.requires.found, refuses) (sym (refused-text g.F.Follower.follow c.args.bytes.items c.args.parts c.requires.found refuses)),
+      refused refl (record { parts = c.args.parts; found = c.requires.document.found; few = c.requires.document.few; judged = refuses }) (sym (refused-text g.F.Follower.follow c.args.bytes.items c.args.parts c.requires.document.found refuses)),
     )

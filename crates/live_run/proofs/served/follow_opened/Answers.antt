@@ -1,23 +1,20 @@
-use Rattle.std.proofs.Common.{◌≡◌, ◌∙◌, ◌+◌, ◌-◌, List, [], ◌++◌, ℕ, Err, ap, refl, subst, sym, length, take, drop, arith, append-nil}
-use Rattle.std.proofs.lemmas.List.{length-take-le, take_rest}
-use Rattle.live_run.specs.Answers.{IsUpTo}
+use Rattle.std.proofs.Common.{◌≡◌, ◌-◌, List, [], ◌++◌, ℕ, Ok, Err, ap, refl, sym, length, take, drop, arith}
 use Rattle.live_run.specs.Conversation.{Converses, Passed}
-use Rattle.live_run.specs.Endings.{HasStopped, ended}
-use Rattle.live_run.specs.Follow.{called_for, document_in}
-use Rattle.live_run.proofs.Conversing.{Converses-append, Converses-gives, Converses-nothing}
-use Rattle.live_run.proofs.Ends.{behind-nothing, first-text, judged, opened-called, opened-due, opened-whole, parted}
-use Rattle.live_run.proofs.Fronts.{before-parts}
-use Rattle.live_run.proofs.Steps.{HasStopped-after, stop-cases}
+use Rattle.live_run.specs.Endings.{HasStopped}
+use Rattle.live_run.specs.Follow.{document_in}
+use Rattle.live_run.proofs.Conversing.{Converses-gives, Converses-nothing}
+use Rattle.live_run.proofs.Ends.{before-opened, behind-nothing, behind-opened, first-text, goes-behind, opened-due, opened-whole}
+use Rattle.live_run.proofs.Steps.{stop-cases}
 use Rattle.live_run.proofs.served.follow_opened.Goals as goal
 
 pub returns-in-Err : goal.returns-in-Err
 returns-in-Err g c =
     let document : List ℕ = document_in c.args.bytes.items c.args.parts in
     let front : List ℕ = take c.args.parts.end c.args.bytes.items in
-    let bef = before-parts g.F.Follower.follow c.args.bytes.items c.args.parts c.requires.found c.requires.accepted in (
+    let bef = before-opened g.F.Follower.follow c.args.bytes.items c.args.parts c.requires.document.found c.requires.accepted in (
       record { read = c.args.bytes.items; written = g.F.Follower.follow.first_text document },
       Converses-nothing g.F.Follower.follow _ _,
-      record { count = c.args.parts.end; within = omega (arith, c.requires.end, c.args.bytes.ok.0); written_so = sym (first-text g.F.Follower.follow front document bef) },
+      record { count = c.args.parts.end; within = omega (arith, c.requires.document.end, c.args.bytes.ok.0); written_so = sym (first-text g.F.Follower.follow front document bef) },
     )
 
 pub returns-in-Err-answer_piece : goal.returns-in-Err-answer_piece
@@ -25,11 +22,11 @@ returns-in-Err-answer_piece g c =
     let document : List ℕ = document_in c.args.bytes.items c.args.parts in
     let front : List ℕ = take c.args.parts.end c.args.bytes.items in
     let first : List ℕ = g.F.Follower.follow.first_text document in
-    let bef = before-parts g.F.Follower.follow c.args.bytes.items c.args.parts c.requires.found c.requires.accepted in
+    let bef = before-opened g.F.Follower.follow c.args.bytes.items c.args.parts c.requires.document.found c.requires.accepted in
     let b : List ℕ = c.deref.result.now in
     let piece : List ℕ = take (length b - c.args.parts.end) (drop c.args.parts.end b) in
     let same : c.args.bytes.items ≡ front ++ piece =
-    parted c.args.bytes.items c.args.parts ∙ ap (λ (rest : List ℕ). front ++ rest) (ap (drop c.args.parts.end) (sym c.deref.ensures.value) ∙ sym (take_rest b c.args.parts.end)) in
+    behind-opened g.F.Follower.follow c.args.bytes.items c.args.parts c.requires.document.found c.requires.accepted b c.deref.ensures.value in
     let at = behind-nothing g.F.Follower.has_followed document c.args.follower c.in-Ok.cutter c.requires.followed c.in-Ok.ensures in
     stop-cases
     (λ stop. (after : Passed) × Converses g.F.Follower.follow (g.S.Stream.talk c.args.stream.now) (g.S.Stream.talk c.answer_piece.new.stream) (record { read = c.args.bytes.items; written = first }) after
@@ -57,50 +54,24 @@ pub returns-in-Ok-follow_lines : goal.returns-in-Ok-follow_lines
 returns-in-Ok-follow_lines g c =
     let document : List ℕ = document_in c.args.bytes.items c.args.parts in
     let front : List ℕ = take c.args.parts.end c.args.bytes.items in
-    let first : List ℕ = g.F.Follower.follow.first_text document in
-    let bef = before-parts g.F.Follower.follow c.args.bytes.items c.args.parts c.requires.found c.requires.accepted in
-    let b : List ℕ = c.deref.result.now in
-    let piece : List ℕ = take (length b - c.args.parts.end) (drop c.args.parts.end b) in
-    let same : c.args.bytes.items ≡ front ++ piece =
-    parted c.args.bytes.items c.args.parts ∙ ap (λ (rest : List ℕ). front ++ rest) (ap (drop c.args.parts.end) (sym c.deref.ensures.value) ∙ sym (take_rest b c.args.parts.end)) in
-    let at = behind-nothing g.F.Follower.has_followed document c.args.follower c.in-Ok.cutter c.requires.followed c.in-Ok.ensures in
-    let done = c.in-Ok-answer_piece.ensures.given document [] at in
-    let p : Passed = record { read = c.args.bytes.items; written = first ++ done.text } in
-    let upto : IsUpTo g.F.Follower.follow g.F.Follower.has_followed front document c.answer_piece.new.follower c.answer_piece.new.cutter p = record {
-      behind = piece;
-      is_behind = c.in-Ok-answer_piece.ensures.behind document [] at;
-      read_so = same;
-      written_so = sym (ap (called_for g.F.Follower.follow) same ∙ opened-called g.F.Follower.follow front document bef piece done.text done.brings);
-    } in
-    let last = c.in-Ok-follow_lines.ensures front document p bef upto in (
-      last.0,
-      Converses-append g.F.Follower.follow _ _ _ _ p last.0
-          (Converses-gives g.F.Follower.follow _ _ c.args.bytes.items first done.text (first ++ done.text) done.gives refl) last.1,
-      ended refl last.2.0 (judged g.F.Follower.follow front document last.2.1.behind last.0.read bef last.2.1.read_so) last.2.1.written_so,
-    )
+    let found = c.requires.document.found in
+    let read : List ℕ = c.deref.result.now in
+    let nothing = behind-nothing g.F.Follower.has_followed document c.args.follower c.in-Ok.cutter c.requires.followed c.in-Ok.ensures in
+    goes-behind g.F.Follower.follow c.args.bytes.items c.args.parts found c.requires.accepted g.F.Follower.has_followed c.answer_piece.new.follower c.answer_piece.new.cutter _ _ _ _ _ _
+    (take (length read - c.args.parts.end) (drop c.args.parts.end read)) (Ok 0) c.requires.document.few
+    (behind-opened g.F.Follower.follow c.args.bytes.items c.args.parts found c.requires.accepted read c.deref.ensures.value)
+    (c.in-Ok-answer_piece.ensures.behind document [] nothing) (c.in-Ok-answer_piece.ensures.given document [] nothing) c.in-Ok-answer_piece.ensures.counted
+    (λ passed upto. let last = c.in-Ok-follow_lines.ensures front document passed (before-opened g.F.Follower.follow c.args.bytes.items c.args.parts found c.requires.accepted) upto in (last.0, last.1, (refl, last.2.0, last.2.1)))
 
 pub returns : goal.returns
 returns g c =
     let document : List ℕ = document_in c.args.bytes.items c.args.parts in
     let front : List ℕ = take c.args.parts.end c.args.bytes.items in
-    let first : List ℕ = g.F.Follower.follow.first_text document in
-    let bef = before-parts g.F.Follower.follow c.args.bytes.items c.args.parts c.requires.found c.requires.accepted in
-    let b : List ℕ = c.deref.result.now in
-    let piece : List ℕ = take (length b - c.args.parts.end) (drop c.args.parts.end b) in
-    let same : c.args.bytes.items ≡ front ++ piece =
-    parted c.args.bytes.items c.args.parts ∙ ap (λ (rest : List ℕ). front ++ rest) (ap (drop c.args.parts.end) (sym c.deref.ensures.value) ∙ sym (take_rest b c.args.parts.end)) in
-    let at = behind-nothing g.F.Follower.has_followed document c.args.follower c.in-Ok.cutter c.requires.followed c.in-Ok.ensures in
-    let done = c.in-Ok-answer_piece.ensures.given document [] at in
-    let p : Passed = record { read = c.args.bytes.items; written = first ++ done.text } in
-    let upto : IsUpTo g.F.Follower.follow g.F.Follower.has_followed front document c.answer_piece.new.follower c.answer_piece.new.cutter p = record {
-      behind = piece;
-      is_behind = c.in-Ok-answer_piece.ensures.behind document [] at;
-      read_so = same;
-      written_so = sym (ap (called_for g.F.Follower.follow) same ∙ opened-called g.F.Follower.follow front document bef piece done.text done.brings);
-    } in
-    let last = c.in-Err-follow_lines.ensures front document p bef upto in (
-      last.0,
-      Converses-append g.F.Follower.follow _ _ _ _ p last.0
-          (Converses-gives g.F.Follower.follow _ _ c.args.bytes.items first done.text (first ++ done.text) done.gives refl) last.1,
-      HasStopped-after g.F.Follower.follow _ _ _ last.0 c.in-Err-follow_lines.stop c.in-Ok-answer_piece.ensures.counted last.2,
-    )
+    let found = c.requires.document.found in
+    let read : List ℕ = c.deref.result.now in
+    let nothing = behind-nothing g.F.Follower.has_followed document c.args.follower c.in-Ok.cutter c.requires.followed c.in-Ok.ensures in
+    goes-behind g.F.Follower.follow c.args.bytes.items c.args.parts found c.requires.accepted g.F.Follower.has_followed c.answer_piece.new.follower c.answer_piece.new.cutter _ _ _ _ _ _
+    (take (length read - c.args.parts.end) (drop c.args.parts.end read)) (Err c.in-Err-follow_lines.stop) c.requires.document.few
+    (behind-opened g.F.Follower.follow c.args.bytes.items c.args.parts found c.requires.accepted read c.deref.ensures.value)
+    (c.in-Ok-answer_piece.ensures.behind document [] nothing) (c.in-Ok-answer_piece.ensures.given document [] nothing) c.in-Ok-answer_piece.ensures.counted
+    (λ passed upto. c.in-Err-follow_lines.ensures front document passed (before-opened g.F.Follower.follow c.args.bytes.items c.args.parts found c.requires.accepted) upto)

@@ -1,4 +1,4 @@
-use Rattle.std.proofs.Common.{◌<◌, ℕ, List, [], length}
+use Rattle.std.proofs.Common.{◌<◌, [], length}
 use Rattle.live_stream.specs.Talk.{NeverFall}
 use Rattle.live_run.specs.Conversation.{Converses}
 use Rattle.live_run.specs.Follow.{Follow}

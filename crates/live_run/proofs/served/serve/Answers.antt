@@ -1,4 +1,4 @@
-use Rattle.std.proofs.Common.{◌≡◌, ◌∙◌, List, [], ℕ, arith, refl, subst, sym, take, length}
+use Rattle.std.proofs.Common.{◌∙◌, List, [], ℕ, arith, refl, subst, sym, take, length}
 use Rattle.std.proofs.lemmas.Bool.{eqb-true}
 use Rattle.live_run.specs.Answers.{GivesFirst}
 use Rattle.live_run.specs.Endings.{Ending, for_words, no_words, usage_line, write_fault}
