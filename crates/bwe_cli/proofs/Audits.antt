@@ -8,7 +8,7 @@ use Rattle.allocator.specs.Frames.{task_count}
 use Rattle.crew.specs.Reporters.{scripted}
 use Rattle.crew.specs.Starting.{AreScripts}
 use Rattle.doc_names.specs.declared.Names.{Names}
-use Rattle.document_audit.specs.DocumentRun.{IsDocumentRun, document_verdict, script_verdict}
+use Rattle.audit_law.specs.DocumentRun.{IsDocumentRun, document_verdict, script_verdict}
 use Rattle.document_run.specs.Runs.{items_of, scripts_of}
 use Rattle.limit_table.specs.Tables as tables
 use Rattle.one_run.specs.Endings.{Reply}
@@ -19,12 +19,12 @@ use Rattle.plan_doc.specs.Document.{Accepted}
 use Rattle.plan_doc.specs.Links.{names_view}
 use Rattle.policy_tree.specs.Trees.{task_numbers}
 use Rattle.run_audit.proofs.Counts.{total_counted}
-use Rattle.run_audit.specs.Forms.{names_of}
 use Rattle.run_audit.specs.History as history
 use Rattle.run_audit.specs.Verdict.{AreFit, verdict_of}
 use Rattle.run_audit.specs.declared.verdict.AuditVerdict.{AuditVerdict}
 use Rattle.run_audit.specs.declared.verdict.AuditVerdict.TheVariants.{Legal, Wrong}
-use Rattle.table_text.specs.TableText.{texts_of, text_of}
+use Rattle.doc_names.specs.NameTexts.{texts_of}
+use Rattle.table_text.specs.TableText.{text_of}
 use Rattle.bwe_cli.specs.AuditReply.{IsAuditReply, audit_reply, audit_status}
 use Rattle.plan_doc.specs.Plans.{plan_in, plan_of}
 use Rattle.bwe_cli.proofs.RunReply.{plan-is}
@@ -49,14 +49,14 @@ module _ (document : Document) (plan : Plan) (same : plan ≡ plan_in document) 
   -- the verdict is that on a run of the document
   pub verdict-is : (names : Names) → names ≡ document.names → (split : items_of scripts ≡ scripts_of (reporter_count document) document.script.items)
       → (table : Table) → table ≡ allocation (plan_in document) document.script.items → (bytes : List ℕ) → bytes ≡ text_of (texts_of names) table → (text : List ℕ)
-      → verdict_of (names_of names) (history.scripts_of scripts) (λ reports. tables.total_of (allocation plan reports)) bytes text
+      → verdict_of (texts_of names) (history.scripts_of scripts) (λ reports. tables.total_of (allocation plan reports)) bytes text
       ≡ script_verdict (names_view document.names) (plan_in document) document.script.items text
   verdict-is names named split table solved bytes printed text =
-      ap (λ planned. verdict_of (names_of names) (history.scripts_of scripts) (λ reports. tables.total_of (allocation planned reports)) bytes text) same
-      ∙ ap (λ lists. verdict_of (names_of names) lists (λ reports. tables.total_of (allocation (plan_in document) reports)) bytes text) split
-      ∙ ap (λ shown. verdict_of (names_of names) (scripts_of (reporter_count document) document.script.items) (λ reports. tables.total_of (allocation (plan_in document) reports)) shown text) printed
-      ∙ ap (λ made. verdict_of (names_of names) (scripts_of (reporter_count document) document.script.items) (λ reports. tables.total_of (allocation (plan_in document) reports)) (text_of (texts_of names) made) text) solved
-      ∙ ap (λ given. verdict_of (names_of given) (scripts_of (reporter_count document) document.script.items) (λ reports. tables.total_of (allocation (plan_in document) reports)) (text_of (texts_of given) (allocation (plan_in document) document.script.items)) text) named
+      ap (λ planned. verdict_of (texts_of names) (history.scripts_of scripts) (λ reports. tables.total_of (allocation planned reports)) bytes text) same
+      ∙ ap (λ lists. verdict_of (texts_of names) lists (λ reports. tables.total_of (allocation (plan_in document) reports)) bytes text) split
+      ∙ ap (λ shown. verdict_of (texts_of names) (scripts_of (reporter_count document) document.script.items) (λ reports. tables.total_of (allocation (plan_in document) reports)) shown text) printed
+      ∙ ap (λ made. verdict_of (texts_of names) (scripts_of (reporter_count document) document.script.items) (λ reports. tables.total_of (allocation (plan_in document) reports)) (text_of (texts_of names) made) text) solved
+      ∙ ap (λ given. verdict_of (texts_of given) (scripts_of (reporter_count document) document.script.items) (λ reports. tables.total_of (allocation (plan_in document) reports)) (text_of (texts_of given) (allocation (plan_in document) document.script.items)) text) named
 
 -- ---- what the status says
 

@@ -5,3 +5,4 @@ pub mod Behind
 pub mod Tiers
 pub mod RunsAreLegal
 pub mod Statuses
+mod WhatRan

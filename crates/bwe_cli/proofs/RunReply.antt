@@ -8,10 +8,11 @@ use Rattle.plan_doc.specs.declared.document.Document.{Document}
 use Rattle.plan_doc.specs.Accepted.{IsDocumentOf}
 use Rattle.plan_doc.specs.Conditions.{reporter_count}
 use Rattle.plan_doc.specs.Document.{Accepted}
-use Rattle.run_text.specs.RunText.{run_names_of, run_text_of}
+use Rattle.doc_names.specs.NameTexts.{texts_of}
+use Rattle.run_text.specs.RunText.{run_text_of}
 use Rattle.crew_log.specs.LegalCrewLog.{IsClosed}
-use Rattle.document_audit.specs.DocumentRun.{run_names}
-use Rattle.document_audit.proofs.Verdicts as verdicts
+use Rattle.audit_law.specs.DocumentRun.{run_names}
+use Rattle.audit_law.proofs.DocumentVerdicts as verdicts
 use Rattle.document_run.specs.Runs.{IsRunOf}
 use Rattle.document_run.proofs.Split.{split-count}
 use Rattle.plan_doc.specs.Plans.{plan_in, plan_of}
@@ -31,7 +32,7 @@ module _ (accepted : Accepted) (document : Document) (is : IsDocumentOf accepted
   plan-is = verdicts.plan-is accepted document is
 
   pub run-reply : (readers reads : ℕ) (log : CrewLog Table) → IsRunOf (plan_in document) document.script.items (reporter_count document) readers reads log
-      → IsClosed log → (text : List ℕ) → text ≡ run_text_of (run_names_of document.names) log → IsRunReply readers reads (Ok accepted) (reply_of 0 text)
+      → IsClosed log → (text : List ℕ) → text ≡ run_text_of (texts_of document.names) log → IsRunReply readers reads (Ok accepted) (reply_of 0 text)
   run-reply readers reads log run closed text printed =
       let planned : IsRunOf (plan_of accepted) document.script.items (reporter_count document) readers reads log =
       subst (λ plan. IsRunOf plan document.script.items (reporter_count document) readers reads log) plan-is run in

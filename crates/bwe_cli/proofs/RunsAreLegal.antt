@@ -7,7 +7,7 @@ use Rattle.command_line.specs.Ranges.{IsInRange}
 use Rattle.command_line.specs.declared.CommandLine.TheVariants.{Run}
 use Rattle.crew_log.specs.declared.log.CrewLog.{CrewLog}
 use Rattle.crew_log.specs.LegalCrewLog.{IsClosed}
-use Rattle.document_audit.specs.DocumentRun.{IsDocumentRun, document_verdict, run_names}
+use Rattle.audit_law.specs.DocumentRun.{IsDocumentRun, document_verdict, run_names}
 use Rattle.document_run.specs.Runs.{IsRunOf}
 use Rattle.one_run.specs.Endings.{Reply}
 use Rattle.plan_doc.specs.Document.{Accepted, document}

@@ -7,7 +7,7 @@ use Rattle.bwe_specs.specs.declared.report.Report.{Report}
 use Rattle.bwe_specs.specs.Allocation.{Plan}
 use Rattle.command_line.specs.declared.CommandLine.{CommandLine}
 use Rattle.command_line.specs.declared.CommandLine.TheVariants.{Solve, Check, Run, Make, Bulk, Audit, Tiers, Enforce, Estimate, Levels}
-use Rattle.event_lines.specs.declared.EventLine.{EventLine}
+use Rattle.enforce_run.specs.declared.event.EventLine.{EventLine}
 use Rattle.one_run.specs.Endings.{IsDue, IsInput, Reply, Served, answered, done, no_line, out_of_memory, read_fault, too_long, write_fault}
 use Rattle.plan_doc.specs.Document.{Accepted, document}
 use Rattle.plan_doc.specs.Names.{NameLists}
@@ -15,10 +15,10 @@ use Rattle.plan_doc.specs.Plans.{plan_of}
 use Rattle.plan_doc.specs.Refusals.{Refusal}
 use Rattle.run_audit.specs.declared.verdict.AuditVerdict.{AuditVerdict}
 use Rattle.run_audit.specs.declared.verdict.AuditVerdict.TheVariants as audited
-use Rattle.table_text.specs.TableText.{NameTexts}
+use Rattle.doc_names.specs.NameTexts.{NameTexts}
 use Rattle.two_part.specs.declared.Parts.{Parts}
 use Rattle.two_part.specs.TwoPart.{parts_of}
-use Rattle.document_audit.specs.DocumentRun.{script_verdict}
+use Rattle.audit_law.specs.DocumentRun.{script_verdict}
 use Rattle.bwe_cli.specs.AuditReply.{IsAuditReply, audit_reply, audit_status}
 use Rattle.bwe_cli.specs.EnforceReply.{enforce_accepted, enforced_by}
 use Rattle.bwe_cli.specs.EstimateReply.{estimate_accepted, table_behind}

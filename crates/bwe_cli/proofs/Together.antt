@@ -9,7 +9,7 @@ use Rattle.bwe_specs.proofs.ShareFunctions.{share-mono}
 use Rattle.allocator.proofs.Filled.{sum-numbers}
 use Rattle.policy_tree.specs.Trees.{Tree, demand_in, value_in}
 use Rattle.parallel_values.specs.Levels.{levels_in}
-use Rattle.table_text.specs.TableText.{NameTexts}
+use Rattle.doc_names.specs.NameTexts.{NameTexts}
 use Rattle.bwe_cli.specs.Replies.{levels_reply, values_reply}
 
 pub levels-together : (tree : Tree) (share : ℕ) → AreValues (length tree.clusters) tree.top (value_in tree) → share ≤ tree.top → sum (levels_in tree share) ≤ 20_000_000_000_000_000

@@ -2,7 +2,7 @@
 use Rattle.std.specs.Prelude.{◌≡◌, ◌↔◌, ℕ, List}
 use Rattle.bwe_specs.specs.declared.report.Report.{Report}
 use Rattle.bwe_specs.specs.Allocation.{Plan}
-use Rattle.document_audit.specs.DocumentRun.{IsDocumentRun, script_verdict}
+use Rattle.audit_law.specs.DocumentRun.{IsDocumentRun, script_verdict}
 use Rattle.one_run.specs.Endings.{Reply}
 use Rattle.plan_doc.specs.Document.{Accepted}
 use Rattle.plan_doc.specs.Names.{NameLists}

@@ -4,9 +4,9 @@ use Rattle.bwe_specs.specs.declared.report.Report.{Report}
 use Rattle.bwe_specs.specs.Allocation.{Plan, allocation}
 use Rattle.enforce_run.specs.EnforceText.{enforced_text}
 use Rattle.enforce_run.specs.Playing.{regions_of}
-use Rattle.event_lines.specs.declared.EventLine.{EventLine}
-use Rattle.event_lines.specs.EventLines.{events_of}
-use Rattle.event_lines.specs.RefusalLine.{event_refusal}
+use Rattle.enforce_run.specs.declared.event.EventLine.{EventLine}
+use Rattle.enforce_run.specs.EventLines.{events_of}
+use Rattle.enforce_run.specs.RefusalLine.{event_refusal}
 use Rattle.one_run.specs.Endings.{Reply}
 use Rattle.plan_doc.specs.Document.{Accepted}
 use Rattle.plan_doc.specs.Names.{NameLists}

@@ -5,9 +5,9 @@ use Rattle.bwe_specs.specs.Allocation.{Plan}
 use Rattle.one_run.specs.Endings.{Reply}
 use Rattle.plan_doc.specs.Document.{Accepted}
 use Rattle.sample_lines.specs.RefusalLine.{sample_refusal}
-use Rattle.sample_lines.specs.SampleLine.{Known}
+use Rattle.sample_lines.specs.Known.{Known}
 use Rattle.sample_lines.specs.SampleReports.{reports_in}
-use Rattle.table_text.specs.TableText.{NameTexts}
+use Rattle.doc_names.specs.NameTexts.{NameTexts}
 use Rattle.plan_doc.specs.Plans.{plan_of}
 use Rattle.bwe_cli.specs.Replies.{printed, table_reply}
 
@@ -23,7 +23,7 @@ estimate_reply names known plan script window headroom part =
 
 -- what an accepted document knows of samples
 abbrev pub known_in : Accepted → Known
-known_in accepted = record { tasks = accepted.names.tasks; reporters = accepted.names.reporters; task_owners = accepted.task_owners }
+known_in accepted = record { names = printed accepted.names; task_owners = accepted.task_owners }
 
 abbrev pub estimate_accepted : ℕ → ℕ → Accepted → List ℕ → Reply
 estimate_accepted window headroom accepted part =

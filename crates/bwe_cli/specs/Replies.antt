@@ -9,7 +9,8 @@ use Rattle.bwe_specs.specs.Reports.{demand_after}
 use Rattle.bwe_specs.specs.RightClosings.{verdict}
 use Rattle.bwe_specs.specs.Tree.{Cluster}
 use Rattle.one_run.specs.Endings.{Reply}
-use Rattle.table_text.specs.TableText.{NameTexts, text_of}
+use Rattle.doc_names.specs.NameTexts.{NameTexts}
+use Rattle.table_text.specs.TableText.{text_of}
 use Rattle.table_text.specs.CheckText.{verdict_line}
 use Rattle.table_text.specs.LevelsText.{levels_text_of}
 use Rattle.parallel_values.specs.Levels.{levels}
@@ -21,7 +22,7 @@ use Rattle.plan_doc.specs.Plans.{plan_of}
 
 -- the names that a text prints
 abbrev pub printed : NameLists → NameTexts
-printed names = record { links = names.links; groups = names.groups; tasks = names.tasks }
+printed names = record { links = names.links; groups = names.groups; tasks = names.tasks; reporters = names.reporters }
 
 -- status 0 where the closings are right, else 1
 abbrev pub verdict_status : Verdict → ℕ

@@ -3,7 +3,7 @@ use Rattle.std.specs.Prelude.{◌≡◌, ℕ, length, Result, Ok, Err}
 use Rattle.bwe_specs.specs.Allocation.{Table}
 use Rattle.crew_log.specs.declared.log.CrewLog.{CrewLog}
 use Rattle.crew_log.specs.LegalCrewLog.{IsClosed}
-use Rattle.document_audit.specs.DocumentRun.{run_names}
+use Rattle.audit_law.specs.DocumentRun.{run_names}
 use Rattle.one_run.specs.Endings.{Reply}
 use Rattle.plan_doc.specs.Document.{Accepted}
 use Rattle.plan_doc.specs.Refusals.{Refusal}

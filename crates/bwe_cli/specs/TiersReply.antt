@@ -6,7 +6,7 @@ use Rattle.bwe_specs.specs.Reports.{demand_after, capacities_after}
 use Rattle.one_run.specs.Endings.{Reply}
 use Rattle.plan_doc.specs.Document.{Accepted}
 use Rattle.plan_doc.specs.Plans.{plan_of}
-use Rattle.table_text.specs.TableText.{NameTexts}
+use Rattle.doc_names.specs.NameTexts.{NameTexts}
 use Rattle.tier_text.specs.TierPart.{part_fault, tiers_in, tiers_line}
 use Rattle.tier_text.specs.TierText.{tier_text_of}
 use Rattle.tiers.specs.Tiered.{Tiered, tiered_under}

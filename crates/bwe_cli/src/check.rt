@@ -1,18 +1,20 @@
 //! The line `check`.
 
-ghost use Rattle.std.specs.Prelude.{◌≡◌, IfOk};
+ghost use Rattle.std.specs.Prelude.{◌≡◌, List, IfOk};
+ghost use Rattle.bwe_specs.specs.declared.report.Report.{Report};
 ghost use Rattle.bwe_specs.specs.Allocation.{wan_after};
 ghost use Rattle.bwe_specs.specs.RightClosings.{verdict as verdict_of};
-ghost use Rattle.table_text.specs.TableText.{texts_of};
+ghost use Rattle.doc_names.specs.NameTexts.{texts_of};
 ghost use Rattle.plan_doc.specs.Conditions.{IsUsable};
 ghost use Rattle.plan_doc.specs.Plans.{plan_in};
 ghost use Rattle.bwe_cli.specs.Replies.{check_accepted, check_reply, document_reply, verdict_status};
 
 use crate::opened::{Opened, open};
 use crate::refused::refused;
-use allocator::after_script;
+use allocator::{Allocator, after_script};
 use bottleneck_cert::Verdict;
-use bwe_specs::OutOfMemory;
+use bwe_specs::{Closing, OutOfMemory};
+use demand_book::Maker;
 use one_run::Answer;
 use plan_doc::{Document, read_document};
 use std::alloc::Global;
@@ -42,12 +44,25 @@ fn check_document(alloc: Global, document: Document) -> Result<Answer, OutOfMemo
         ..
     } = open(document);
     let allocator = after_script(alloc, allocator, &script)?;
-    let (values, plan) = (allocator.values(), allocator.plan());
-    let verdict = bottleneck_cert::check(alloc, &values, allocator.topology(), plan, &closings)?;
+    let verdict = verdict_after(alloc, &allocator, &closings)?;
     Ok(Answer {
         status: status_of(verdict),
         text: check_text(alloc, &verdict, &names)?,
     })
+}
+
+// The verdict on the closings, under the demands and capacities after the reports that the allocator has taken in.
+fn verdict_after(
+    alloc: Global,
+    allocator: &Allocator,
+    closings: &[Closing],
+) -> Result<Verdict, OutOfMemory>
+    ensures { IfOk result (λ verdict. (script : List Report)
+        → ⟦<Allocator as Maker>⟧.absorbed allocator.now script
+        → verdict ≡ verdict_of (wan_after (⟦<Allocator as Maker>⟧.plan allocator.now) script) closings.now) }
+{
+    let (values, plan) = (allocator.values(), allocator.plan());
+    bottleneck_cert::check(alloc, &values, allocator.topology(), plan, closings)
 }
 
 // The status of a verdict.

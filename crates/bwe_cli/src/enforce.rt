@@ -1,7 +1,7 @@
 //! The line `enforce`.
 
 ghost use Rattle.std.specs.Prelude.{◌≡◌, [], IfOk};
-ghost use Rattle.event_lines.specs.EventLines.{AreThere};
+ghost use Rattle.enforce_run.specs.EventLines.{AreThere};
 ghost use Rattle.plan_doc.specs.Conditions.{IsUsable, reporter_count};
 ghost use Rattle.plan_doc.specs.Links.{names_view};
 ghost use Rattle.bwe_cli.specs.EnforceReply.{enforce_accepted, enforce_reply, enforced_reply};
@@ -12,7 +12,7 @@ use crate::opened::{Opened, open};
 use crate::parted::{Parted, read_parts};
 use bwe_specs::OutOfMemory;
 use demand_book::Maker;
-use event_lines::{EventError, EventLine, event_refusal_line, read_events};
+use enforce_run::{EventError, EventLine, event_refusal_line, read_events};
 use one_run::Answer;
 use plan_doc::Document;
 use std::alloc::Global;

@@ -4,10 +4,10 @@ ghost use Rattle.std.specs.Prelude.{◌≡◌, ◌≤◌, ◌-◌, ◌++◌, ℕ
 ghost use Rattle.bwe_specs.specs.declared.limits.TheConstants.{MAX_REPORTS};
 ghost use Rattle.demand_book.specs.Fit.{IsFit};
 ghost use Rattle.demand_estimate.specs.declared.TheConstants.{MAX_WINDOW, MIN_HEADROOM, MAX_HEADROOM};
-ghost use Rattle.table_text.specs.TableText.{texts_of};
+ghost use Rattle.doc_names.specs.NameTexts.{texts_of};
 ghost use Rattle.plan_doc.specs.Conditions.{IsUsable};
 ghost use Rattle.sample_lines.specs.Held.{IsByOwner};
-ghost use Rattle.sample_lines.specs.KnownView.{known_by};
+ghost use Rattle.sample_lines.specs.Known.{known_by};
 ghost use Rattle.bwe_cli.specs.EstimateReply.{estimate_accepted, estimate_reply};
 ghost use Rattle.bwe_cli.specs.Parted.{parts_reply};
 ghost use Rattle.plan_doc.specs.Plans.{plan_in};

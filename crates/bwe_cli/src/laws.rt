@@ -1,6 +1,6 @@
 //! What a status tells of a call, and what joins two lines, each law the contract of a function that does nothing.
 
-ghost use Rattle.bwe_cli.specs.Laws.{RunsAreLegal};
+ghost use Rattle.bwe_cli.specs.Laws.{RunsAreLegal, WhatRanIsFoundLegal};
 ghost use Rattle.bwe_cli.specs.Statuses.{AcceptedIsAnswered, AnAnswerIsWhole, NothingIsWritten};
 
 use bwe_io::{Sink, Source};
@@ -25,4 +25,11 @@ pub fn accepted_is_answered<S: Source, K: Sink>()
 /// What `run` wrote with status 0, behind its document, gets `legal` and status 0 from `audit`.
 pub fn runs_are_legal()
     ensures { RunsAreLegal }
+{}
+
+/// The same of two calls. Where a call for `run` ended with status 0, a call for `audit` on its
+/// document and what it wrote writes `legal` with status 0, unless its source or its sink fails, or
+/// memory is wanting.
+pub fn what_ran_is_found_legal<S: Source, K: Sink, T: Source, L: Sink>()
+    ensures { WhatRanIsFoundLegal S K T L }
 {}

@@ -5,7 +5,7 @@ ghost use Rattle.bwe_specs.specs.Reports.{demand_after};
 ghost use Rattle.parallel_values.specs.Levels.{levels_in};
 ghost use Rattle.plan_doc.specs.Conditions.{IsUsable};
 ghost use Rattle.policy_tree.specs.Trees.{demand_in};
-ghost use Rattle.table_text.specs.TableText.{texts_of};
+ghost use Rattle.doc_names.specs.NameTexts.{texts_of};
 ghost use Rattle.bwe_cli.specs.Replies.{document_reply, levels_accepted, levels_reply, values_reply};
 
 use crate::opened::{Opened, open};

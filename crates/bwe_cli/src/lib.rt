@@ -33,7 +33,10 @@ use bwe_io::{Sink, Source};
 use bwe_specs::OutOfMemory;
 use command_line::{CommandLine, command_line_of_words};
 use crew_actors::Gate;
-pub use laws::{accepted_is_answered, an_answer_is_whole, nothing_is_written, runs_are_legal};
+pub use laws::{
+    accepted_is_answered, an_answer_is_whole, nothing_is_written, runs_are_legal,
+    what_ran_is_found_legal,
+};
 use one_run::{finish, refuse_input, write_usage};
 use reading::read_input_of;
 use std::alloc::Global;

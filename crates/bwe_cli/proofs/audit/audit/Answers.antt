@@ -1,7 +1,7 @@
 use Rattle.std.proofs.Common.{◌∙◌, sym, subst}
 use Rattle.std.proofs.lemmas.Result.{IfOk-weaker}
-use Rattle.document_audit.specs.Laws.{IsRead}
-use Rattle.document_audit.proofs.DocumentLaw.{document-run-legal, legal-document-run}
+use Rattle.audit_law.specs.DocumentLaws.{IsRead}
+use Rattle.audit_law.proofs.DocumentLaw.{document-run-legal, legal-document-run}
 use Rattle.bwe_cli.specs.declared.parted.Parted.TheVariants.{Read}
 use Rattle.bwe_cli.specs.AuditReply.{IsAuditReply}
 use Rattle.bwe_cli.specs.Parted.{AreRead, IsReplyBehind, accepted_parts}

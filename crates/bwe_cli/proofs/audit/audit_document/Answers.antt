@@ -5,7 +5,7 @@ use Rattle.one_run.specs.Endings.{Reply}
 use Rattle.plan_doc.specs.Links.{names_view}
 use Rattle.run_audit.specs.AuditText.{verdict_line}
 use Rattle.bwe_cli.specs.AuditReply.{audit_status}
-use Rattle.document_audit.specs.DocumentRun.{script_verdict}
+use Rattle.audit_law.specs.DocumentRun.{script_verdict}
 use Rattle.plan_doc.specs.Plans.{plan_in}
 use Rattle.bwe_cli.proofs.Audits.{are-few, are-fit, verdict-is}
 use Rattle.bwe_cli.proofs.audit.audit_document.Goals as goal

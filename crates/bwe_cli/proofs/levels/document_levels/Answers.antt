@@ -3,7 +3,7 @@ use Rattle.std.proofs.lemmas.Result.{IfOk-weaker}
 use Rattle.bwe_specs.specs.Reports.{demand_after}
 use Rattle.doc_names.specs.declared.Names.{Names}
 use Rattle.policy_tree.specs.Trees.{Tree, demand_in}
-use Rattle.table_text.specs.TableText.{texts_of}
+use Rattle.doc_names.specs.NameTexts.{texts_of}
 use Rattle.bwe_cli.specs.Replies.{levels_reply}
 use Rattle.bwe_cli.proofs.Together.{levels-after}
 use Rattle.bwe_cli.proofs.levels.document_levels.Goals as goal
