@@ -69,7 +69,7 @@ def fault_of_folder(program, folder):
 
 
 def fault_of_case(program, folder):
-    words = (folder / "args").read_text().splitlines()
+    words = (folder / "args").read_bytes().splitlines()
     ran = subprocess.run(
         [program, *words], input=stream(folder, "stdin"), capture_output=True, timeout=SECONDS
     )

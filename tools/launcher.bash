@@ -2,7 +2,12 @@
 # `here`, the folder of the repository; `name`, how it is called; `crate`, what it launches; a
 # function `help`.
 program=$here/crates/$crate/out/$crate
-build_time="some forty minutes on four processors"
+
+# How long a build from nothing takes, by the contributor's page.
+build_time() {
+    sed -nE 's/^\| `make bwe` \| ([0-9]+) .*/some \1 minutes on four processors/p' \
+        "$here/CONTRIBUTING.md"
+}
 
 # make in the repository, also where make called this.
 make_here() {
@@ -33,7 +38,7 @@ build() {
     if [ -f "$program" ]; then
         say "sources are newer than the program; what changed is proved and built again"
     else
-        say "not built yet; all that it is built from is proved first: $build_time"
+        say "not built yet; all that it is built from is proved first: $(build_time)"
     fi
     for it in rt make; do
         if ! command -v "$it" >/dev/null; then

@@ -1,10 +1,10 @@
 #!/usr/bin/python3
-"""tools/runs.py [PROGRAM [RUNS [SEED]]]: makes documents, runs the built program's line `run` on
-them, and checks each text.
+"""tools/runs.py [--readers N] [--reads N] [--reporters N] [PROGRAM [RUNS [SEED]]]: makes documents,
+runs the built program's line `run` on them, and checks each text.
 
-Each document has four reporters, which report demands of their tasks and capacities of their
-links. The readers are 64, and each makes 1,000 reads and one at the end. What is checked of a
-printed run:
+The reporters of each document are 4, if not so many as are asked for, and report demands of their
+tasks and capacities of their links. The readers are 64, and each makes 1,000 reads and one at the
+end. What is checked of a printed run:
 
 - the history has each reporter's reports once, in the script's order, and no other; what each
   reporter sent is right;
@@ -25,18 +25,30 @@ seen a table of a part of the history. The runs are made side by side on all pro
 line says how much was seen. The status is 0 where all runs passed.
 """
 
+import argparse
 import json
 import random
 import subprocess
 import sys
 from collections import Counter
 from concurrent.futures import ProcessPoolExecutor
+from dataclasses import dataclass
 from functools import partial
 from pathlib import Path
 
-READERS, READS = 64, 1000
-WORDS = ["run", "--readers", str(READERS), "--reads", str(READS)]
 SITES = ["a", "b", "c"]
+
+
+@dataclass(frozen=True)
+class Sizes:
+    """How many there are of each; `reads` are those of a reader beside its last."""
+
+    readers: int = 64
+    reads: int = 1000
+    reporters: int = 4
+
+    def words(self):
+        return ["run", "--readers", str(self.readers), "--reads", str(self.reads)]
 
 
 class Fault(Exception):
@@ -80,9 +92,9 @@ def path_groups(dice, links, start, end):
     return groups
 
 
-def made_document(dice):
+def made_document(dice, count):
     top = dice.choice([10, 100, 1000])
-    reporters = [f"r{number}" for number in range(4)]
+    reporters = [f"r{number}" for number in range(count)]
     links = []
     for start in SITES:
         for end in SITES:
@@ -247,17 +259,17 @@ def history_of(document, lines):
     return history
 
 
-def check_reader(lines, number, length, totals, prefixes):
+def check_reader(lines, number, reads, length, totals, prefixes):
     need(
         next(lines) == f"reader {number} length {length}",
         f"length of reader {number}, or a line beyond",
     )
     before = 0
-    for read in range(READS + 1):
+    for read in range(reads + 1):
         word, _, floor, _, prefix, _, total = next(lines).split()
         floor, prefix, total = int(floor), int(prefix), int(total)
         need(
-            word == ("final" if read == READS else "read"),
+            word == ("final" if read == reads else "read"),
             f"word of read {read} of reader {number}",
         )
         need(before <= floor <= prefix <= length, f"prefix of read {read} of reader {number}")
@@ -267,13 +279,13 @@ def check_reader(lines, number, length, totals, prefixes):
     need(before == length, f"end of reader {number}")
 
 
-def check_run(program, document):
-    text = written(program, WORDS, document)
+def check_run(program, sizes, document):
+    text = written(program, sizes.words(), document)
     lines = iter(text.splitlines())
     history = history_of(document, lines)
     totals, prefixes = Totals(program, document, history), Counter()
-    for number in range(READERS):
-        check_reader(lines, number, len(history), totals, prefixes)
+    for number in range(sizes.readers):
+        check_reader(lines, number, sizes.reads, len(history), totals, prefixes)
     table = "".join(line + "\n" for line in lines)
     need(table == written(program, ["solve"], document), "table at the end")
     need(
@@ -305,18 +317,18 @@ def check_audit(program, document, text):
     )
 
 
-def seen_of(program, seed):
+def seen_of(program, sizes, seed):
     """What was seen of a seed's run: fault or None, another order or not, prefixes, length."""
-    document = made_document(random.Random(seed))
+    document = made_document(random.Random(seed), sizes.reporters)
     try:
-        return None, *check_run(program, document)
+        return None, *check_run(program, sizes, document)
     except (Fault, StopIteration, ValueError, subprocess.TimeoutExpired) as fault:
         return repr(fault), False, Counter(), 0
 
 
-def seen_of_all(program, count, first):
+def seen_of_all(program, sizes, count, first):
     with ProcessPoolExecutor() as pool:
-        return list(pool.map(partial(seen_of, program), range(first, first + count)))
+        return list(pool.map(partial(seen_of, program, sizes), range(first, first + count)))
 
 
 def is_between(prefixes, length):
@@ -333,18 +345,28 @@ def results_of(seen, first):
 
 
 def results(program, count, first=1):
-    return results_of(seen_of_all(program, count, first), first)
+    return results_of(seen_of_all(program, Sizes(), count, first), first)
+
+
+def asked(words):
+    """The program, the sizes, the number of runs and the first seed that the words ask for."""
+    parser = argparse.ArgumentParser(
+        description=__doc__, formatter_class=argparse.RawDescriptionHelpFormatter
+    )
+    for name in ("readers", "reads", "reporters"):
+        parser.add_argument(f"--{name}", type=int, default=getattr(Sizes, name), metavar="N")
+    built = Path(__file__).resolve().parent / "../crates/bwe/out/bwe"
+    parser.add_argument("program", nargs="?", default=built, type=Path)
+    parser.add_argument("runs", nargs="?", default=3, type=int)
+    parser.add_argument("seed", nargs="?", default=1, type=int)
+    given = parser.parse_args(words)
+    sizes = Sizes(given.readers, given.reads, given.reporters)
+    return str(given.program.resolve()), sizes, given.runs, given.seed
 
 
 def main(words):
-    if words[:1] == ["--help"]:
-        print(__doc__)
-        return 0
-    here = Path(__file__).resolve().parent
-    program = str(Path(words[0] if words else here / "../crates/bwe/out/bwe").resolve())
-    count = int(words[1]) if len(words) > 1 else 3
-    first = int(words[2]) if len(words) > 2 else 1
-    seen = seen_of_all(program, count, first)
+    program, sizes, count, first = asked(words)
+    seen = seen_of_all(program, sizes, count, first)
     faults = [(name, fault) for name, fault in results_of(seen, first) if fault]
     for name, fault in faults:
         print(f"{name}: {fault}")

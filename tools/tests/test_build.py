@@ -2,6 +2,7 @@
 
 import os
 import pty
+import re
 import shutil
 import signal
 import subprocess
@@ -28,6 +29,7 @@ COPIED = [
     "HANDLES",
     "README.md",
     "CHANGELOG.md",
+    "CONTRIBUTING.md",
 ]
 
 # Builds a library where those below are built, and refuses a crate whose source says `wrong`.
@@ -218,6 +220,7 @@ def test_the_first_call_builds_and_a_newer_source_builds_again(project):
     told = run(project, "./bwe", "solve", given="a document")
     assert (told.returncode, told.stdout) == (3, "words: solve\na document")
     assert told.stderr.startswith("bwe: not built yet")
+    assert re.search(r": some [0-9]+ minutes on four processors\n", told.stderr)
     proved(project)
     old_files(project)
     (project / "crates/tables/src/lib.rt").write_text("another\n")

@@ -53,3 +53,47 @@ def test_some_read_has_to_lie_between_the_first_and_the_last_prefix():
     name, fault = runs.results_of(seen, 1)[-1]
     assert (name, fault) == ("reads between the first and the last prefix", None)
     assert runs.results_of(seen[:1], 1)[-1] == (name, "there are none")
+
+
+def test_readers_reads_and_reporters_are_as_many_as_the_words_ask_for():
+    _, sizes, count, seed = runs.asked(["--reads", "100", "--reporters", "2", "bwe", "20", "7"])
+    assert (count, seed) == (20, 7)
+    assert sizes.words() == ["run", "--readers", "64", "--reads", "100"]
+    document = runs.made_document(runs.random.Random(seed), sizes.reporters)
+    assert document["reporters"] == ["r0", "r1"]
+    assert {report["reporter"] for report in document["script"]} <= {"r0", "r1"}
+
+
+READER = [
+    "reader 0 length 3",
+    "read floor 0 prefix 1 total 10",
+    "read floor 1 prefix 2 total 20",
+    "final floor 2 prefix 3 total 30",
+]
+
+
+class Tens:
+    def of(self, prefix):
+        return 10 * prefix
+
+
+@pytest.mark.parametrize(
+    "place, line, fault",
+    [
+        (0, "reader 0 length 3", None),
+        (0, "reader 1 length 3", "length of reader 0, or a line beyond"),
+        (1, "read floor 0 prefix 3 total 30", "prefix of read 1 of reader 0"),
+        (2, "read floor 0 prefix 2 total 20", "prefix of read 1 of reader 0"),
+        (2, "read floor 1 prefix 2 total 21", "total of read 1 of reader 0"),
+        (2, "final floor 1 prefix 2 total 20", "word of read 1 of reader 0"),
+        (3, "final floor 2 prefix 2 total 20", "end of reader 0"),
+        (3, "final floor 2 prefix 4 total 40", "prefix of read 2 of reader 0"),
+    ],
+)
+def test_a_reader_is_judged_without_audit(place, line, fault):
+    lines = iter(READER[:place] + [line] + READER[place + 1 :])
+    if fault is None:
+        runs.check_reader(lines, 0, 2, 3, Tens(), runs.Counter())
+    else:
+        with pytest.raises(runs.Fault, match=fault):
+            runs.check_reader(lines, 0, 2, 3, Tens(), runs.Counter())

@@ -68,13 +68,14 @@ def test_the_page_of_choices_names_the_crates_without_an_edit():
 
 
 def words_of_sources():
-    """All names in the sources of the crates, and the names of the crates."""
+    """All names in the sources of the crates, and those of the crates and of their edits."""
     files = [
         file
         for pattern in ("src/**/*.rt", "specs/**/*.antt", "proofs/**/*.antt")
         for file in TOP.glob(f"crates/*/{pattern}")
     ]
     names = {path.parent.name for path in TOP.glob("crates/*/src")}
+    names.update(path.stem for path in TOP.glob("crates/*/must-fail/*.edit"))
     for file in files:
         names.update(re.findall(r"[A-Za-z_][A-Za-z0-9_]*", file.read_text()))
     return names

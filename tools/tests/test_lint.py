@@ -23,7 +23,7 @@ REFUSED = re.compile(r"^\S*?(:(\d+):(\d+))?: fault: (.*) \(bwe: (refused .*)\)$"
 def solve_cases():
     """The folders of the whole cases of the line solve."""
     return sorted(
-        args.parent for args in CASES.rglob("args") if args.read_text().split() == ["solve"]
+        args.parent for args in CASES.rglob("args") if args.read_bytes().split() == [b"solve"]
     )
 
 
