@@ -11,6 +11,7 @@ use Rattle.bwe_specs.specs.Allocation.{GroupLine, PlaceLine, group_line}
 use Rattle.bwe_specs.proofs.Bounds.{sum_below-same, sum_below-term}
 use Rattle.bwe_specs.proofs.Certificates.{filling-right, filling-amounts, last_share-le}
 use Rattle.bwe_specs.proofs.Totals.{group_amount-le, total, total-le}
+use Rattle.bwe_specs.proofs.Sums.{sum_by-numbers}
 use Rattle.link_sums.specs.Sums.{AreRowsOf, amount_at, rows_in, total_of}
 use Rattle.mpfa_fill.specs.declared.steps.Filling.{Filling}
 use Rattle.mpfa_fill.specs.Filling.{IsFilling}
@@ -27,14 +28,6 @@ pub map-numbers : {X : Type 0} (d : X) (f g : ℕ → X) (n : ℕ) → ((i : ℕ
 map-numbers d f g n each =
     fill_by_all g (map f (numbers n)) n d (length-map-range_with_len f 0 n)
     (λ k lt. get_or-map-range_with_len f 0 n k k d lt (zero-add k) ∙ each k lt)
-
--- a sum over a list by number
-pub sum_by-numbers : {X : Type 0} (g : X → ℕ) (f : ℕ → X) (n : ℕ) → sum_by g (map f (numbers n)) ≡ sum_below n (λ k. g (f k))
-unfolding sum_below
-sum_by-numbers g f zero = refl
-sum_by-numbers g f (suc n) =
-    let next : suc n ≡ n + 1 = omega arith in
-    ap (λ k. sum_by g (map f (numbers k))) next ∙ sum_by-map-range_with_len_more g f 0 n n (zero-add n) ∙ ap (λ k. k + g (f n)) (sum_by-numbers g f n)
 
 pub sum-numbers : (f : ℕ → ℕ) (n : ℕ) → sum (map f (numbers n)) ≡ sum_below n f
 sum-numbers f n = sum_by-numbers (λ k. k) f n

@@ -9,7 +9,7 @@ use Rattle.bwe_specs.specs.Tree.{Cluster, cluster_limits}
 use Rattle.bwe_specs.specs.TreeFunctions.{IsCluster, AreClusters}
 use Rattle.bwe_specs.specs.Values.{AreValues}
 use Rattle.bwe_specs.specs.Allocation.{Table}
-use Rattle.bwe_specs.proofs.HandedOut.{sum-cluster_limits}
+use Rattle.bwe_specs.proofs.HandedOut.{cluster-at, sum-cluster_limits}
 use Rattle.bwe_specs.proofs.Loads.{fits-each}
 use Rattle.bwe_specs.proofs.Steps.{filling-sound}
 use Rattle.bwe_specs.proofs.StopShares.{held_back}
@@ -32,11 +32,6 @@ use Rattle.allocator.proofs.Pieces.{piece-at}
 pub ok-where : {E : Type 0} (answer : Result Table E) (P : Table → Type 0) (table : Table) → P table → IfOk answer (λ made. made ≡ table) → IfOk answer P
 ok-where (Ok made) P table holds is = subst P (sym is) holds
 ok-where (Err error) P table holds is = tt
-
-cluster-at : (top : ℕ) (clusters : List Cluster) → AreClusters top clusters → (group : ℕ) → IsCluster top (slice_index_or clusters group (record { configured = None; users = [] }))
-cluster-at top [] are group = (tt, tt)
-cluster-at top (cluster ∷ clusters) are zero = are.0
-cluster-at top (cluster ∷ clusters) are (suc group) = cluster-at top clusters are.1 group
 
 module _ (reported : Reported) (groups : List PathGroups) (fitted : IsFitted reported groups) (values : AreValues (length reported.tree.clusters) reported.tree.top (value_in reported.tree)) where
   abbrev wan : Wan

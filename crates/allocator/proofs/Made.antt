@@ -9,6 +9,7 @@ use Rattle.bwe_specs.specs.Reports.{numbers}
 use Rattle.bwe_specs.specs.Tree.{cluster_limits}
 use Rattle.bwe_specs.specs.Values.{AreValues, NeverFalls}
 use Rattle.bwe_specs.specs.Allocation.{GroupLine, Table, group_line, limits_of}
+use Rattle.bwe_specs.proofs.Sums.{sum_by-numbers}
 use Rattle.link_sums.specs.Sums.{AreRowsOf, amount_at, rows_in, total_of}
 use Rattle.limit_table.specs.Tables.{IsTable}
 use Rattle.mpfa_fill.specs.declared.steps.Filling.{Filling}
@@ -20,7 +21,7 @@ use Rattle.allocator.specs.Lines.{HasRows, line_in}
 use Rattle.allocator.specs.Reported.{Reported}
 use Rattle.allocator.specs.Allocators.{IsFitted, plan_by, table_by}
 use Rattle.allocator.specs.Tables.{wan_by}
-use Rattle.allocator.proofs.Filled.{sum_by-numbers, amounts-of_lines, amounts-total, amount-at_most, shaped, total-is, loads-are, lines-are, has_rows}
+use Rattle.allocator.proofs.Filled.{amounts-of_lines, amounts-total, amount-at_most, shaped, total-is, loads-are, lines-are, has_rows}
 
 abbrev table_parts : ℕ → List ℕ → List GroupLine → List ℕ → List Closing → Table
 table_parts prefix limits groups loads closings = record { prefix = prefix; limits = limits; groups = groups; loads = loads; closings = closings }

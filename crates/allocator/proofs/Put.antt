@@ -6,6 +6,7 @@ use Rattle.bwe_specs.specs.Bounded.{sum_below}
 use Rattle.bwe_specs.specs.Paths.{PathGroups, path_group_at, path_group_count, link_load, load_on}
 use Rattle.bwe_specs.specs.Reports.{numbers}
 use Rattle.bwe_specs.proofs.Bounds.{sum_below-mono, sum_below-same}
+use Rattle.bwe_specs.proofs.Sums.{sum_below-room}
 use Rattle.link_sums.specs.Sums.{Sums, IsSummedOver, RaisesAmount, amount_at, total_of}
 use Rattle.allocator.specs.Loads.{IsPutUpTo}
 
@@ -16,19 +17,6 @@ ne_lt i n lt apart = elim (cases_lt i n) [ inl under ↦ under | inr over ↦ ab
 -- not below and not there
 gt_of : (i n : ℕ) → n ≤ i → (i ≡ n → ⊥) → n < i
 gt_of i n le apart = elim (cases_lt n i) [ inl over ↦ over | inr under ↦ absurd (apart (omega arith)) ]
-
--- a sum that is nowhere above another has room for what one term lacks
-sum_below-room : (n i more : ℕ) (f g : ℕ → ℕ) → i < n → ((j : ℕ) → j < n → f j ≤ g j) → f i + more ≤ g i → sum_below n f + more ≤ sum_below n g
-unfolding sum_below
-sum_below-room zero i more f g lt below room = absurd (omega arith)
-sum_below-room (suc n) i more f g lt below room =
-    elim (cases_eq i n) [
-      | inl here ↦
-          let last : f n + more ≤ g n = subst (λ k. f k + more ≤ g k) here room in
-          omega (arith, last, sum_below-mono n f g (λ j under. below j (omega arith)))
-      | inr other ↦
-          omega (arith, sum_below-room n i more f g (ne_lt i n (omega arith) other) (λ j under. below j (omega arith)) room, below n (omega arith))
-    ]
 
 module _ (groups : List PathGroups) (amounts : List (List ℕ)) (links group place : ℕ) (sums : Sums) (put : IsPutUpTo groups amounts links group place sums) where
   -- no amount is above the one that it gets

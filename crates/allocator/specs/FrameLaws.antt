@@ -11,19 +11,11 @@ use Rattle.bwe_specs.specs.Filling.{Wan, State, filling, group_amount}
 use Rattle.bwe_specs.specs.Paths.{path_group_count}
 use Rattle.bwe_specs.specs.Reports.{numbers, demand_after}
 use Rattle.bwe_specs.specs.Allocation.{Plan, wan_after, group_line, limits_of, allocation}
+use Rattle.bwe_specs.proofs.HandedOut.{length-distribution}
 use Rattle.bwe_specs.proofs.Plans.{length-capacities_after}
 use Rattle.limit_table.specs.Tables.{Frame, frame_of}
 use Rattle.policy_tree.specs.Trees.{job_numbers, user_numbers, cluster_numbers}
 use Rattle.allocator.specs.Frames.{task_count, frame_of_plan}
-
-length-handed_out : (children : List (ℕ → ℕ)) (share rest : ℕ) → length (handed_out children share rest) ≡ length children
-unfolding handed_out
-length-handed_out [] share rest = refl
-length-handed_out (child ∷ children) share rest = ap suc (length-handed_out children share (rest - min rest (child (suc share) - child share)))
-
-length-distribution : (top : ℕ) (children : List (ℕ → ℕ)) (amount : ℕ) → length (distribution top children amount) ≡ length children
-unfolding distribution
-length-distribution top children amount = length-handed_out children (common_share top children amount) (amount - children_sum children (common_share top children amount))
 
 -- the pieces of pairs, where the length of a piece is decided by the first of its pair
 length-pieces : {X : Type 0} (piece : X × ℕ → List ℕ) (count : X → ℕ) → ((x : X) (y : ℕ) → length (piece (x, y)) ≡ count x)

@@ -16,7 +16,8 @@ use Rattle.bwe_specs.specs.Tree.{Cluster, Job, User, Weighted, cluster_value, in
 use Rattle.bwe_specs.specs.TreeFunctions.{AreClusters}
 use Rattle.bwe_specs.specs.Allocation.{Plan, allocation, group_line, wan_after}
 use Rattle.bwe_specs.proofs.Plans.{plan-never_falls}
-use Rattle.allocator.proofs.Filled.{amounts-total, sum_by-numbers}
+use Rattle.bwe_specs.proofs.Sums.{sum_below-list, sum_by-numbers}
+use Rattle.allocator.proofs.Filled.{amounts-total}
 use Rattle.limit_table.specs.Tables.{total_of}
 use Rattle.policy_tree.specs.Trees.{cluster_numbers, job_numbers, task_numbers, user_numbers}
 
@@ -65,17 +66,6 @@ module _ (top : ℕ) (demand : ℕ → ℕ) (small : (task : ℕ) → demand tas
 
   cluster_most : (cluster : Cluster) (share : ℕ) → cluster_value top demand cluster share ≤ length (cluster_numbers cluster) * MAX_AMOUNT
   cluster_most cluster share = node_most cluster.configured (children_sum (map (user_value top demand) cluster.users)) (length (cluster_numbers cluster) * MAX_AMOUNT) (sum_most (user_value top demand) user_numbers user_most cluster.users) share
-
-sum_below-front : (n : ℕ) (f : ℕ → ℕ) → sum_below (suc n) f ≡ f 0 + sum_below n (λ i. f (suc i))
-unfolding sum_below
-sum_below-front zero f = omega arith
-sum_below-front (suc n) f = omega (arith, sum_below-front n f)
-
-sum_below-list : {X : Type 0} (value : X → ℕ) (xs : List X) (d : X) → sum_below (length xs) (λ i. value (get_or xs i d)) ≡ sum_by value xs
-unfolding sum_below
-sum_below-list value [] d = refl
-sum_below-list value (x ∷ xs) d =
-    omega (arith, sum_below-front (length xs) (λ i. value (get_or (x ∷ xs) i d)), sum_by-cons value x xs, sum_below-list value xs d)
 
 values_most : (top : ℕ) (demand : ℕ → ℕ) → ((task : ℕ) → demand task ≤ MAX_AMOUNT) → (clusters : List Cluster) (share : ℕ) → sum_by (λ cluster. cluster_value top demand cluster share) clusters ≤ length (task_numbers clusters) * MAX_AMOUNT
 values_most top demand small [] share = omega arith

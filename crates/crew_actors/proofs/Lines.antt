@@ -11,9 +11,6 @@ use Rattle.crew_log.specs.Lines.{IsLineOf, NeverGoBack}
 pub prefix_same : {A : Type 0} (xs : List A) → IsPrefix xs xs
 prefix_same xs = ([], append-nil xs)
 
-pub prefix_then : {A : Type 0} (xs ys zs : List A) → IsPrefix xs ys → IsPrefix ys zs → IsPrefix xs zs
-prefix_then xs ys zs p q = (p.0 ++ q.0, sym (append_assoc xs p.0 q.0) ∙ ap (λ w. w ++ q.0) p.1 ∙ q.1)
-
 -- where each of two lists begins the other, they are as long
 pub prefix_both : {A : Type 0} (xs ys : List A) → IsPrefix xs ys → IsPrefix ys xs → length ys ≡ length xs
 prefix_both xs ys p q = omega (arith, sym (ap length p.1) ∙ length-append xs p.0, sym (ap length q.1) ∙ length-append ys q.0)

@@ -10,7 +10,7 @@ use Rattle.bwe_specs.specs.Bounded.{sum_below}
 use Rattle.bwe_specs.specs.declared.report.Report.{Report}
 use Rattle.bwe_specs.specs.Reports.{numbers, reports_of}
 use Rattle.bwe_specs.proofs.Bounds.{sum_below-add, sum_below-zero, sum_below-same}
-use Rattle.allocator.proofs.Filled.{sum_by-numbers}
+use Rattle.bwe_specs.proofs.Sums.{sum_by-numbers}
 use Rattle.demand_book.specs.Fit.{IsFit}
 use Rattle.crew.specs.Starting.{AreScripts}
 use Rattle.crew.specs.Reporters.{scripted}

@@ -9,25 +9,18 @@ use Rattle.bwe_specs.specs.Paths.{PathGroup, PathGroups, path_group_at, path_gro
 use Rattle.bwe_specs.specs.Filling.{Wan, closed_links, current_path_group_of}
 use Rattle.bwe_specs.proofs.Bounds.{sum_below-mono, sum_below-zero, sum_below-term, lowest-some}
 use Rattle.bwe_specs.proofs.Loads.{current-open}
+use Rattle.bwe_specs.proofs.StopShares.{none-more, open-fewer}
 use Rattle.mpfa_fill.specs.declared.standing.Standing.{Standing}
 use Rattle.mpfa_fill.specs.declared.standing.Standing.TheVariants.{Grows, Stopped}
 use Rattle.mpfa_fill.specs.Standing.{standing_of, standing_under}
-use Rattle.mpfa_fill.proofs.Closed.{none-more, some-more}
+use Rattle.mpfa_fill.proofs.Closed.{some-more}
 use Rattle.link_solver.specs.declared.due.Due.{Due}
 use Rattle.link_solver.specs.Dues.{Moves, came_to, Marks}
 use Rattle.link_solver.specs.Front.{IsHeld}
 use Rattle.link_solver.specs.Looks.{links_of, links_over_all, looks_in, moves_at, moves_of, looks_ahead}
-use Rattle.link_solver.proofs.Fronts.{sum_below-room}
+use Rattle.bwe_specs.proofs.Sums.{sum_below-room}
 use Rattle.link_solver.proofs.Looks.{sum_below-times, looks-all, looks-moved}
 use Rattle.link_solver.proofs.Walks.{UsesNot}
-
--- a path group that is open was open before
-open-fewer : (link : ℕ) (closed : List ℕ) (path_group : PathGroup) → is_open (link ∷ closed) path_group ≡ true → is_open closed path_group ≡ true
-unfolding is_open
-open-fewer link closed path_group h = go (uses path_group link) (list_any (uses path_group) closed) h where
-  go : (here later : Bool) → not (here || later) ≡ true → not later ≡ true
-  go true later is = absurd (cc)
-  go false later is = is
 
 -- one that uses a closed link is not
 not-open : (link : ℕ) (closed : List ℕ) (path_group : PathGroup) → uses path_group link ≡ true → is_open (link ∷ closed) path_group ≡ false

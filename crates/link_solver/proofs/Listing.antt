@@ -14,25 +14,8 @@ use Rattle.path_groups.specs.Parts.{AreParts, has_part}
 use Rattle.path_groups.specs.Plan.{IsPathOf, IsBuiltOn}
 use Rattle.path_groups.proofs.Lists.{get_map}
 use Rattle.path_groups.proofs.Parts.{AreParts-used}
+use Rattle.path_groups.proofs.Uses.{uses-in}
 use Rattle.link_solver.specs.ByLink.{list_on, AreAscending, ListsMore}
-
--- a link that a path goes over is one of the network's
-goes_over-in : (links : List ℕ) (bound link : ℕ) → All (λ other. other < bound) links → list_any (λ other. other == link) links ≡ true → link < bound
-goes_over-in [] bound link all e = absurd (cc)
-goes_over-in (first ∷ later) bound link all e = elim (or-true (first == link) (list_any (λ other. other == link) later) e) [
-  | inl is ↦ subst (λ l. l < bound) (eqb-true first link is) (all 0 first (omega arith))
-  | inr rest ↦ goes_over-in later bound link (λ k d lt. all (suc k) d (omega arith)) rest
-]
-
-uses-in : (network : Network) (path_group : PathGroup) (link : ℕ) → All (IsPathOf network) path_group → uses path_group link ≡ true → link < length network.capacities
-unfolding uses
-uses-in network [] link all e = absurd (cc)
-uses-in network (path ∷ later) link all e =
-    let here : IsPathOf network path = all 0 path (omega arith) in
-    elim (or-true (goes_over link path) (list_any (goes_over link) later) e) [
-      | inl over ↦ goes_over-in path.links (length network.capacities) link here.in_range over
-      | inr rest ↦ uses-in network later link (λ k d lt. all (suc k) d (omega arith)) rest
-    ]
 
 pub built-links : (network : Network) (groups : List PathGroups) (count : ℕ) → count ≡ length network.capacities → IsBuiltOn network groups → (group place link : ℕ) → uses (path_group_at groups group place) link ≡ true → link < count
 built-links network groups count is built group place link used = omega (arith, is, uses-in network (path_group_at groups group place) link (built.paths group place) used)

@@ -12,7 +12,7 @@ use Rattle.std.proofs.lemmas.List.Quantifiers.{position-Some}
 use Rattle.text_scan.specs.Numbers.{is_number, number_of}
 use Rattle.two_part.specs.declared.Parts.{Parts}
 use Rattle.two_part.specs.TwoPart.{IsTwoPart, AreParts, parts_behind, parts_of}
-use Rattle.two_part.proofs.PartsFacts.{parts_found, parts_complete}
+use Rattle.two_part.proofs.PartsFacts.{behind_digits, parts_found, parts_complete}
 use Rattle.live_run.specs.Follow.{Follow, document_in}
 use Rattle.live_run.specs.Answers.{IsBefore}
 use Rattle.live_run.specs.Front.{HasDocument, HasNoDocument, SaysNotTooLong, SaysTooLong}
@@ -64,14 +64,6 @@ comes_later (byte ∷ bytes) more l = go (is_line_feed byte) refl (comes_later b
         let j : position_or_len is_line_feed (byte ∷ (bytes ++ more)) ≡ position_or_len is_line_feed (bytes ++ more) + 1 = rw h (omega arith) in
         let deeper = rest (omega (arith, l, k)) in
         omega (arith, deeper, j)
-
--- it stands behind the digits
-behind_digits : (digits more : List ℕ) → all_ascii_digits digits ≡ true → position_or_len is_line_feed (digits ++ 10 ∷ more) ≡ length digits
-behind_digits [] more e = refl
-behind_digits (digit ∷ digits) more e =
-    let parts = and_parts (is_ascii_digit digit) (all_ascii_digits digits) e in
-    let range = and_parts (nat_le 48 digit) (nat_le digit 57) parts.0 in
-    rw (ne_eqb digit 10 (λ k. omega (arith, leb-true 48 digit range.0)), behind_digits digits more parts.1) (omega arith)
 
 digits_in_front : (xs ys : List ℕ) → all_ascii_digits (xs ++ ys) ≡ true → all_ascii_digits xs ≡ true
 digits_in_front [] ys e = refl

@@ -6,6 +6,7 @@ use Rattle.bwe_specs.specs.Paths.{PathGroup, PathGroups, path_group_at, path_gro
 use Rattle.bwe_specs.specs.Filling.{Wan, closed_links, current_path_group_of, stop_share}
 use Rattle.bwe_specs.proofs.Loads.{current-open}
 use Rattle.bwe_specs.proofs.Bounds.{none-lowest, lowest-none, some-lowest, lowest-some}
+use Rattle.bwe_specs.proofs.StopShares.{none-more}
 use Rattle.mpfa_fill.specs.declared.standing.Standing.{Standing}
 use Rattle.mpfa_fill.specs.declared.standing.Standing.TheVariants.{Grows, Stopped}
 use Rattle.mpfa_fill.proofs.Places.{current-reverse}
@@ -23,12 +24,6 @@ shut-more link closed path_group h = go (uses path_group link) (list_any (uses p
 open-more : (link : ℕ) (closed : List ℕ) (path_group : PathGroup) → uses path_group link ≡ false → is_open closed path_group ≡ true → is_open (link ∷ closed) path_group ≡ true
 unfolding is_open
 open-more link closed path_group unused h = rw unused h
-
-pub none-more : (path_groups : PathGroups) (link : ℕ) (closed : List ℕ) → current_path_group path_groups closed ≡ None → current_path_group path_groups (link ∷ closed) ≡ None
-unfolding current_path_group
-none-more path_groups link closed none =
-    none-lowest (length path_groups) (λ place. is_open (link ∷ closed) (slice_index_or path_groups place []))
-    (λ place lt. shut-more link closed (slice_index_or path_groups place []) (lowest-none (length path_groups) (λ k. is_open closed (slice_index_or path_groups k [])) none place lt))
 
 pub some-more : (path_groups : PathGroups) (link : ℕ) (closed : List ℕ) (place : ℕ) → current_path_group path_groups closed ≡ Some place → uses (slice_index_or path_groups place []) link ≡ false → current_path_group path_groups (link ∷ closed) ≡ Some place
 unfolding current_path_group

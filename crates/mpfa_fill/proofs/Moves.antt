@@ -23,7 +23,7 @@ at-other : (o : Option ℕ) (found place : ℕ) → o ≡ Some found → (place 
 unfolding is_at
 at-other o found place e other = rw e (ne_eqb found place (λ f. other (sym f)))
 
-at-none : (o : Option ℕ) (place : ℕ) → o ≡ None → is_at o place ≡ false
+pub at-none : (o : Option ℕ) (place : ℕ) → o ≡ None → is_at o place ≡ false
 unfolding is_at
 at-none o place e = rw e
 

@@ -41,7 +41,8 @@ use Rattle.doc_passes.proofs.LimitFacts.{are_few}
 use Rattle.doc_passes.proofs.RangeFacts.{in_range}
 use Rattle.doc_passes.proofs.NameFacts.{names_of}
 use Rattle.doc_passes.proofs.NumberFacts.{numbers_of}
-use Rattle.plan_doc.proofs.NodeFacts.{length-numbered, length-task_numbers}
+use Rattle.policy_tree.proofs.Numbers.{length-numbered}
+use Rattle.plan_doc.proofs.NodeFacts.{length-task_numbers}
 use Rattle.plan_doc.proofs.PlanFacts.{length-capacities}
 use Rattle.plan_doc.proofs.OwnerFacts.{IsOwned, by_owners}
 

@@ -7,6 +7,7 @@ use Rattle.policy_tree.specs.States.{JobState, UserState, ClusterState, job_task
 use Rattle.policy_tree.specs.Numbering.{numbered, numbered_task, numbered_tasks, numbered_job, numbered_jobs, numbered_user, numbered_users, numbered_cluster, numbered_clusters}
 use Rattle.policy_tree.specs.Trees as trees
 use Rattle.policy_tree.specs.Walk as walks
+use Rattle.policy_tree.proofs.Numbers.{length-numbered}
 use Rattle.raw_document.specs.Raw as raw
 use Rattle.doc_passes.specs.Limits.{sum_of}
 use Rattle.doc_passes.specs.Counts as counts
@@ -21,11 +22,6 @@ module _ {X Y Z : Type 0} (tasks : X → ℕ) (item : ℕ → X → Y) (f : Y �
       length-append (f (item first x)) (flat_map f (numbered tasks item (first + tasks x) xs))
       ∙ ap (λ n. n + length (flat_map f (numbered tasks item (first + tasks x) xs))) (sized first x)
       ∙ ap (λ n. size x + n) (flat_map-numbered (first + tasks x) xs)
-
-pub length-numbered : {X Y : Type 0} (tasks : X → ℕ) (item : ℕ → X → Y) (first : ℕ) (xs : List X) → length (numbered tasks item first xs) ≡ length xs
-unfolding numbered
-length-numbered tasks item first [] = refl
-length-numbered tasks item first (x ∷ xs) = ap suc (length-numbered tasks item (first + tasks x) xs)
 
 sum_of-map : {A B : Type 0} (part : A → B) (size : B → ℕ) (count : A → ℕ) → ((a : A) → size (part a) ≡ count a) → (items : List A) → sum_of size (map part items) ≡ sum_of count items
 unfolding sum_of

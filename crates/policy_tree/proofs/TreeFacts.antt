@@ -12,7 +12,10 @@ use Rattle.bwe_specs.specs.Values.{AreValues, IsShareFunction}
 use Rattle.bwe_specs.specs.Tree.{Weighted, Cluster, cluster_value}
 use Rattle.bwe_specs.specs.TreeFunctions.{IsConfigured, AreJobs, AreUsers, IsCluster, AreClusters}
 use Rattle.bwe_specs.specs.Distribution.{children_sum}
+use Rattle.bwe_specs.proofs.Bounds.{sum_below-same}
+use Rattle.bwe_specs.proofs.HandedOut.{cluster-at}
 use Rattle.bwe_specs.proofs.ShareFunctions.{cluster_value-is_share_function}
+use Rattle.bwe_specs.proofs.Sums.{sum_below-list}
 use Rattle.bw_function.specs.BwFunction.{Function}
 use Rattle.capped_sum.specs.declared.task.Task.{Task}
 use Rattle.capped_sum.specs.Index.{IsInRange}
@@ -139,14 +142,9 @@ tree-is top clusters homes firsts lists kept = record {
 }
 
 -- the values of the groups
-pub cluster-is : (top : ℕ) (clusters : List Cluster) → AreClusters top clusters → (group : ℕ) → IsCluster top (slice_index_or clusters group (record { configured = None; users = [] }))
-cluster-is top [] are group = (tt, tt)
-cluster-is top (cluster ∷ clusters) are zero = are.0
-cluster-is top (cluster ∷ clusters) are (suc group) = cluster-is top clusters are.1 group
-
 value-share_function : (tree : Tree) → AreClusters tree.top tree.clusters → (group : ℕ) → IsShareFunction tree.top (value_in tree group)
 value-share_function tree are group =
-    cluster_value-is_share_function tree.top (demand_in tree) (slice_index_or tree.clusters group (record { configured = None; users = [] })) (cluster-is tree.top tree.clusters are group)
+    cluster_value-is_share_function tree.top (demand_in tree) (slice_index_or tree.clusters group (record { configured = None; users = [] })) (cluster-at tree.top tree.clusters are group)
 
 pub value-agrees : (top : ℕ) (clusters : List ClusterState) → All (HaveClusterTop top) clusters → (group share : ℕ) → group < length clusters
     → value_in (tree_of top clusters) group share ≡ cluster_meaning (cluster_at clusters group) share
@@ -159,22 +157,6 @@ value-agrees top clusters have group share lt =
     (sym (get_or-map (cluster_value top demand) (numbered_clusters clusters) group _ (λ s. 0) within)
     ∙ ap (λ (values : List (ℕ → ℕ)). get_or values group (λ s. 0)) lists
     ∙ get_or-map cluster_meaning clusters group _ (λ s. 0) lt)
-
-sum_below-front : (n : ℕ) (f : ℕ → ℕ) → sum_below (suc n) f ≡ f 0 + sum_below n (λ i. f (suc i))
-unfolding sum_below
-sum_below-front zero f = omega arith
-sum_below-front (suc n) f = omega (arith, sum_below-front n f)
-
-sum_below-list : {X : Type 0} (value : X → ℕ) (xs : List X) (d : X) → sum_below (length xs) (λ i. value (get_or xs i d)) ≡ sum_by value xs
-unfolding sum_below
-sum_below-list value [] d = refl
-sum_below-list value (x ∷ xs) d =
-    omega (arith, sum_below-front (length xs) (λ i. value (get_or (x ∷ xs) i d)), sum_by-cons value x xs, sum_below-list value xs d)
-
-sum_below-same : (n : ℕ) (f g : ℕ → ℕ) → ((i : ℕ) → i < n → f i ≡ g i) → sum_below n f ≡ sum_below n g
-unfolding sum_below
-sum_below-same zero f g same = refl
-sum_below-same (suc n) f g same = ap₂ (λ a b. a + b) (sum_below-same n f g (λ i lt. same i (omega arith))) (same n (omega arith))
 
 pub values-are : (top : ℕ) (clusters : List ClusterState) (homes : List Home) (firsts : List ℕ) (lists : List (List ℕ)) → IsKeptTree top clusters homes firsts lists → AreValues (length (numbered_clusters clusters)) top (value_in (tree_of top clusters))
 values-are top clusters homes firsts lists kept =

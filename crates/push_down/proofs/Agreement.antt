@@ -6,6 +6,7 @@ use Rattle.std.proofs.lemmas.List.Elements.{All-head, All-tail}
 use Rattle.bwe_specs.specs.Tree.{job_limits, user_limits, cluster_limits}
 use Rattle.bwe_specs.specs.Bounded.{greatest_upto}
 use Rattle.bwe_specs.specs.Distribution.{children_sum, common_share, handed_out, distribution}
+use Rattle.bwe_specs.proofs.HandedOut.{length-distribution}
 use Rattle.policy_tree.specs.Nodes.{Agrees}
 use Rattle.policy_tree.specs.States.{JobState, UserState, ClusterState, job_tasks, user_tasks, cluster_tasks, job_meaning, user_meaning}
 use Rattle.policy_tree.specs.Numbering.{numbered, numbered_job, numbered_jobs, numbered_user, numbered_users, numbered_cluster, job_demands, user_demands, cluster_demands}
@@ -46,15 +47,6 @@ cluster-limits top demand first cluster has agrees amount =
     ∙ limits-agree user_tasks numbered_user user_demands (user_limits top demand) (limits_of_user top) (HaveUserTop top) demand length-user_demands (user-limits top demand) first cluster.users (distribution top (map user_meaning cluster.users) amount) has.users agrees
 
 -- there is a limit for each task
-length-handed_out : (children : List (ℕ → ℕ)) (share rest : ℕ) → length (handed_out children share rest) ≡ length children
-unfolding handed_out
-length-handed_out [] share rest = refl
-length-handed_out (child ∷ children) share rest = ap suc (length-handed_out children share (rest - min rest (child (suc share) - child share)))
-
-pub length-distribution : (top : ℕ) (children : List (ℕ → ℕ)) (amount : ℕ) → length (distribution top children amount) ≡ length children
-unfolding distribution
-length-distribution top children amount = length-handed_out children (common_share top children amount) (amount - children_sum children (common_share top children amount))
-
 length-limits : {X : Type 0} (tasks : X → ℕ) (limits : X → ℕ → List ℕ) → ((x : X) (amount : ℕ) → length (limits x amount) ≡ tasks x)
     → (xs : List X) (amounts : List ℕ) → length amounts ≡ length xs → length (flat_map (λ given. limits given.0 given.1) (zip xs amounts)) ≡ sum_by tasks xs
 length-limits tasks limits same [] amounts size = refl

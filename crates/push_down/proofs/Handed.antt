@@ -4,7 +4,7 @@ use Rattle.std.proofs.lemmas.List.{length-map, take_all}
 use Rattle.std.proofs.lemmas.Slice.Zip.{get_or-zip, length-zip}
 use Rattle.bwe_specs.specs.Distribution.{distribution}
 use Rattle.policy_tree.proofs.Counting.{flat_map-more}
-use Rattle.push_down.proofs.Agreement.{length-distribution}
+use Rattle.bwe_specs.proofs.HandedOut.{length-distribution}
 
 -- each node is handed an amount
 pub handed-size : {X : Type 0} (meaning : X → ℕ → ℕ) (top amount : ℕ) (nodes : List X) (amounts : List ℕ)

@@ -10,7 +10,7 @@ use Rattle.bwe_specs.specs.Tree.{Weighted, Job, User, Cluster, task_value, task_
 use Rattle.bwe_specs.specs.TreeFunctions.{IsJob, AreJobs, IsUser, AreUsers, IsCluster, AreClusters}
 use Rattle.bwe_specs.specs.Values.{NeverFalls}
 use Rattle.bwe_specs.specs.Allocation.{Plan, wan_under, table_under}
-use Rattle.bwe_specs.proofs.HandedOut.{AreAtMost, distribution-at_most, Each}
+use Rattle.bwe_specs.proofs.HandedOut.{AreAtMost, distribution-at_most, Each, each-jobs, each-users, cluster-at}
 use Rattle.bwe_specs.proofs.ShareFunctions.{children_sum-is_share_function, cluster_value-is_share_function, node_value-le, task_values-are, job_values-are, user_values-are}
 use Rattle.bwe_specs.proofs.Totals.{group_amount-le}
 use Rattle.bwe_specs.proofs.Certificates.{filling-right, filling-amounts, last_share-le}
@@ -54,14 +54,6 @@ children-tasks Is top demand tasks limits value each (x ∷ xs) [] are at_most =
 children-tasks Is top demand tasks limits value each (x ∷ xs) (a ∷ amounts) are at_most =
     all-append (λ one limit. limit ≤ most top demand one) (tasks x) (flat_map tasks xs) (limits x a) (flat_map (λ given. limits given.0 given.1) (zip xs amounts))
     (each x are.0 a at_most.0) (children-tasks Is top demand tasks limits value each xs amounts are.1 at_most.1)
-
-each-jobs : (top : ℕ) (jobs : List Job) → AreJobs top jobs → Each (IsJob top) jobs
-each-jobs top [] are = tt
-each-jobs top (job ∷ jobs) are = (are.0, each-jobs top jobs are.1)
-
-each-users : (top : ℕ) (users : List User) → AreUsers top users → Each (IsUser top) users
-each-users top [] are = tt
-each-users top (user ∷ users) are = (are.0, each-users top users are.1)
 
 each-clusters : (top : ℕ) (clusters : List Cluster) → AreClusters top clusters → Each (IsCluster top) clusters
 each-clusters top [] are = tt
@@ -131,11 +123,6 @@ clusters-asked top demand clusters amounts are numbered count within =
     (each-clusters top clusters are) (clusters-at_most top demand clusters amounts count within))
 
 -- the values of a plan's groups grow with the share
-cluster-at : (top : ℕ) (clusters : List Cluster) → AreClusters top clusters → (group : ℕ) → IsCluster top (slice_index_or clusters group (record { configured = None; users = [] }))
-cluster-at top [] are group = (tt, tt)
-cluster-at top (cluster ∷ clusters) are zero = are.0
-cluster-at top (cluster ∷ clusters) are (suc group) = cluster-at top clusters are.1 group
-
 pub plan-never_falls : (plan : Plan) (demand : ℕ → ℕ) (capacities : List ℕ) → AreClusters plan.top plan.clusters → NeverFalls (wan_under plan demand capacities)
 plan-never_falls plan demand capacities are =
     record { next = λ group share lt. (cluster_value-is_share_function plan.top demand _ (cluster-at plan.top plan.clusters are group)).next share lt }

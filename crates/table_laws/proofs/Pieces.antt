@@ -6,15 +6,7 @@ use Rattle.bwe_specs.specs.Distribution.{children_sum, common_share, handed_out,
 use Rattle.bwe_specs.specs.Reports.{numbers}
 use Rattle.bwe_specs.specs.Tree.{Job, User, Cluster, task_values, job_values, user_values, job_limits, user_limits, cluster_limits}
 use Rattle.table_laws.specs.Tasks.{JobTask, AreNumbered, tasks_of_job, tasks_of_user, tasks_of_cluster, tasks_of}
-
-length-handed_out : (children : List (ℕ → ℕ)) (share rest : ℕ) → length (handed_out children share rest) ≡ length children
-unfolding handed_out
-length-handed_out [] share rest = refl
-length-handed_out (child ∷ children) share rest = ap suc (length-handed_out children share (rest - min rest (child (suc share) - child share)))
-
-length-distribution : (top : ℕ) (children : List (ℕ → ℕ)) (amount : ℕ) → length (distribution top children amount) ≡ length children
-unfolding distribution
-length-distribution top children amount = length-handed_out children (common_share top children amount) (amount - children_sum children (common_share top children amount))
+use Rattle.bwe_specs.proofs.HandedOut.{length-distribution}
 
 -- pieces of one length each, of the children of a node and of what each gets
 length-pieces : {X Y : Type 0} (piece : X → ℕ → List ℕ) (tasks : X → List Y) → ((x : X) (amount : ℕ) → length (piece x amount) ≡ length (tasks x))

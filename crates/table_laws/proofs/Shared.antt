@@ -13,16 +13,11 @@ use Rattle.bwe_specs.proofs.Certificates.{filling-right}
 use Rattle.bwe_specs.proofs.Loads.{current-open}
 use Rattle.bwe_specs.proofs.StopShares.{amount-at_stop, filling-amount}
 use Rattle.table_laws.specs.Tables.{IsSharedAlike, line_at}
-use Rattle.table_laws.proofs.Closings.{right-upto, stop-moving, stop-at}
+use Rattle.bwe_specs.proofs.Sums.{sum_by-numbers}
+use Rattle.bwe_specs.proofs.StopShares.{stop-moving}
+use Rattle.table_laws.proofs.Closings.{right-upto, stop-at}
 
 -- a sum over a list by number
-sum_by-numbers : {X : Type 0} (g : X → ℕ) (f : ℕ → X) (n : ℕ) → sum_by g (map f (numbers n)) ≡ sum_below n (λ k. g (f k))
-unfolding sum_below
-sum_by-numbers g f zero = refl
-sum_by-numbers g f (suc n) =
-    let next : suc n ≡ n + 1 = omega arith in
-    ap (λ k. sum_by g (map f (numbers k))) next ∙ sum_by-map-range_with_len_more g f 0 n n (zero-add n) ∙ ap (λ k. k + g (f n)) (sum_by-numbers g f n)
-
 -- the line of a group among all lines
 pub line-at : (wan : Wan) (final : State) (group : ℕ) → group < length wan.groups
     → line_at (map (group_line wan final) (numbers (length wan.groups))) group ≡ group_line wan final group

@@ -10,8 +10,9 @@ use Rattle.bwe_specs.specs.Reports.{numbers}
 use Rattle.bwe_specs.specs.Values.{NeverFalls}
 use Rattle.bwe_specs.specs.Allocation.{GroupLine, PlaceLine}
 use Rattle.bwe_specs.proofs.Bounds.{sum_below-mono, sum_below-term}
+use Rattle.bwe_specs.proofs.Sums.{sum_by-numbers}
 use Rattle.allocator.specs.Lines.{line_of_place}
-use Rattle.allocator.proofs.Filled.{map-numbers, sum-numbers, sum_by-numbers}
+use Rattle.allocator.proofs.Filled.{map-numbers, sum-numbers}
 use Rattle.tiers.specs.Tiered.{Tiered, amounts_below, filling_of_tier, wan_of_tier, tier_closings, tier_count, tiered_amounts, tiered_line}
 use Rattle.tiers.specs.Fillings.{Fillings, AreFilled, HasLine, line_in_tier, row_of, rows_by, stops_by}
 use Rattle.tiers.proofs.Tiers.{own-at_most, own-load, below-fits, tier-counted}

@@ -138,7 +138,7 @@ parts_found bytes None e = tt
 parts_found bytes (Some parts) e = found_some bytes parts (sym e)
 
 -- the first line feed stands behind the digits
-behind_digits : (digits more : List ℕ) → all_ascii_digits digits ≡ true → position_or_len is_line_feed (digits ++ 10 ∷ more) ≡ length digits
+pub behind_digits : (digits more : List ℕ) → all_ascii_digits digits ≡ true → position_or_len is_line_feed (digits ++ 10 ∷ more) ≡ length digits
 behind_digits [] more e = refl
 behind_digits (digit ∷ digits) more e =
     let parts = and_parts (is_ascii_digit digit) (all_ascii_digits digits) e in

@@ -26,7 +26,8 @@ use Rattle.plan_doc.specs.Links.{link_part}
 use Rattle.plan_doc.specs.TreeParts.{weights_of, job_part, user_part, cluster_part}
 use Rattle.plan_doc.specs.Owners.{not_owned}
 use Rattle.plan_doc.specs.Document.{links_of, clusters_of}
-use Rattle.plan_doc.proofs.NodeFacts.{length-numbered, length-task_numbers}
+use Rattle.policy_tree.proofs.Numbers.{length-numbered}
+use Rattle.plan_doc.proofs.NodeFacts.{length-task_numbers}
 use Rattle.doc_maker.specs.Made.{Size, IsSize, made_link, made_task, tasks_of, made_job, made_user, made_group, made}
 use Rattle.doc_maker.specs.Accepting.{walked_tasks, place_of, numbered_path, numbered_group, numbered_report}
 use Rattle.doc_maker.proofs.accepting.Walks.{numbers_below, contains_number, contains_filter, contains_task, length-walked}

@@ -6,10 +6,10 @@ use Rattle.std.proofs.lemmas.List.Folds.{length-flat_map-take}
 use Rattle.std.proofs.lemmas.List.FromFn.{length-range_with_len}
 use Rattle.bwe_specs.specs.Tree.{Cluster, cluster_limits}
 use Rattle.bwe_specs.proofs.Bounds.{sum_below-term}
-use Rattle.bwe_specs.proofs.HandedOut.{sum-cluster_limits}
+use Rattle.bwe_specs.proofs.HandedOut.{cluster-at, sum-cluster_limits}
 use Rattle.policy_tree.specs.Nodes.{cluster_in, first_in}
 use Rattle.policy_tree.specs.Trees.{demand_in, value_in, cluster_numbers}
-use Rattle.policy_tree.proofs.TreeFacts.{cluster-is, cluster-numbers}
+use Rattle.policy_tree.proofs.TreeFacts.{cluster-numbers}
 use Rattle.push_down.specs.declared.TaskLimit.{TaskLimit}
 use Rattle.push_down.specs.Limits.{limits_of_cluster}
 use Rattle.push_down.proofs.Agreement.{cluster-limits, length-cluster}
@@ -70,5 +70,5 @@ returns-clause-total c =
     let b = (goal.at.returns-clause-total c).After-as_slice in
     let tree = c.args.tree.now in
     let is = c.top-top.ensures.tree in
-    let total = sum-cluster_limits tree.top (demand_in tree) (cluster_in tree c.args.group) (cluster-is tree.top tree.clusters is.functions c.args.group) c.args.amount c.requires.amount in
+    let total = sum-cluster_limits tree.top (demand_in tree) (cluster_in tree c.args.group) (cluster-at tree.top tree.clusters is.functions c.args.group) c.args.amount c.requires.amount in
     IfOk-weaker c.numbered.result _ _ (λ (entries : Vec TaskLimit Global) same. ap (λ (list : List ℕ). sum list) (same ∙ limits b) ∙ total) c.numbered.ensures.limits

@@ -5,13 +5,7 @@ use Rattle.std.proofs.lemmas.List.FromFn.{map-range_with_len_more}
 use Rattle.push_down.specs.declared.TaskLimit.{TaskLimit}
 use Rattle.push_down.specs.Limits.{tasks_in, limits_in}
 use Rattle.push_down.proofs.numbered.Goals as goal
-
--- the numbers go on
-range-more : (first count : ℕ) → range_with_len first (count + 1) ≡ range_with_len first count ++ (first + count) ∷ []
-range-more first count =
-    sym (map-id (range_with_len first (count + 1)))
-    ∙ map-range_with_len_more (λ n. n) first count (first + count) refl
-    ∙ ap (λ (list : List ℕ). list ++ (first + count) ∷ []) (map-id (range_with_len first count))
+use Rattle.policy_tree.proofs.ChildLists.{range-push}
 
 pub loop-limit-preserved : goal.loop-limit-preserved
 loop-limit-preserved c =
@@ -30,5 +24,5 @@ loop-limit-preserved c =
       tasks = ap tasks_in c.in_ok-push.ensures.items
           ∙ map_push (λ (e : TaskLimit). e.task) entries entry
           ∙ ap₂ (λ (list : List ℕ) (task : ℕ). list ++ task ∷ []) kept.tasks kept.task
-          ∙ sym (range-more c.args.first place);
+          ∙ sym (range-push c.args.first place);
     }

@@ -4,9 +4,10 @@ use Rattle.board_core.specs.Core.{IsAllowed}
 use Rattle.demand_book.specs.Fit.{IsFit}
 use Rattle.bwe_specs.specs.declared.report.Report.{Report}
 use Rattle.crew_log.specs.declared.log.ReaderLog.{ReaderLog}
-use Rattle.crew_actors.proofs.Lines.{prefix_then, prefix_both}
+use Rattle.crew_actors.proofs.Lines.{prefix_both}
 use Rattle.crew_actors.proofs.Readers.{is_reader, beyond_of}
 use Rattle.crew_actors.proofs.reading.read_to_the_end.Goals as goal
+use Rattle.board_log.proofs.Prefixes.{prefix_trans}
 
 pub returns : goal.returns
 returns g c =
@@ -17,8 +18,8 @@ returns g c =
     let read = c.in_ok-read.read in
     let says = c.in_ok-read.ensures in
     let reader : ReaderLog = record { reads = c.args.reads; last = read.line; length = read.length; beyond = read.beyond } in
-    let begins : IsPrefix history log = prefix_then history learnt.log log (subst (λ (l : List Report). IsPrefix l learnt.log) c.ack.ensures.ack c.in_ok-learn.ensures.told) says.log in
-    let grew : IsPrefix c.args.pass.now.log log = prefix_then c.args.pass.now.log learnt.log log c.learn.ensures.log says.log in
+    let begins : IsPrefix history log = prefix_trans history learnt.log log (subst (λ (l : List Report). IsPrefix l learnt.log) c.ack.ensures.ack c.in_ok-learn.ensures.told) says.log in
+    let grew : IsPrefix c.args.pass.now.log log = prefix_trans c.args.pass.now.log learnt.log log c.learn.ensures.log says.log in
     let beyond : read.beyond.items ≡ drop (length history) log = says.beyond in
     record {
       reader = is_reader g.N.Profile.belongs g.T.Posted.total_of (IsAllowed g.N.Profile.reporters (IsFit g.N.Profile.tasks g.N.Profile.links))
