@@ -60,8 +60,8 @@ impl Allocator {
         ensures tasks { length (task_numbers tree.clusters) ≡ length tree.demands }
         ensures first { ⟦<Allocator as Maker>⟧.absorbed result [] }
     {
-        // Who asks a plan and a tree for these learns what is true of each: few groups, and tasks numbered in one walk.
-        let (_groups, _top) = (plan.groups(), tree.top());
+        plan.what_holds();
+        tree.what_holds();
         Allocator {
             reported: Reported::new(tree, topology),
             plan,

@@ -1,6 +1,6 @@
 //! A tree and a network as they stand after reports.
 
-ghost use Rattle.std.specs.Prelude.{◌≡◌, ◌+◌, ◌<◌, ◌≤◌, ◌++◌, ◌∷◌, [], ℕ, List, length, IfOk, OnOk, OnErr, Some, unwrap_or};
+ghost use Rattle.std.specs.Prelude.{◌≡◌, ◌+◌, ◌^◌, ◌<◌, ◌≤◌, ◌++◌, ◌∷◌, [], ℕ, List, length, IfOk, OnOk, OnErr, Some, unwrap_or};
 ghost use Rattle.bwe_specs.specs.declared.report.Report.{Report};
 ghost use Rattle.demand_book.specs.Fit.{IsFit};
 ghost use Rattle.policy_tree.specs.Trees.{asking, value_in, IsTree};
@@ -64,8 +64,7 @@ impl Reported {
         ensures tree { IsTree result.now }
         ensures values { AreValues (length result.now.clusters) result.now.top (value_in result.now) }
     {
-        // Who asks a tree for its top learns what is true of every tree.
-        let _top = self.tree.top();
+        self.tree.what_holds();
         &self.tree
     }
 
@@ -74,9 +73,17 @@ impl Reported {
         ensures same { result.now ≡ self.now.network }
         ensures network { IsNetwork result.now }
     {
-        // Who asks a network for its number of links learns what is true of every network.
-        let _links = self.topology.links();
+        self.topology.what_holds();
         &self.topology
+    }
+
+    /// Does nothing. Who calls it knows what holds of each network, and that 64 bits count the reports.
+    pub fn what_holds(&self)
+        ensures network { IsNetwork self.now.network }
+        ensures prefix { self.now.prefix < 2 ^ 64 }
+    {
+        let _prefix = self.prefix;
+        self.topology.what_holds();
     }
 
     /// How many reports were taken in.

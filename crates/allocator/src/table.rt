@@ -58,8 +58,7 @@ pub fn make_table(
     // One text, one table: under names that tell the links apart, a table that is written as the same text is this one
     ensures told { IfOk result (IsTold reported.now) }
 {
-    // Who asks for the network learns what is true of its capacities, and the number of reports has 64 bits.
-    let (_topology, _prefix) = (reported.topology(), reported.prefix());
+    reported.what_holds();
     let filling = filling_of(alloc, reported, plan)?;
     table_of_filling(alloc, reported, plan, filling)
 }

@@ -174,8 +174,7 @@ impl ShareFunction for CappedSum {
     }
 
     fn last_share_within(&self, amount: u64, top: u64) -> Option<u64> {
-        // The proof learns here that the tasks' function is one of a document.
-        let _ = self.function.top();
+        self.function.what_holds();
         if !self.is_fresh {
             return None;
         }

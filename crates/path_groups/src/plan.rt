@@ -79,6 +79,13 @@ impl PathPlan {
         self.groups.len() as u32
     }
 
+    /// Does nothing. Who calls it knows what holds of each plan.
+    pub fn what_holds(&self)
+        ensures { IsPlan self.now }
+    {
+        let _count = self.groups.len();
+    }
+
     /// How many path groups the group has.
     pub fn places(&self, group: u32) -> u32
         requires { group < length self.now }

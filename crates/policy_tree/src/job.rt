@@ -49,8 +49,7 @@ impl JobNode {
             task,
             weights,
         } = spec;
-        // The proof learns here that the tasks' function is one of a document.
-        let _ = task.top();
+        task.what_holds();
         let transform = transform_of(alloc, function)?;
         let sum = CappedSum::new(alloc, task, weights.as_slice())?;
         Ok(JobNode { transform, sum })

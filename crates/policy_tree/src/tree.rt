@@ -137,6 +137,15 @@ impl PolicyTree {
         self.top
     }
 
+    /// Does nothing. Who calls it knows what holds of each tree: its tasks are numbered in one walk,
+    /// and no group's value falls, nor are all of them together too much to be added up.
+    pub fn what_holds(&self)
+        ensures tree { IsTree self.now }
+        ensures values { AreValues (length self.now.clusters) self.now.top (value_in self.now) }
+    {
+        let _top = self.top;
+    }
+
     /// The cluster of a group, for those who go down its nodes.
     pub fn cluster(&self, group: u32) -> &ClusterNode
         requires { group < length self.now.clusters }

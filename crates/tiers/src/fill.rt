@@ -56,8 +56,9 @@ pub fn fill_tiers(
     ensures in_any_order { IfOk result (IsInAnyOrder (plan_of tree.now topology plan.now) prefix
         (demand_in tree.now) topology.capacities tiers.now) }
 {
-    // Who asks a tree, a plan and a network for these learns what is true of each.
-    let (_top, _groups, _links) = (tree.top(), plan.groups(), topology.links());
+    tree.what_holds();
+    plan.what_holds();
+    topology.what_holds();
     let fillings = fill_each(alloc, tree, topology, plan, tiers)?;
     let groups = tiered_lines(alloc, plan, tiers, &fillings)?;
     let limits = limits_of(alloc, tree, &groups)?;

@@ -113,8 +113,7 @@ pub(crate) fn fill_each(
     requires one_each { length tiers.now ≡ length plan.now }
     ensures { IfOk result (AreFilled (wan_by tree.now topology plan.now) tiers.now (tier_count tiers.now)) }
 {
-    // Who asks a tree for its top learns what is true of the values of its groups.
-    let _top = tree.top();
+    tree.what_holds();
     let mut topology = topology;
     let mut fillings = Fillings::none(alloc, topology.links())?;
     for tier in 0..count_of(tiers) {

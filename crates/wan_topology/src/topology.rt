@@ -81,6 +81,13 @@ impl Topology {
         self.capacities.len() as u32
     }
 
+    /// Does nothing. Who calls it knows what holds of each network.
+    pub fn what_holds(&self)
+        ensures { IsNetwork self.now }
+    {
+        let _count = self.capacities.len();
+    }
+
     /// What the link can carry now, in kilobits per second.
     pub fn capacity(&self, link: u32) -> u64
         requires { link < length self.now.capacities }

@@ -45,4 +45,4 @@ pub returns-clause-told : goal.returns-clause-told
 returns-clause-told c =
     ok-where c.table_of_filling.result (IsTold c.args.reported.now) (table_by c.args.reported.now c.args.plan.now)
     (table-told c.args.reported.now c.args.plan.now c.requires c.filling_of.ensures.values c.filling_of.ensures.tree
-    (rw (c.topology-topology.ensures.same) at c.topology-topology.ensures.network) (omega (arith, c.prefix-prefix.ensures))) c.table_of_filling.ensures
+    c.what_holds.ensures.network (omega (arith, c.what_holds.ensures.prefix))) c.table_of_filling.ensures

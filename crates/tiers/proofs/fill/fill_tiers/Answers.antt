@@ -8,16 +8,16 @@ use Rattle.tiers.proofs.fill.fill_tiers.Goals as goal
 pub tiered_lines-requires-clause-has : goal.tiered_lines-requires-clause-has
 tiered_lines-requires-clause-has c =
     own-has_line (wan_by c.args.tree.now c.args.topology c.args.plan.now) c.args.tiers.now
-    (step-never c.args.tree.now c.args.topology c.args.plan.now c.args.tiers.now c.requires.groups c.top-top.ensures.values)
-    (step-bound c.args.tree.now c.args.topology c.args.plan.now c.args.tiers.now c.requires.groups c.top-top.ensures.values)
+    (step-never c.args.tree.now c.args.topology c.args.plan.now c.args.tiers.now c.requires.groups c.what_holds.ensures.values)
+    (step-bound c.args.tree.now c.args.topology c.args.plan.now c.args.tiers.now c.requires.groups c.what_holds.ensures.values)
     c.in_ok-fillings.fillings c.in_ok-fillings.ensures c.requires.one_each
 
 pub limits_of-requires-clause-groups : goal.limits_of-requires-clause-groups
 limits_of-requires-clause-groups c =
     rw (c.deref.ensures.value)
     (made-count (wan_by c.args.tree.now c.args.topology c.args.plan.now) c.args.tiers.now
-    (step-never c.args.tree.now c.args.topology c.args.plan.now c.args.tiers.now c.requires.groups c.top-top.ensures.values)
-    (step-bound c.args.tree.now c.args.topology c.args.plan.now c.args.tiers.now c.requires.groups c.top-top.ensures.values)
+    (step-never c.args.tree.now c.args.topology c.args.plan.now c.args.tiers.now c.requires.groups c.what_holds.ensures.values)
+    (step-bound c.args.tree.now c.args.topology c.args.plan.now c.args.tiers.now c.requires.groups c.what_holds.ensures.values)
     c.in_ok-fillings.fillings c.in_ok-fillings.ensures c.requires.one_each
     c.in_ok-groups.groups.items c.in_ok-groups.ensures ∙ sym c.requires.groups)
 
@@ -26,23 +26,23 @@ limits_of-requires-clause-within c =
     rw (c.deref.ensures.value)
     (λ group lt.
     made-within (wan_by c.args.tree.now c.args.topology c.args.plan.now) c.args.tiers.now
-    (step-never c.args.tree.now c.args.topology c.args.plan.now c.args.tiers.now c.requires.groups c.top-top.ensures.values)
-    (step-bound c.args.tree.now c.args.topology c.args.plan.now c.args.tiers.now c.requires.groups c.top-top.ensures.values)
+    (step-never c.args.tree.now c.args.topology c.args.plan.now c.args.tiers.now c.requires.groups c.what_holds.ensures.values)
+    (step-bound c.args.tree.now c.args.topology c.args.plan.now c.args.tiers.now c.requires.groups c.what_holds.ensures.values)
     c.in_ok-fillings.fillings c.in_ok-fillings.ensures c.requires.one_each
     c.in_ok-groups.groups.items c.in_ok-groups.ensures group (omega (arith, c.requires.groups)))
 
 pub invariant_of-result : goal.invariant_of-result
 invariant_of-result c =
-    whole-is_table c.args.tree.now c.args.topology c.args.plan.now c.args.tiers.now c.requires.groups c.top-top.ensures.values
+    whole-is_table c.args.tree.now c.args.topology c.args.plan.now c.args.tiers.now c.requires.groups c.what_holds.ensures.values
     c.in_ok-fillings.fillings c.in_ok-fillings.ensures c.requires.one_each
     (lists_in c.fillings.inside.closings.items) (ap (λ (fillings : Fillings). fillings.closings) c.fillings.view_is)
     c.fillings.inside.loads.items (ap (λ (fillings : Fillings). fillings.loads) c.fillings.view_is)
     c.in_ok-groups.groups.items c.in_ok-groups.ensures c.in_ok-limits.limits.items (rw (c.deref.ensures.value) at c.in_ok-limits.ensures)
-    c.args.prefix c.top-top.ensures.tree c.groups-groups.ensures.plan c.links-links.ensures.network
+    c.args.prefix c.what_holds.ensures.tree c.what_holds-2.ensures c.what_holds-3.ensures
 
 pub returns-clause-table : goal.returns-clause-table
 returns-clause-table c =
-    whole-table c.args.tree.now c.args.topology c.args.plan.now c.args.tiers.now c.requires.groups c.top-top.ensures.values
+    whole-table c.args.tree.now c.args.topology c.args.plan.now c.args.tiers.now c.requires.groups c.what_holds.ensures.values
     c.in_ok-fillings.fillings c.in_ok-fillings.ensures c.requires.one_each
     (lists_in c.fillings.inside.closings.items) (ap (λ (fillings : Fillings). fillings.closings) c.fillings.view_is)
     c.fillings.inside.loads.items (ap (λ (fillings : Fillings). fillings.loads) c.fillings.view_is)
@@ -51,7 +51,7 @@ returns-clause-table c =
 
 pub returns-clause-feasible : goal.returns-clause-feasible
 returns-clause-feasible c =
-    whole-feasible c.args.tree.now c.args.topology c.args.plan.now c.args.tiers.now c.requires.groups c.top-top.ensures.values
+    whole-feasible c.args.tree.now c.args.topology c.args.plan.now c.args.tiers.now c.requires.groups c.what_holds.ensures.values
     c.in_ok-fillings.fillings c.in_ok-fillings.ensures c.requires.one_each
     (lists_in c.fillings.inside.closings.items) (ap (λ (fillings : Fillings). fillings.closings) c.fillings.view_is)
     c.fillings.inside.loads.items (ap (λ (fillings : Fillings). fillings.loads) c.fillings.view_is)
@@ -59,7 +59,7 @@ returns-clause-feasible c =
 
 pub returns-clause-shared : goal.returns-clause-shared
 returns-clause-shared c =
-    whole-shared c.args.tree.now c.args.topology c.args.plan.now c.args.tiers.now c.requires.groups c.top-top.ensures.values
+    whole-shared c.args.tree.now c.args.topology c.args.plan.now c.args.tiers.now c.requires.groups c.what_holds.ensures.values
     c.in_ok-fillings.fillings c.in_ok-fillings.ensures c.requires.one_each
     (lists_in c.fillings.inside.closings.items) (ap (λ (fillings : Fillings). fillings.closings) c.fillings.view_is)
     c.fillings.inside.loads.items (ap (λ (fillings : Fillings). fillings.loads) c.fillings.view_is)
@@ -68,7 +68,7 @@ returns-clause-shared c =
 
 pub returns-clause-unwasted : goal.returns-clause-unwasted
 returns-clause-unwasted c =
-    whole-unwasted c.args.tree.now c.args.topology c.args.plan.now c.args.tiers.now c.requires.groups c.top-top.ensures.values
+    whole-unwasted c.args.tree.now c.args.topology c.args.plan.now c.args.tiers.now c.requires.groups c.what_holds.ensures.values
     c.in_ok-fillings.fillings c.in_ok-fillings.ensures c.requires.one_each
     (lists_in c.fillings.inside.closings.items) (ap (λ (fillings : Fillings). fillings.closings) c.fillings.view_is)
     c.fillings.inside.loads.items (ap (λ (fillings : Fillings). fillings.loads) c.fillings.view_is)
@@ -77,18 +77,18 @@ returns-clause-unwasted c =
 
 pub returns-clause-asked : goal.returns-clause-asked
 returns-clause-asked c =
-    whole-asked c.args.tree.now c.args.topology c.args.plan.now c.args.tiers.now c.requires.groups c.top-top.ensures.values
+    whole-asked c.args.tree.now c.args.topology c.args.plan.now c.args.tiers.now c.requires.groups c.what_holds.ensures.values
     c.in_ok-fillings.fillings c.in_ok-fillings.ensures c.requires.one_each
     (lists_in c.fillings.inside.closings.items) (ap (λ (fillings : Fillings). fillings.closings) c.fillings.view_is)
     c.fillings.inside.loads.items (ap (λ (fillings : Fillings). fillings.loads) c.fillings.view_is)
     c.in_ok-groups.groups.items c.in_ok-groups.ensures c.in_ok-limits.limits.items (rw (c.deref.ensures.value) at c.in_ok-limits.ensures)
-    c.args.prefix c.top-top.ensures.tree
+    c.args.prefix c.what_holds.ensures.tree
 
 pub returns-clause-in_any_order : goal.returns-clause-in_any_order
 returns-clause-in_any_order c =
-    whole-in_any_order c.args.tree.now c.args.topology c.args.plan.now c.args.tiers.now c.requires.groups c.top-top.ensures.values
+    whole-in_any_order c.args.tree.now c.args.topology c.args.plan.now c.args.tiers.now c.requires.groups c.what_holds.ensures.values
     c.in_ok-fillings.fillings c.in_ok-fillings.ensures c.requires.one_each
     (lists_in c.fillings.inside.closings.items) (ap (λ (fillings : Fillings). fillings.closings) c.fillings.view_is)
     c.fillings.inside.loads.items (ap (λ (fillings : Fillings). fillings.loads) c.fillings.view_is)
     c.in_ok-groups.groups.items c.in_ok-groups.ensures c.in_ok-limits.limits.items (rw (c.deref.ensures.value) at c.in_ok-limits.ensures)
-    c.args.prefix c.top-top.ensures.tree
+    c.args.prefix c.what_holds.ensures.tree

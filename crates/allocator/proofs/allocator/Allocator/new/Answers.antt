@@ -5,12 +5,12 @@ use Rattle.allocator.proofs.allocator.Allocator.new.Goals as goal
 pub invariant_of-result : goal.invariant_of-result
 invariant_of-result c =
     rw (c.new.ensures)
-    (fitted-idle c.args.tree c.args.topology c.args.plan c.top-top.ensures.tree c.groups-groups.ensures.plan c.requires.built_on c.requires.groups)
+    (fitted-idle c.args.tree c.args.topology c.args.plan c.what_holds-2.ensures.tree c.what_holds.ensures c.requires.built_on c.requires.groups)
 
 pub returns-clause-first : goal.returns-clause-first
 returns-clause-first c = rw (c.new.ensures) (after-idle c.args.tree c.args.topology c.requires.idle)
 
 pub returns-clause-tasks : goal.returns-clause-tasks
 returns-clause-tasks c =
-    let fitted = fitted-idle c.args.tree c.args.topology c.args.plan c.top-top.ensures.tree c.groups-groups.ensures.plan c.requires.built_on c.requires.groups in
+    let fitted = fitted-idle c.args.tree c.args.topology c.args.plan c.what_holds-2.ensures.tree c.what_holds.ensures c.requires.built_on c.requires.groups in
     sym fitted.tasks
