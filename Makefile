@@ -16,6 +16,8 @@ SHELL := /bin/bash
 ifeq ($(MAKELEVEL),0)
 MAKEFLAGS += --jobs=$(shell nproc) --no-print-directory --no-builtin-rules
 endif
+# For tools/prove, which counts what these have still to prove.
+export goals := $(filter-out check,$(MAKECMDGOALS))
 
 # The crates, and what each stands on: the lines of crates.txt, here as NAME:DEP,DEP without blanks.
 comma    := ,

@@ -274,9 +274,13 @@ def made_two_programs(project):
 
 
 def test_make_builds_both_programs_and_bwe_alone(two_programs):
-    assert run(two_programs, "make", "bwe").returncode == 0
+    made = run(two_programs, "make", "bwe")
+    assert made.returncode == 0
+    assert "bwe: 4 left to prove; now words\n" in made.stderr
     assert proved(two_programs) == ["words", "numbers", "tables", "bwe"]
-    assert run(two_programs, "make").returncode == 0
+    made = run(two_programs, "make")
+    assert made.returncode == 0
+    assert "bwe: 1 left to prove; now bwe_live\n" in made.stderr
     assert proved(two_programs) == ["bwe_live"]
     assert run(two_programs, "make").returncode == 0
     assert proved(two_programs) == []
