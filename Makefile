@@ -19,13 +19,14 @@ endif
 # For tools/prove, which counts what these have still to prove.
 export goals := $(filter-out check,$(MAKECMDGOALS))
 
-# The crates, and what each stands on: the lines of crates.txt, here as NAME:DEP,DEP without blanks.
+# What each crate stands on: the lines of crates.txt, here as NAME:DEP,DEP without blanks. And the
+# crates, in the order in which those that could be proved at one time are begun.
 comma    := ,
 lines    := $(shell sed -nE 's/^([a-z0-9_]+)[^:]*: */\1:/p' crates.txt | tr -s ' ' ,)
-crates   := $(foreach it,$(lines),$(firstword $(subst :, ,$(it))))
+crates   := $(shell tools/chains)
 programs := $(patsubst crates/%/src/main.rt,%,$(wildcard $(crates:%=crates/%/src/main.rt)))
 files    := $(shell find $(crates:%=crates/%) -name out -prune -o -print)
-below     = $(filter $(crates),$(subst $(comma), ,$(patsubst $1:%,%,$(filter $1:%,$(lines)))))
+below     = $(filter $(subst $(comma), ,$(patsubst $1:%,%,$(filter $1:%,$(lines)))),$(crates))
 sources   = $(filter crates/$1/src% crates/$1/specs% crates/$1/proofs%,$(files))
 built     = $(if $(filter $1,$(programs)),crates/$1/out/$1,crates/$1/out/rlib/stamp)
 

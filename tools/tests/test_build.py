@@ -24,6 +24,7 @@ COPIED = [
     "Makefile",
     "bwe",
     "bwe-live",
+    "tools/chains",
     "tools/prove",
     "tools/launcher.bash",
     "HANDLES",
@@ -114,6 +115,12 @@ def test_make_builds_what_the_program_stands_on_in_order(project):
     assert "bwe: 4 left to prove; now words\n" in made.stderr
     assert made.stderr.endswith("bwe: all is proved\n")
     assert not list(project.glob("crates/*/out/room"))
+
+
+def test_the_longest_chain_of_crates_is_begun_first(project):
+    assert run(project, "tools/chains").stdout.split() == [*CRATES][:3] + ["aside", "bwe"]
+    (project / "crates/aside/src/lib.rt").write_text("right\n" * 9)
+    assert run(project, "tools/chains").stdout.split() == ["words", "aside", *[*CRATES][1:3], "bwe"]
 
 
 def test_a_second_make_does_nothing(project):
