@@ -15,9 +15,6 @@ use rayon::prelude::*;
 use std::alloc::Global;
 use std::thread::Threads;
 
-#[cfg(test)]
-mod tests;
-
 /// What each group of the tree may have at the share, in kilobits per second, in the order of the groups.
 ///
 /// The values are cheap where `rematch` came after the last demand. The list is the same however many threads work on it.

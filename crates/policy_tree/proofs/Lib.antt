@@ -8,7 +8,6 @@ pub mod Agreement
 pub mod Homes
 pub mod TreeFacts
 pub mod Counting
-pub mod TestTrees
 pub mod SeenPlaces
 pub mod WalkSeen
 pub mod ChildLists

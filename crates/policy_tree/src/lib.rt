@@ -44,8 +44,6 @@ mod job;
 mod kind;
 mod siblings;
 mod spec;
-#[cfg(test)]
-mod tests;
 mod tree;
 mod user;
 mod value;

@@ -21,8 +21,6 @@ ghost use Rattle.push_down.specs.Limits.{limits_of_job, limits_of_user, limits_o
 mod children;
 mod groups;
 mod share;
-#[cfg(test)]
-mod tests;
 
 use bwe_specs::{MAX_SHARE, MAX_TASKS, MAX_TOTAL, OutOfMemory};
 use children::Tasks;

@@ -1,0 +1,9 @@
+mod capped;
+mod functions;
+mod groups;
+mod made;
+mod pushed;
+mod search;
+mod sums;
+mod transforms;
+mod trees;

@@ -1,0 +1,119 @@
+//! The worked cases of capped sums, over a stale and over a fresh index.
+
+ghost use Rattle.std.specs.Prelude.{◌≤◌};
+
+use capped_sum::CappedSum;
+use bw_function::BwFunction;
+use function_sum::ShareFunction;
+use std::alloc::Global;
+use std::test::Fail;
+
+// The two tasks of the case "Sated group": demands 10 and 200, slope 1.
+#[test]
+fn a_sated_task_has_its_demand(rt: HostRuntime) -> Result<(), Fail> {
+    let alloc = rt.alloc();
+    let function = BwFunction::new(alloc, &[(0, 0), (100, 100)], 100)?;
+    let mut sum = CappedSum::new(alloc, function, &[1, 1])?;
+    assert_eq!(rt; sum.value(90), 0);
+    assert_eq!(rt; sum.set(0, 10)?, 0);
+    assert_eq!(rt; sum.set(1, 200)?, 0);
+    let rows = [(0, 0), (9, 18), (10, 20), (90, 100), (100, 110)];
+    for (share, value) in rows {
+        assert_eq!(rt; sum.value(share), value, "at {share}, stale");
+    }
+    sum.refresh();
+    for (share, value) in rows {
+        assert_eq!(rt; sum.value(share), value, "at {share}");
+    }
+    assert_eq!(rt; sum.set(0, 0)?, 10);
+    assert_eq!(rt; sum.value(90), 90);
+    Ok(())
+}
+
+// The tasks of the case "Weights in one job": weights 3 and 1, demands that don't cap them.
+#[test]
+fn weights_multiply_the_function(rt: HostRuntime) -> Result<(), Fail> {
+    let alloc = rt.alloc();
+    let function = BwFunction::new(alloc, &[(0, 0), (100, 100)], 100)?;
+    let mut sum = CappedSum::new(alloc, function, &[3, 1])?;
+    let _ = sum.set(0, 1_000)?;
+    let _ = sum.set(1, 1_000)?;
+    assert_eq!(rt; (sum.value(25), sum.value(26)), (100, 104));
+    sum.refresh();
+    assert_eq!(rt; (sum.value(25), sum.value(26)), (100, 104));
+    assert_eq!(rt; (sum.weight(0), sum.demand(1), sum.tasks()), (3, 1_000, 2));
+    assert_eq!(rt; sum.function().last_value(), 100);
+    Ok(())
+}
+
+// The tasks of the case "Sated group" again: two tasks rise up to share 10, then one.
+#[test]
+fn a_fresh_index_tells_where_the_sum_changes(rt: HostRuntime) -> Result<(), Fail> {
+    let alloc = rt.alloc();
+    let function = BwFunction::new(alloc, &[(0, 0), (100, 50)], 100)?;
+    let mut sum = CappedSum::new(alloc, function, &[1, 1])?;
+    let _ = sum.set(0, 5)?;
+    let _ = sum.set(1, 30)?;
+    sum.refresh();
+    let look = sum.look(4);
+    assert_eq!(rt; (look.value, look.last, look.next), (4, 5, 6));
+    let look = sum.look(90);
+    assert_eq!(rt; (look.value, look.last, look.next), (35, 100, 35));
+    Ok(())
+}
+
+// The tasks of the case "Sated group" once more: at 12 one has 5 and the other 7, at share 15.
+#[test]
+fn a_fresh_index_tells_the_last_share(rt: HostRuntime) -> Result<(), Fail> {
+    let alloc = rt.alloc();
+    let function = BwFunction::new(alloc, &[(0, 0), (100, 50)], 100)?;
+    let mut sum = CappedSum::new(alloc, function, &[1, 1])?;
+    let _ = sum.set(0, 5)?;
+    let _ = sum.set(1, 30)?;
+    assert_eq!(rt; sum.last_share_within(8, 100), None);
+    sum.refresh();
+    for (amount, share) in [
+        (0, 1),
+        (8, 9),
+        (9, 9),
+        (10, 11),
+        (12, 15),
+        (34, 59),
+        (35, 100),
+    ] {
+        assert_eq!(rt;
+            sum.last_share_within(amount, 100),
+            Some(share),
+            "within {amount}"
+        );
+    }
+    Ok(())
+}
+
+// The two groups of the case "Two weighted tasks": weights 2 and 1, and a link of 90.
+#[test]
+fn weights_divide_a_link(rt: HostRuntime) -> Result<(), Fail> {
+    let alloc = rt.alloc();
+    let first = one_task(alloc, 2)?;
+    let second = one_task(alloc, 1)?;
+    assert_eq!(rt; (value_at(&first, 30), value_at(&second, 30)), (60, 30));
+    assert_eq!(rt; (value_at(&first, 31), value_at(&second, 31)), (62, 31));
+    Ok(())
+}
+
+// One task of slope 1 that asks for 1,000.
+fn one_task(alloc: Global, weight: u64) -> Result<CappedSum, Fail>
+    requires low { 1 ≤ weight }
+    requires high { weight ≤ 1_000 }
+{
+    let function = BwFunction::new(alloc, &[(0, 0), (100, 100)], 100)?;
+    let mut sum = CappedSum::new(alloc, function, &[weight])?;
+    let _ = sum.set(0, 1_000)?;
+    sum.refresh();
+    Ok(sum)
+}
+
+// The value as the layers above ask for it.
+fn value_at<P: ShareFunction>(part: &P, share: u64) -> u64 {
+    part.value(share)
+}

@@ -1,0 +1,115 @@
+//! The worked cases of the tree.
+
+use super::made::{one_task, two_jobs, two_weights};
+use bw_function::BwFunction;
+use policy_tree::{ClusterSpec, Kind, PolicyTree, TreeError, TreeFault, TreeSpec};
+use std::alloc::Global;
+use std::test::Fail;
+
+// The cases "Configured user" and "Stale pair".
+#[test]
+fn a_configured_user_meets_its_jobs(rt: HostRuntime) -> Result<(), Fail> {
+    let alloc = rt.alloc();
+    let mut tree = configured_user(alloc, &[(0, 0), (10, 60)])?;
+    tree.rematch();
+    assert_eq!(rt; tree.groups(), 1);
+    assert_eq!(rt; tree.group_value(0, 10), 60);
+    assert_eq!(rt; tree.group_top(0), 60);
+    assert_eq!(rt; tree.tasks(), 2);
+    tree.set_demand(1, 10)?;
+    assert_eq!(rt; tree.tasks(), 2);
+    assert_eq!(rt; tree.groups(), 1);
+    assert_eq!(rt; tree.demand(1), 10);
+    assert_eq!(rt; tree.group_value(0, 10), 60);
+    tree.rematch();
+    assert_eq!(rt; tree.groups(), 1);
+    assert_eq!(rt; tree.group_value(0, 10), 60);
+    Ok(())
+}
+
+// The wrong body "Proportional transformation" would give 61 there.
+#[test]
+fn an_amount_between_two_shares_is_not_reached(rt: HostRuntime) -> Result<(), Fail> {
+    let mut tree = configured_user(rt.alloc(), &[(0, 0), (10, 61)])?;
+    tree.rematch();
+    assert_eq!(rt; tree.groups(), 1);
+    assert_eq!(rt; tree.group_value(0, 10), 60);
+    Ok(())
+}
+
+// The nodes and tasks of the case "Configured user", with the jobs' values at the inner share 4.
+#[test]
+fn nodes_and_tasks_are_known_by_their_numbers(rt: HostRuntime) -> Result<(), Fail> {
+    let tree = configured_user(rt.alloc(), &[(0, 0), (10, 60)])?;
+    assert_eq!(rt; tree.nodes(), 4);
+    assert_eq!(rt; tree.groups(), 1);
+    assert_eq!(rt; tree.tasks(), 2);
+    assert_eq!(rt; tree.group_node(0), 0);
+    assert_eq!(rt; (tree.kind(0), tree.kind(1)), (Kind::Cluster, Kind::User));
+    assert_eq!(rt; (tree.kind(2), tree.kind(3)), (Kind::Job, Kind::Job));
+    assert_eq!(rt; tree.children(0), [1].as_slice());
+    assert_eq!(rt; tree.children(1), [2, 3].as_slice());
+    assert_eq!(rt; tree.children(2), [0].as_slice());
+    assert_eq!(rt; tree.children(3), [1].as_slice());
+    assert_eq!(rt; (tree.node_value(0, 10), tree.node_value(1, 10)), (60, 60));
+    assert_eq!(rt; (tree.node_value(2, 4), tree.node_value(3, 4)), (40, 20));
+    assert_eq!(rt; (tree.task_value(0, 4), tree.task_value(1, 4)), (40, 20));
+    Ok(())
+}
+
+// The case "Two weighted tasks": a link of 90 closes at 30.
+#[test]
+fn weights_divide_a_link(rt: HostRuntime) -> Result<(), Fail> {
+    let alloc = rt.alloc();
+    let clusters = vec![in alloc; one_task(alloc, 2)?, one_task(alloc, 1)?]?;
+    let mut tree = PolicyTree::build(alloc, TreeSpec { top: 100, clusters })?;
+    for task in [0, 1] {
+        if task < tree.tasks() {
+            tree.set_demand(task, 1_000)?;
+        }
+    }
+    assert_eq!(rt; tree.groups(), 2);
+    assert_eq!(rt;
+        (tree.group_value(0, 30), tree.group_value(1, 30)),
+        (60, 30)
+    );
+    assert_eq!(rt;
+        (tree.group_value(0, 31), tree.group_value(1, 31)),
+        (62, 31)
+    );
+    Ok(())
+}
+
+// The case "Weights in one job".
+#[test]
+fn a_weight_counts_a_task_so_often(rt: HostRuntime) -> Result<(), Fail> {
+    let tree = two_weights(rt.alloc())?;
+    assert_eq!(rt; tree.groups(), 1);
+    assert_eq!(rt; tree.group_value(0, 25), 100);
+    Ok(())
+}
+
+// The case "Library refusals".
+#[test]
+fn a_cluster_without_users_is_refused(rt: HostRuntime) -> Result<(), Fail> {
+    let alloc = rt.alloc();
+    let cluster = ClusterSpec {
+        function: None,
+        users: Vec::new(alloc),
+    };
+    let refused = PolicyTree::build(
+        alloc,
+        TreeSpec {
+            top: 10,
+            clusters: vec![in alloc; cluster]?,
+        },
+    );
+    let fault = TreeFault::EmptyNode { node: 0 };
+    assert_eq!(rt; refused.err(), Some(TreeError::Refused { fault }));
+    Ok(())
+}
+
+// The tree of the case "Configured user", where the user's function has these points.
+fn configured_user(alloc: Global, points: &[(u64, u64)]) -> Result<PolicyTree, Fail> {
+    two_jobs(alloc, Some(BwFunction::new(alloc, points, 10)?))
+}
