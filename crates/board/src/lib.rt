@@ -18,15 +18,11 @@
 //! for the log lock, which nobody holds while a table is made. Not promised: that a reader sees
 //! what nobody told it, waiting, fairness, and that memory is there.
 //!
-//! Some bodies meet every clause and are wrong. Each was tried by hand, and a test refuses it:
-//! - a `read` that enters no published copy and shows what the last `learn` brought:
-//!   `a_told_reader_and_an_untold_one_see_the_report`, by its second reader;
-//! - a `read` that stops entering one after three reads, a `round` that posts nothing and answers
-//!   what is posted, and news laid from the log's beginning again, which no copy can follow:
-//!   `an_untold_reader_sees_the_table_of_each_round`;
-//! - a `settle` that posts nothing, and any call that always answers want of memory: the test of
-//!   the told reader, which makes each call;
-//! - a solve under the log lock: `a_report_is_answered_while_a_table_is_made`, whose turns run out.
+//! Some bodies meet every clause and are wrong: a `read` that enters no published copy, a `round`
+//! or a `settle` that posts nothing, a solve under the log lock, a call that always answers want of
+//! memory. Each was tried by hand, and a test of `board_cases` refuses it; its page names which. A
+//! `close` that frees nothing is refused by nothing: no clause and no test counts memory. The
+//! program opens one board and then ends.
 //!
 //! One lock round everything, which `read` takes too, cannot be written: a lock is taken by a
 //! handle, and `read` is given none.
@@ -49,6 +45,3 @@ pub use ended::{Ended, FinishRefused};
 pub use open::Opened;
 pub use refusal::ReportError;
 pub use reporter::ReporterPass;
-
-#[cfg(test)]
-mod tests;

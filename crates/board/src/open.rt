@@ -4,17 +4,17 @@ ghost use Rattle.std.specs.List.{All};
 ghost use Rattle.bwe_specs.specs.declared.report.Report.{Report};
 ghost use Rattle.board.specs.Reporting.{AreFresh, fresh_pass};
 ghost use Rattle.board_pair.specs.Reading.{IsNewReader};
-ghost use Rattle.board_pair.specs.Plan.{NamesTables};
+ghost use Rattle.board_pair.specs.Plan.{AreOfOnePlan, NamesTables};
 
 use crate::allocator::AllocatorPass;
 use crate::board::Board;
 use crate::reporter::ReporterPass;
 use crate::steps::LogState;
 use crate::workshop::Workshop;
-use board_log::{Bases, OpenedLog, OpenedRoll, Roll, WholeLog};
-use board_pair::{Ack, Pair, Poster, Profile, ReaderPass, seat_all};
+use board_log::{Bases, Beginning, OpenedLog, OpenedRoll, Roll, WholeLog};
+use board_pair::{Ack, News, Pair, Poster, Profile, ReaderPass, seat_all};
 use bwe_specs::OutOfMemory;
-use demand_book::Maker;
+use demand_book::{Maker, Posted};
 use std::alloc::Global;
 use std::marker::{Model, PhantomData};
 use std::sync::Wait;
@@ -121,23 +121,61 @@ impl<M: Maker, N: Profile<M::Table>> Opened<M, N> {
         let mut roll = roll.named::<B>();
         let passes = enroll_all(alloc, reporters, &whole, &mut roll)?;
         let table = maker.table(alloc)?;
-        let first: Pair<M::Table, N, B> = Pair::empty(alloc, whole.first(0), &table)?;
-        let second = Pair::empty(alloc, whole.first(0), &table)?;
-        let poster = Poster::new(alloc, first, second, readers as usize)?;
-        let known = whole.first(0);
-        match seat_all(alloc, readers, &known, &table, &poster) {
-            Ok(seats) => {
-                let shop = Workshop::empty(alloc, maker, whole.first(0));
-                let allocator = AllocatorPass::new(Ack::of(&poster));
-                let state = LogState::empty(alloc, whole, roll, poster);
-                Ok((Board::new(shop, state), passes, seats, allocator))
-            }
-            Err(error) => {
-                poster.take(rt);
-                Err(error)
-            }
+        let (poster, seats) = open_desk(rt, alloc, readers, &whole.first(0), &table)?;
+        let allocator = AllocatorPass::new(Ack::of(&poster));
+        let shop = Workshop::empty(alloc, maker, whole.first(0));
+        let state = LogState::empty(alloc, whole, roll, poster);
+        Ok((Board::new(shop, state), passes, seats, allocator))
+    }
+}
+
+type Desk<T, N, B> = Poster<Pair<T, N, B>, News<T, N, B>>;
+
+// The poster of the empty log and its table, with a seat for each reader.
+fn open_desk<T: Posted, N: Profile<T>, B: Bases, R: Wait>(
+    rt: &R,
+    alloc: Global,
+    readers: u32,
+    known: &Beginning<B>,
+    table: &T,
+) -> Result<(Desk<T, N, B>, Vec<ReaderPass<T, N, B>>), OutOfMemory>
+    requires readers { 1 ≤ readers }
+    requires known { known.now ≡ [] }
+    requires covers { T.covers table.now ≡ 0 }
+    requires belongs { N.belongs [] table.now }
+    requires one_plan { AreOfOnePlan T.frame T.tasks_of N.belongs N.tasks }
+    ensures shown { IfOk result (λ desk. T.covers desk.0.shown.table ≡ 0) }
+    ensures waiting { IfOk result (λ desk. desk.0.waiting ≡ []) }
+    ensures count { IfOk result (λ desk. length desk.1.items ≡ readers) }
+    ensures new { IfOk result (λ desk. All (IsNewReader T.covers N.belongs) desk.1.items) }
+{
+    let poster = open_poster(alloc, readers, known, table)?;
+    match seat_all(alloc, readers, known, table, &poster) {
+        Ok(seats) => Ok((poster, seats)),
+        Err(error) => {
+            poster.take(rt);
+            Err(error)
         }
     }
+}
+
+fn open_poster<T: Posted, N: Profile<T>, B: Bases>(
+    alloc: Global,
+    readers: u32,
+    known: &Beginning<B>,
+    table: &T,
+) -> Result<Desk<T, N, B>, OutOfMemory>
+    requires readers { 1 ≤ readers }
+    requires known { known.now ≡ [] }
+    requires covers { T.covers table.now ≡ 0 }
+    requires belongs { N.belongs [] table.now }
+    requires one_plan { AreOfOnePlan T.frame T.tasks_of N.belongs N.tasks }
+    ensures shown { IfOk result (λ poster. T.covers poster.shown.table ≡ 0) }
+    ensures waiting { IfOk result (λ poster. poster.waiting ≡ []) }
+{
+    let first: Pair<T, N, B> = Pair::empty(alloc, known.copy(), table)?;
+    let second = Pair::empty(alloc, known.copy(), table)?;
+    Poster::new(alloc, first, second, readers as usize)
 }
 
 // A pass for each number.

@@ -1,5 +1,5 @@
 //! What the log lock holds, and the steps on it. Nothing else adds to the log or publishes.
-ghost use Rattle.std.specs.Prelude.{◌≡◌, ◌<◌, ◌≤◌, ◌↔◌, IsTrue, ◌++◌, [], List, length, take, drop, max, IfOk, IfErr, OnOk, OnErr};
+ghost use Rattle.std.specs.Prelude.{◌≡◌, ◌+◌, ◌<◌, ◌≤◌, ◌↔◌, IsTrue, ◌++◌, [], List, length, take, drop, max, IfOk, IfErr, OnOk, OnErr};
 ghost use Rattle.std.specs.List.{All, sum_by};
 ghost use Rattle.std.specs.Bool.{OnTrue};
 ghost use mathlib.Core.List.{IsPrefix};
@@ -145,19 +145,34 @@ impl<M: Maker, N: Profile<M::Table>, B: Bases> LogState<M, N, B> {
         ensures refused { IfErr result (IsRefusalAt pass.new.seen (length reports.now)) }
     {
         let held = self.log.len() as u64;
+        self.admit(pass, reports.len() as u64)?;
+        let piece = grow(alloc, &mut self.log, &mut self.whole, reports)?;
+        let whole = self.whole.first(self.log.len() as u64);
+        pass.send(&mut self.roll, &piece, whole);
+        Ok(held)
+    }
+
+    // Whether the log has room for so many more reports of a pass. If not, the pass sees the log.
+    fn admit(&self, pass: &mut ReporterPass<B>, more: u64) -> Result<(), ReportError>
+        ensures ok { OnOk result (pass.new ≡ pass.old) }
+        ensures begins { OnOk result (IsPrefix pass.old.seen self.now.log) }
+        ensures room { OnOk result (length self.now.log + more ≤ 200_000) }
+        ensures held { IfErr result (IsRefusalAt self.now.log more) }
+        ensures refused { IfErr result (IsRefusalAt pass.new.seen more) }
+        ensures number { pass.new.number ≡ pass.old.number }
+        ensures own { pass.new.own ≡ pass.old.own }
+        ensures seen { IsPrefix pass.old.seen pass.new.seen }
+    {
+        let held = self.log.len() as u64;
         let whole = self.whole.first(held);
         if !pass.known.begins(&whole) {
             return Err(ReportError::OutOfMemory);
         }
-        if reports.len() as u64 > MAX_REPORTS - held {
+        if more > MAX_REPORTS - held {
             pass.see(whole);
             return Err(ReportError::Full { held });
         }
-        let piece = Vec::from_slice(alloc, reports)?;
-        grow(&mut self.log, &mut self.whole, &piece)?;
-        let whole = self.whole.first(self.log.len() as u64);
-        pass.send(&mut self.roll, &piece, whole);
-        Ok(held)
+        Ok(())
     }
 
     /// An ack of what is posted, if that covers what is known.
@@ -205,12 +220,21 @@ impl<M: Maker, N: Profile<M::Table>, B: Bases> LogState<M, N, B> {
         ensures covered { IfOk result (IsPrefix shop.now) }
         ensures raised { self.old.posted ≤ self.new.posted }
     {
-        let whole = self.whole.first(self.log.len() as u64);
-        if !shop.is_seen_in(&whole) {
+        if !self.begins_with(shop) {
             return Err(OutOfMemory);
         }
         post(rt, alloc, self, table)?;
         self.ack(shop.seen())
+    }
+
+    // Whether the log begins with all that the workshop has seen.
+    fn begins_with(&self, shop: &Workshop<M, N, B>) -> bool
+        ensures begins { OnTrue result (IsPrefix shop.now self.now.log) }
+        ensures posted { self.now.posted ≤ self.now.pending }
+        ensures within { self.now.pending ≤ length self.now.log }
+    {
+        let whole = self.whole.first(self.log.len() as u64);
+        shop.is_seen_in(&whole)
     }
 
     /// The whole log and its table, once each pass is compared with the log.
@@ -242,8 +266,7 @@ impl<M: Maker, N: Profile<M::Table>, B: Bases> LogState<M, N, B> {
         ensures refused { IfErr result (λ refused. refused.passes.items ≡ passes.items) }
     {
         let length = self.log.len() as u64;
-        let known = self.whole.first(length);
-        if !each_begins(passes.as_slice(), &known) {
+        if !self.begins_with_each(passes.as_slice()) {
             return Err(FinishRefused { passes });
         }
         compare_all(&mut self.roll, passes.as_mut_slice());
@@ -256,6 +279,14 @@ impl<M: Maker, N: Profile<M::Table>, B: Bases> LogState<M, N, B> {
             }),
             Err(_) => Err(FinishRefused { passes }),
         }
+    }
+
+    // Whether the log begins with all that each pass has seen. In a run it always does.
+    fn begins_with_each(&self, passes: &[ReporterPass<B>]) -> bool
+        ensures begins { OnTrue result (All (λ pass. IsPrefix pass.seen self.now.log) passes.now) }
+    {
+        let whole = self.whole.first(self.log.len() as u64);
+        each_begins(passes, &whole)
     }
 
     /// Ends the writer. It waits for readers to leave.
@@ -309,16 +340,29 @@ impl<M: Maker, N: Profile<M::Table>, B: Bases> LogState<M, N, B> {
         if pending <= self.pending {
             return Ok(());
         }
-        let from = self.laid;
-        let len = self.log.len() as u64;
-        let more = Vec::from_slice(alloc, &self.log[from as usize..])?;
-        let news = News::new(alloc, from, more, table, self.whole.first(len));
+        let news = self.news_of(alloc, table)?;
         if self.poster.append(news).is_err() {
             return Err(OutOfMemory);
         }
         self.pending = pending;
-        self.laid = len;
+        self.laid = self.log.len() as u64;
         Ok(())
+    }
+
+    // What a post of the table brings: the reports that were not laid before, and the table.
+    fn news_of(
+        &self,
+        alloc: Global,
+        table: M::Table,
+    ) -> Result<News<M::Table, N, B>, OutOfMemory>
+        requires covers { M.Table.covers table ≤ length self.now.log }
+        requires belongs { N.belongs (take (M.Table.covers table) self.now.log) table }
+        ensures news { IfOk result (λ news. news ≡ record { log = self.now.log; table = table }) }
+    {
+        let from = self.laid;
+        let more = Vec::from_slice(alloc, &self.log[from as usize..])?;
+        let whole = self.whole.first(self.log.len() as u64);
+        Ok(News::new(alloc, from, more, table, whole))
     }
 
     // Posts the table of the whole log, ends that, and gives the ack of it and both.
@@ -337,19 +381,47 @@ impl<M: Maker, N: Profile<M::Table>, B: Bases> LogState<M, N, B> {
         ensures covers { IfOk result (λ last. M.Table.covers last.2 ≡ length self.old.log) }
         ensures belongs { IfOk result (λ last. N.belongs self.old.log last.2) }
     {
-        self.show(shop)?;
         let history = Vec::from_slice(alloc, self.log.as_slice())?;
+        let (ack, table) = self.post_last(rt, alloc, shop)?;
+        let ack = self.end(ack)?;
+        Ok((ack, history, table))
+    }
+
+    // Posts the table of the whole log, and gives the ack of that and the table.
+    fn post_last<R: Wait>(
+        &mut self,
+        rt: &R,
+        alloc: Global,
+        shop: &mut Workshop<M, N, B>,
+    ) -> Result<(Ack<B>, M::Table), OutOfMemory>
+        ensures log { self.new.log ≡ self.old.log }
+        ensures posted { OnOk result (self.new.posted ≡ length self.new.log) }
+        ensures raised { self.old.posted ≤ self.new.posted }
+        ensures ack { IfOk result (λ last. last.0 ≡ self.old.log) }
+        ensures covers { IfOk result (λ last. M.Table.covers last.1 ≡ length self.old.log) }
+        ensures belongs { IfOk result (λ last. N.belongs self.old.log last.1) }
+    {
+        self.show(shop)?;
         let table = shop.solve(alloc)?;
         let copy = table.copy(alloc)?;
         let ack = self.post_made(rt, alloc, shop, copy)?;
-        let Ok(log) = self.whole.end() else {
-            return Err(OutOfMemory);
-        };
-        Ok((FinalAck::new(ack, log), history, table))
+        Ok((ack, table))
+    }
+
+    // Ends the log, of which that is the ack of the whole.
+    fn end(&mut self, ack: Ack<B>) -> Result<FinalAck<B>, OutOfMemory>
+        requires whole { ack ≡ self.old.log }
+        ensures state { self.new ≡ self.old }
+        ensures ack { IfOk result (λ last. last ≡ ack) }
+    {
+        match self.whole.end() {
+            Ok(log) => Ok(FinalAck::new(ack, log)),
+            Err(_) => Err(OutOfMemory),
+        }
     }
 }
 
-// Whether the log begins with all that each pass has seen. In a run it always does.
+// Whether this begins with all that each pass has seen.
 fn each_begins<B: Bases>(passes: &[ReporterPass<B>], whole: &Beginning<B>) -> bool
     ensures begins { OnTrue result (All (λ pass. IsPrefix pass.seen whole.now) passes.now) }
 {
@@ -372,26 +444,29 @@ fn compare_all<B: Bases>(roll: &mut Roll<B>, passes: &mut [ReporterPass<B>])
     }
 }
 
-// Adds a piece at the end of the log and of its history, or to neither.
+// Adds a piece of these reports at the end of the log and of its history, or to neither.
 fn grow<B: Bases>(
+    alloc: Global,
     log: &mut Vec<Report>,
     whole: &mut WholeLog<B>,
-    piece: &Vec<Report>,
-) -> Result<(), OutOfMemory>
+    reports: &[Report],
+) -> Result<Vec<Report>, OutOfMemory>
     requires whole { whole.old ≡ log.old.items }
     requires room { length log.old.items ≤ 200_000 }
+    ensures piece { IfOk result (λ piece. piece.items ≡ reports.now) }
     ensures whole { whole.new ≡ log.new.items }
-    ensures ok { OnOk result (log.new.items ≡ log.old.items ++ piece.now.items) }
+    ensures ok { OnOk result (log.new.items ≡ log.old.items ++ reports.now) }
     ensures refused { OnErr result (log.new.items ≡ log.old.items) }
 {
+    let piece = Vec::from_slice(alloc, reports)?;
     if piece.is_empty() {
-        return Ok(());
+        return Ok(piece);
     }
     let held = log.len();
-    log.extend_from_slice(piece.as_slice())?;
-    if whole.append(piece).is_err() {
+    log.extend_from_slice(reports)?;
+    if whole.append(&piece).is_err() {
         log.truncate(held);
         return Err(OutOfMemory);
     }
-    Ok(())
+    Ok(piece)
 }

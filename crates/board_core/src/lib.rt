@@ -12,8 +12,6 @@ mod event;
 mod law;
 mod piece;
 mod state;
-#[cfg(test)]
-mod tests;
 
 pub use event::{CoreAnswer, CoreError, CoreEvent};
 pub use law::core_history_law;

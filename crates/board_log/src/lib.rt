@@ -44,6 +44,3 @@ pub fn own_lists_add_up()
 pub fn placed_pieces_are_the_pieces()
     ensures { PlacedPiecesAreThePieces }
 {}
-
-#[cfg(test)]
-mod tests;

@@ -31,6 +31,7 @@ pub struct ReaderPass<T: Posted, N: Profile<T>, B: Bases> {
 }
 
 impl<T: Posted, N: Profile<T>, B: Bases> Model for ReaderPass<T, N, B> {
+    ghost use Rattle.std.specs.Prelude.{IsSome};
     ghost use Rattle.board_pair.specs.Reading.{Reading};
 
     ghost Value = { Reading T };
@@ -41,6 +42,8 @@ impl<T: Posted, N: Profile<T>, B: Bases> Model for ReaderPass<T, N, B> {
       reads =
           pass.reads;
     } };
+
+    ghost invariant = { λ pass. IsSome pass.home };
 }
 
 /// What a read shows: the log and the table of its pass.
@@ -132,7 +135,7 @@ impl<T: Posted, N: Profile<T>, B: Bases> ReaderPass<T, N, B> {
             return Ok(());
         }
         let Some(reader) = self.home.take() else {
-            return Err(OutOfMemory);
+            unreachable!()
         };
         let (reader, learnt) = match reader.enter_as::<Unruled>() {
             Ok(reading) => {
@@ -151,9 +154,10 @@ impl<T: Posted, N: Profile<T>, B: Bases> ReaderPass<T, N, B> {
         ensures floor { T.covers self.old.table ≤ T.covers self.new.table }
         ensures reads { self.new.reads ≡ min (self.old.reads + 1) (2 ^ 64 - 1) }
     {
-        if let Some(reader) = self.home.take() {
-            self.home = Some(enter_and_leave(alloc, reader, &mut self.copy));
-        }
+        let Some(reader) = self.home.take() else {
+            unreachable!()
+        };
+        self.home = Some(enter_and_leave(alloc, reader, &mut self.copy));
         self.reads = self.reads.saturating_add(1);
     }
 

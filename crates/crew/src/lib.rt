@@ -10,18 +10,15 @@
 //! an actor runs after another. Nothing is promised of waiting, of the order of actors that told
 //! each other nothing, or that any two ran at once.
 //!
-//! Some bodies meet every clause and are wrong. Each was tried by hand, and a test refuses it:
-//! - a reporter that keeps its acknowledgement, and a reader that learns none before a read:
-//!   `a_held_reader_is_told_what_was_settled`;
-//! - a settle that is not made: the same test, whose reader is told nothing then;
-//! - a call that the gate is not told of: the calls that the same test counts.
+//! Some bodies meet every clause and are wrong: a reporter that keeps its acknowledgement or makes
+//! no settle, a reader that learns none before a read, a call that the gate is not told of. Each
+//! was tried by hand, and the test `a_held_reader_is_told_what_was_settled` of `board_cases` refuses
+//! it.
 #![tactic(auto)]
 
 mod at_once;
 mod driving;
 mod running;
-#[cfg(test)]
-mod tests;
 
 pub use driving::drive;
 pub use running::run_crew;

@@ -24,7 +24,6 @@ returns-in-Ok-clause-seen g c =
     let log = c.self.inside.log.items in
     let passes : List Reporting = c.args.passes.items in
     let Begin : List Report → Type 0 = λ reports. All (λ (pass : Reporting). IsPrefix pass.seen reports) passes in
-    let count : length log ≤ c.len-length.result = omega (arith, c.len-length.ensures, c.self.inside.log.ok.0) in
-    let known : c.first-known.result ≡ log = c.first-known.ensures.reports ∙ ap (take c.len-length.result) c.self.invariant.whole_so ∙ take_all c.len-length.result log count in
-    let begun : Begin c.first-known.result = subst (λ (all : List Reporting). All (λ (pass : Reporting). IsPrefix pass.seen c.first-known.result) all) c.as_slice.ensures.value c.if-not-each_begins.ensures.begins in
-    subst Begin (known ∙ sym c.in-Ok.ensures.ack) begun
+    let logged : c.args.self.now.log ≡ log = sym (ap (λ state. state.log) c.self.view_is) in
+    let begun : Begin c.args.self.now.log = subst (λ (all : List Reporting). All (λ (pass : Reporting). IsPrefix pass.seen c.args.self.now.log) all) c.as_slice.ensures.value c.if-not-begins_with_each.ensures.begins in
+    subst Begin (logged ∙ sym c.in-Ok.ensures.ack) begun

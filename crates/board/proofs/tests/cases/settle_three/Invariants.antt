@@ -1,5 +1,0 @@
-use Rattle.std.proofs.Common.{◌≡◌}
-use Rattle.board.proofs.tests.cases.settle_three.Given as goal
-
-abbrev pub invariant-loop-reports : goal.invariant-loop-reports
-invariant-loop-reports g l = l.pass.number ≡ l.initial.pass.number

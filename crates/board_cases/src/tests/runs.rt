@@ -1,0 +1,74 @@
+//! Whole runs on a board, each actor in a thread of its own.
+
+use crate::tests::demand_by;
+use crate::tests::held_gate::ToldGate;
+use crew::run_crew;
+use crew_actors::OpenGate;
+use crew_log::ReadLine;
+use demand_book::SmallMaker;
+use std::test::*;
+
+// How often each run is made.
+const RUNS: u64 = 100;
+
+// Two reporters with a demand each, and two readers with three reads each. The run is made a
+// hundred times.
+#[test]
+fn a_run_ends_with_the_history_each_time(rt: HostRuntime) -> Result<(), Fail> {
+    let alloc = rt.alloc();
+    let scripts = [
+        vec![in alloc; demand_by(0, 80)]?,
+        vec![in alloc; demand_by(1, 40)]?,
+    ];
+    for _ in 0..RUNS {
+        let log = run_crew(&rt, alloc, SmallMaker::new(2, 1), &scripts, 2, 3, &OpenGate)?;
+        assert_eq!(rt;
+            (log.history.len(), log.sent.len(), log.table.total),
+            (2, 2, 120)
+        );
+        assert_eq!(rt; log.readers.len(), 2);
+        for reader in &log.readers {
+            assert_eq!(rt;
+                (reader.reads.len(), reader.length, reader.beyond.len()),
+                (3, 2, 0)
+            );
+            assert_eq!(rt; (reader.last.prefix, reader.last.total), (2, 120));
+        }
+    }
+    Ok(())
+}
+
+// One reporter of two demands, and one reader of two reads. The gate holds the first report until
+// the first read was shown, and the reader from then on until the settle was answered: its next
+// line has the acknowledgement's floor.
+#[test]
+fn a_held_reader_is_told_what_was_settled(rt: HostRuntime) -> Result<(), Fail> {
+    let alloc = rt.alloc();
+    let scripts = [vec![in alloc; demand_by(0, 80), demand_by(0, 40)]?];
+    for _ in 0..RUNS {
+        let gate = ToldGate::new();
+        let log = run_crew(&rt, alloc, SmallMaker::new(2, 1), &scripts, 1, 2, &gate)?;
+        assert_eq!(rt; gate.missed(), 0);
+        for reader in &log.readers {
+            assert_eq!(rt;
+                reader.reads.as_slice(),
+                &[line_of(0, 0), line_of(2, 120)][..]
+            );
+            assert_eq!(rt; (reader.last, reader.length), (line_of(2, 120), 2));
+        }
+        assert_eq!(rt; (log.readers.len(), log.history.len()), (1, 2));
+        // Two reports and the settle, a round more than reads, and two reads and the last.
+        assert_eq!(rt; gate.begun(), (3, 3, 3));
+        assert_eq!(rt; gate.answered(), (3, 3, 3));
+    }
+    Ok(())
+}
+
+// The line of a read that showed what its reader had been told of.
+fn line_of(prefix: u64, total: u64) -> ReadLine {
+    ReadLine {
+        floor: prefix,
+        prefix,
+        total,
+    }
+}
