@@ -350,11 +350,7 @@ impl<M: Maker, N: Profile<M::Table>, B: Bases> LogState<M, N, B> {
     }
 
     // What a post of the table brings: the reports that were not laid before, and the table.
-    fn news_of(
-        &self,
-        alloc: Global,
-        table: M::Table,
-    ) -> Result<News<M::Table, N, B>, OutOfMemory>
+    fn news_of(&self, alloc: Global, table: M::Table) -> Result<News<M::Table, N, B>, OutOfMemory>
         requires covers { M.Table.covers table ≤ length self.now.log }
         requires belongs { N.belongs (take (M.Table.covers table) self.now.log) table }
         ensures news { IfOk result (λ news. news ≡ record { log = self.now.log; table = table }) }

@@ -58,11 +58,7 @@ fn on_profile<N: Profile<SmallTable> + Send + Sync, R: Wait + Threads + Sync>(
     }
 }
 
-fn on_bases<
-    N: Profile<SmallTable> + Send + Sync,
-    B: Bases + Send + Sync,
-    R: Wait + Threads + Sync,
->(
+fn on_bases<N: Profile<SmallTable> + Send + Sync, B: Bases + Send + Sync, R: Wait + Threads + Sync>(
     rt: &R,
     alloc: Global,
     opened: Opened<TestMaker<'_>, N>,

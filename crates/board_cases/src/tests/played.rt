@@ -25,9 +25,7 @@ pub enum Case {
     Rounds,
     FullLog,
     /// The maker refuses the call of this number.
-    Memory {
-        refused: u64,
-    },
+    Memory { refused: u64 },
 }
 
 /// How many reports the acknowledgement, the log and the table of the end have, and the table's

@@ -49,11 +49,7 @@ pub fn tell<N: Profile<SmallTable>, B: Bases, R: Wait + Abort>(
     see(rt, &one.read(alloc), report);
     see(rt, &other.read(alloc), report);
     assert_eq!(rt;
-        (
-            one.reads(),
-            one.floor(),
-            board.round(rt, alloc, allocator)
-        ),
+        (one.reads(), one.floor(), board.round(rt, alloc, allocator)),
         (2, 1, Ok(1))
     );
 }

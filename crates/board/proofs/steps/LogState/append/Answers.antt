@@ -1,7 +1,6 @@
-use Rattle.std.proofs.Common.{◌≡◌, ◌≤◌, ◌∙◌, ap, sym, subst, arith, length, take, List}
+use Rattle.std.proofs.Common.{◌≡◌, ◌≤◌, ◌∙◌, ap, sym, subst, arith, length, take}
 use Rattle.std.proofs.lemmas.List.{take_all}
 use mathlib.Core.List.{IsPrefix}
-use Rattle.bwe_specs.specs.declared.report.Report.{Report}
 use Rattle.board_log.proofs.Prefixes.{prefix_trans, prefix_front}
 use Rattle.board.proofs.steps.LogState.append.Goals as goal
 
