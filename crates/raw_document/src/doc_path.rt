@@ -7,20 +7,20 @@ use crate::key::DocKey;
 use std::alloc::{AllocError, AllocFailed, Global};
 
 /// One step: from an object to the member of a key, or from a list to the item at a place, from 0.
-#[derive(Clone, Copy, Debug, PartialEq, Eq)]
+#[derive(Clone, Copy)]
 pub enum PathStep {
     Key { name: DocKey },
     Index { place: u64 },
 }
 
 /// The steps from where one stands to a value below it, outermost first. Without a step it is the value itself.
-#[derive(Debug, Drop)]
+#[derive(Drop)]
 pub struct DocPath {
     pub steps: Vec<PathStep>,
 }
 
 /// Why a value could not be read: memory, or something wrong at a path from that value on.
-#[derive(Debug, Drop)]
+#[derive(Drop)]
 pub enum Fault {
     OutOfMemory,
     At(DocPath),

@@ -4,7 +4,7 @@ ghost use Rattle.std.specs.Prelude.{◌≡◌};
 ghost use Rattle.raw_document.specs.Words.{word};
 
 /// A key of the table of a document's objects. A key outside the table never stands in a path.
-#[derive(Clone, Copy, Debug, PartialEq, Eq)]
+#[derive(Clone, Copy)]
 pub enum DocKey {
     Version,
     Top,

@@ -8,7 +8,7 @@ use serde_json::Value;
 use std::alloc::Global;
 
 /// Why bytes have no value.
-#[derive(Clone, Copy, Debug, PartialEq, Eq)]
+#[derive(Clone, Copy)]
 pub enum JsonError {
     NotJson,
     OutOfMemory,

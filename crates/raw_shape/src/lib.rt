@@ -7,8 +7,6 @@
 
 mod json;
 mod shape;
-#[cfg(test)]
-mod tests;
 
 pub use json::{JsonError, read_json};
 pub use shape::forms::read_shape;
