@@ -85,15 +85,21 @@ impl<'a> Part<'a> for RawDocument<'a> {
         if slots.version? != version {
             return None;
         }
-        Some(RawDocument {
-            version,
-            top: slots.top?,
-            links: slots.links?,
-            groups: slots.groups?,
-            reporters: slots.reporters?,
-            script: slots.script?,
-            closings: slots.closings.unwrap_or(Vec::new(alloc)),
-        })
+        match (slots.top, slots.links, slots.groups, slots.reporters, slots.script) {
+            (Some(top), Some(links), Some(groups), Some(reporters), Some(script)) => {
+                let closings = slots.closings.unwrap_or(Vec::new(alloc));
+                Some(RawDocument {
+                    version,
+                    top,
+                    links,
+                    groups,
+                    reporters,
+                    script,
+                    closings,
+                })
+            }
+            _ => None,
+        }
     }
 }
 

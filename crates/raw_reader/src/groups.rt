@@ -69,13 +69,16 @@ impl<'a> Part<'a> for RawLink<'a> {
             owner: None,
         };
         fill_slots(&mut slots, alloc, version, reader, depth)?;
-        Some(RawLink {
-            name: slots.name?,
-            from: slots.from?,
-            to: slots.to?,
-            capacity: slots.capacity?,
-            owner: slots.owner,
-        })
+        match (slots.name, slots.from, slots.to, slots.capacity) {
+            (Some(name), Some(from), Some(to), Some(capacity)) => Some(RawLink {
+                name,
+                from,
+                to,
+                capacity,
+                owner: slots.owner,
+            }),
+            _ => None,
+        }
     }
 }
 
@@ -192,13 +195,16 @@ impl<'a> Part<'a> for RawGroup<'a> {
             users: None,
         };
         fill_slots(&mut slots, alloc, version, reader, depth)?;
-        Some(RawGroup {
-            name: slots.name?,
-            from: slots.from?,
-            to: slots.to?,
-            function: slots.function,
-            path_groups: slots.path_groups?,
-            users: slots.users?,
-        })
+        match (slots.name, slots.from, slots.to, slots.path_groups, slots.users) {
+            (Some(name), Some(from), Some(to), Some(path_groups), Some(users)) => Some(RawGroup {
+                name,
+                from,
+                to,
+                function: slots.function,
+                path_groups,
+                users,
+            }),
+            _ => None,
+        }
     }
 }

@@ -120,12 +120,15 @@ impl<'a> Part<'a> for RawJob<'a> {
             tasks: None,
         };
         fill_slots(&mut slots, alloc, version, reader, depth)?;
-        Some(RawJob {
-            name: slots.name?,
-            function: slots.function,
-            task: slots.task?,
-            tasks: slots.tasks?,
-        })
+        match (slots.name, slots.task, slots.tasks) {
+            (Some(name), Some(task), Some(tasks)) => Some(RawJob {
+                name,
+                function: slots.function,
+                task,
+                tasks,
+            }),
+            _ => None,
+        }
     }
 }
 
@@ -177,10 +180,13 @@ impl<'a> Part<'a> for RawUser<'a> {
             jobs: None,
         };
         fill_slots(&mut slots, alloc, version, reader, depth)?;
-        Some(RawUser {
-            name: slots.name?,
-            function: slots.function,
-            jobs: slots.jobs?,
-        })
+        match (slots.name, slots.jobs) {
+            (Some(name), Some(jobs)) => Some(RawUser {
+                name,
+                function: slots.function,
+                jobs,
+            }),
+            _ => None,
+        }
     }
 }

@@ -8,8 +8,9 @@ pub fill_slots-requires : goal.fill_slots-requires
 unfolding optional has_only
 fill_slots-requires c κs = ((refl, tt), (refl, refl, refl, refl, refl))
 
-pub returns-clause-value : goal.returns-clause-value
-returns-clause-value c =
+pub returns-in-Some-Some-Some-clause-value : goal.returns-in-Some-Some-Some-clause-value
+returns-in-Some-Some-Some-clause-value c =
     let taken = c.in_ok-fill_slots.ensures.value in
     let s = c.fill_slots.new.slots in
-    (taken.0, taken.1, ap (job_at c.args.version) taken.2.1 ∙ job_is c.args.version taken.2.0 s c.in_ok-slots.field-0 c.in_ok-slots-2.field-0 c.in_ok-slots-3.field-0 c.in_ok-slots.was c.in_ok-slots-2.was c.in_ok-slots-3.was taken.2.2)
+    let all = c.in-Some-Some-Some in
+    (taken.0, taken.1, ap (job_at c.args.version) taken.2.1 ∙ job_is c.args.version taken.2.0 s all.name all.task all.tasks all.is-0 all.is-1 all.is-2 taken.2.2)
