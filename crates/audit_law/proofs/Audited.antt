@@ -22,7 +22,7 @@ use Rattle.raw_document.specs.Forms.{document_at}
 use Rattle.raw_document.specs.Raw.{Raw}
 use Rattle.doc_passes.specs.Limits.{overrun}
 use Rattle.doc_passes.specs.Ranges.{ranges}
-use Rattle.doc_passes.specs.Names.{NameLists, name_lists}
+use Rattle.doc_passes.specs.Names.{name_lists}
 use Rattle.doc_passes.specs.Numbers.{Numbers, numbers}
 use Rattle.plan_doc.specs.declared.document.Document as code
 use Rattle.plan_doc.specs.Accepted.{IsAccepted}
@@ -30,14 +30,13 @@ use Rattle.plan_doc.specs.Conditions.{IsUsable, link_count, reporter_count, task
 use Rattle.plan_doc.specs.Document as documents
 use Rattle.plan_doc.specs.Document.{Accepted, accepted as accepted_by, clusters_of, document, document_by, document_of_raw, document_of_value, links_of, over_limit, refused_by, unless, value_of}
 use Rattle.plan_doc.specs.Functions.{refused_in_groups}
-use Rattle.plan_doc.specs.Links.{names_view}
 use Rattle.plan_doc.specs.Owners.{not_owned, owner_of}
 use Rattle.plan_doc.specs.Refusals.{Refusal, bad_shape, not_owner, out_of_range, refused_function, refused_links, refused_paths, refused_tree, repeated_name, unknown_name}
 use Rattle.path_groups.specs.Faults.{plan_fault}
 use Rattle.wan_topology.specs.Faults.{topology_fault}
 use Rattle.wan_topology.specs.Network.{network_of}
 use Rattle.raw_document.specs.declared.doc_path.PathStep.{PathStep}
-use Rattle.doc_names.specs.NameTexts.{texts_of}
+use Rattle.doc_names.specs.NameTexts.{texts_of, NameTexts}
 use Rattle.run_audit.proofs.Counts.{total_counted}
 use Rattle.run_audit.specs.History.{scripts_of as lists_of}
 use Rattle.audit_law.specs.ClosedRun.{AreAudited, AreNames, AreScripts, IsInterleaving}
@@ -74,7 +73,7 @@ record IsReadOf (accepted : Accepted) : Type 0 where
   clusters_so : accepted.clusters ≡ clusters_of raw
   top_so : accepted.top ≡ raw.top
 
-by_parts : (raw : Raw) (u : ⊤) (names : NameLists) (numbered : Numbers) (accepted : Accepted) → ranges raw ≡ Ok u → name_lists raw ≡ Ok names → document_by raw names numbered ≡ Ok accepted → IsReadOf accepted
+by_parts : (raw : Raw) (u : ⊤) (names : NameTexts) (numbered : Numbers) (accepted : Accepted) → ranges raw ≡ Ok u → name_lists raw ≡ Ok names → document_by raw names numbered ≡ Ok accepted → IsReadOf accepted
 unfolding document_by
 by_parts raw u names numbered accepted range listed e =
     let functions = bind_ok (unless refused_function (refused_in_groups raw.top raw.groups)) (λ _. documents.◌>>=◌ (unless refused_links (topology_fault (links_of raw))) (λ _. documents.◌>>=◌ (unless refused_paths (plan_fault (network_of (links_of raw)) numbered.groups)) (λ _. documents.◌>>=◌ (unless refused_tree (tree_fault (clusters_of raw))) (λ _. documents.◌>>=◌ (unless not_owner (not_owned numbered.task_owners numbered.link_owners 0 numbered.script)) (λ _. Ok (accepted_by raw names numbered)))))) accepted e in
@@ -119,7 +118,7 @@ module _ (bytes : List ℕ) (document : code.Document) (usable : IsUsable docume
   read : IsReadOf accepted.0
   read = read_of bytes accepted.0 accepted.1
 
-  plain : ArePlain (names_view document.names)
+  plain : ArePlain (texts_of document.names)
   plain = subst ArePlain (sym accepted.2.names) (names_plain read.raw read.u accepted.0.names read.range read.listed)
 
   names-are : AreNames (texts_of document.names)

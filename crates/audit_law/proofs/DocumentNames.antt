@@ -8,16 +8,17 @@ use Rattle.std.proofs.lemmas.List.{get_or_append_left, get_or_push, length_push}
 use Rattle.std.proofs.lemmas.List.Elements.{All-cons, All-head, All-nil, All-push, All-tail}
 use Rattle.std.proofs.lemmas.List.Folds.{list_any_at}
 use Rattle.std.proofs.lemmas.Slice.Eq.{bytes_eq-Decides}
-use Rattle.raw_document.specs.declared.key.DocKey.{DocKey}
 use Rattle.raw_document.specs.declared.key.DocKey.TheVariants as keys
 use Rattle.raw_document.specs.declared.doc_path.PathStep.{PathStep}
 use Rattle.raw_document.specs.declared.doc_path.PathStep.TheVariants.{Key, Index}
-use Rattle.raw_document.specs.Reading.{◌>>=◌, check, check_each, fold_each, under}
+use Rattle.raw_document.specs.Reading.{◌>>=◌, check_each, fold_each, under}
 use Rattle.raw_document.specs.Raw.{Group, Job, Link, Raw, Task, User}
-use Rattle.doc_passes.specs.Names.{NameLists, add_group, add_job, add_link, add_task, add_user, fold_member, fresh, fresh_name, name_lists}
+use Rattle.doc_names.specs.NameTexts.{NameTexts}
+use Rattle.doc_passes.specs.Names.{add_group, add_job, add_link, add_task, add_user, fold_member, fresh, fresh_name, name_lists}
 use Rattle.doc_passes.specs.Ranges as ranges
 use Rattle.doc_passes.specs.Ranges.{is_name, is_name_byte, is_within, items_range, member_range}
-use Rattle.doc_passes.proofs.Readings.{bind_ok, check_each_all, check_ok, ok_is, under_ok}
+use Rattle.doc_passes.proofs.RangeFacts.{items_all, member_ok}
+use Rattle.doc_passes.proofs.Readings.{bind_ok, check_ok, ok_is, under_ok}
 use Rattle.audit_law.specs.ClosedRun.{IsPlain}
 use Rattle.bwe_specs.specs.declared.limits.TheConstants.{MAX_SHARE, MAX_WEIGHT}
 
@@ -57,12 +58,6 @@ record AreNamed (raw : Raw) : Type 0 where
   links : All (λ (link : Link). IsName link.name) raw.links
   groups : All HasGroupNames raw.groups
   reporters : All IsName raw.reporters
-
-member_ok : (key : DocKey) (passes : Bool) (u : ⊤) → member_range key passes ≡ Ok u → passes ≡ true
-member_ok key passes u e = check_ok passes u (under_ok (Key key) (check passes) u e)
-
-items_all : {A : Type 0} (key : DocKey) (range : A → Result ⊤ (List PathStep)) (P : A → Type 0) → ((item : A) (u : ⊤) → range item ≡ Ok u → P item) → (items : List A) (u : ⊤) → items_range key range items ≡ Ok u → All P items
-items_all key range P shows items u e = check_each_all range P shows items u (under_ok (Key key) (check_each range items) u e)
 
 task_named : (task : Task) (u : ⊤) → ranges.task_range task ≡ Ok u → HasTaskName task
 unfolding ranges.task_range
@@ -212,20 +207,20 @@ unfolding AreApart
 apart_none number other before within same = omega arith
 
 -- what is known of the names of an accepted document
-pub record ArePlain (names : NameLists) : Type 0 where
+pub record ArePlain (names : NameTexts) : Type 0 where
   pub links : All IsPlain names.links
   pub tasks : All IsPlain names.tasks
   pub reporters : All IsPlain names.reporters
   pub apart : (number other : ℕ) → number < other → other < length names.reporters → slice_index_or names.reporters number [] ≢ slice_index_or names.reporters other []
 
-pub names_plain : (raw : Raw) (u : ⊤) (names : NameLists) → ranges.ranges raw ≡ Ok u → name_lists raw ≡ Ok names → ArePlain names
+pub names_plain : (raw : Raw) (u : ⊤) (names : NameTexts) → ranges.ranges raw ≡ Ok u → name_lists raw ≡ Ok names → ArePlain names
 unfolding name_lists AreApart
 names_plain raw u names range e =
     let named : AreNamed raw = all_named raw u range in
     let links = bind_ok (fold_member keys.Links add_link [] raw.links) (λ links. fold_member keys.Groups add_group ([], []) raw.groups >>= λ groups. fold_member keys.Reporters fresh [] raw.reporters >>= λ reporters. Ok (record { links = links; groups = groups.0; tasks = groups.1; reporters = reporters })) names e in
     let groups = bind_ok (fold_member keys.Groups add_group ([], []) raw.groups) (λ groups. fold_member keys.Reporters fresh [] raw.reporters >>= λ reporters. Ok (record { links = links.0; groups = groups.0; tasks = groups.1; reporters = reporters })) names links.2 in
     let reporters = bind_ok (fold_member keys.Reporters fresh [] raw.reporters) (λ reporters. Ok (record { links = links.0; groups = groups.0.0; tasks = groups.0.1; reporters = reporters })) names groups.2 in
-    let made : NameLists = record { links = links.0; groups = groups.0.0; tasks = groups.0.1; reporters = reporters.0 } in
+    let made : NameTexts = record { links = links.0; groups = groups.0.0; tasks = groups.0.1; reporters = reporters.0 } in
     let is : made ≡ names = ok_is made names reporters.2 in
     let folded : fold_each fresh 0 [] raw.reporters ≡ Ok reporters.0 = under_ok (Key keys.Reporters) (fold_each fresh 0 [] raw.reporters) reporters.0 reporters.1 in
     subst ArePlain {x = made} is (record {

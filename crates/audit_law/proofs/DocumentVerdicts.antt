@@ -19,7 +19,7 @@ use Rattle.run_audit.specs.Verdict.{verdict_of}
 use Rattle.table_text.specs.TableText.{text_of}
 use Rattle.audit_law.specs.ClosedRun.{IsClosedRun}
 use Rattle.audit_law.specs.Laws.{verdict_on}
-use Rattle.audit_law.specs.DocumentRun.{document_verdict, run_names}
+use Rattle.audit_law.specs.DocumentRun.{document_verdict}
 use Rattle.audit_law.specs.DocumentLaws.{AreScriptsOf}
 
 abbrev plan_parts : ℕ → List Cluster → List PathGroups → List ℕ → Plan
@@ -31,8 +31,8 @@ module _ (accepted : Accepted) (document : read.Document) (is : IsDocumentOf acc
       ap (λ tree. plan_parts tree.top tree.clusters document.plan document.topology.capacities) is.tree
       ∙ ap₂ (λ plan topology. plan_parts accepted.top accepted.clusters plan topology.capacities) is.plan is.topology
 
-  pub names-are : texts_of document.names ≡ run_names accepted.names
-  names-are = ap run_names is.names
+  pub names-are : texts_of document.names ≡ accepted.names
+  names-are = is.names
 
   pub tasks-are : tasks_in document ≡ task_count (plan_of accepted)
   tasks-are = ap (λ tree. length tree.demands) is.tree ∙ length-replicate (length (task_numbers accepted.clusters)) 0
@@ -47,16 +47,16 @@ module _ (accepted : Accepted) (document : read.Document) (is : IsDocumentOf acc
 
     -- a closed run of the parts of the code is one of the definition
     pub run-is : (text : List ℕ) → IsClosedRun (texts_of document.names) (allocation (plan_in document)) (tasks_in document) (link_count document) scripts text
-        ≡ IsClosedRun (run_names accepted.names) (allocation (plan_of accepted)) (task_count (plan_of accepted)) (length (plan_of accepted).capacities) scripts text
+        ≡ IsClosedRun accepted.names (allocation (plan_of accepted)) (task_count (plan_of accepted)) (length (plan_of accepted).capacities) scripts text
     run-is text =
         ap₂ (λ names plan. IsClosedRun names (allocation plan) (tasks_in document) (link_count document) scripts text) names-are plan-is
-        ∙ ap₂ (λ tasks links. IsClosedRun (run_names accepted.names) (allocation (plan_of accepted)) tasks links scripts text) tasks-are links-are
+        ∙ ap₂ (λ tasks links. IsClosedRun accepted.names (allocation (plan_of accepted)) tasks links scripts text) tasks-are links-are
 
     -- and so is the verdict
     pub verdict-is : (text : List ℕ) → AreScriptsOf document scripts
         → verdict_on (texts_of document.names) (allocation (plan_in document)) (allocation (plan_in document) document.script.items) scripts text ≡ document_verdict accepted text
     verdict-is text split =
         ap₂ (λ names plan. verdict_on names (allocation plan) (allocation plan document.script.items) scripts text) names-are plan-is
-        ∙ ap (λ script. verdict_on (run_names accepted.names) (allocation (plan_of accepted)) (allocation (plan_of accepted) script) scripts text) is.script
-        ∙ ap (λ lists. verdict_of (run_names accepted.names) lists (λ reports. total_of (allocation (plan_of accepted) reports))
-        (text_of (run_names accepted.names) (allocation (plan_of accepted) accepted.script)) text) (subst (λ (T : Type 0). T) split-is split)
+        ∙ ap (λ script. verdict_on accepted.names (allocation (plan_of accepted)) (allocation (plan_of accepted) script) scripts text) is.script
+        ∙ ap (λ lists. verdict_of accepted.names lists (λ reports. total_of (allocation (plan_of accepted) reports))
+        (text_of accepted.names (allocation (plan_of accepted) accepted.script)) text) (subst (λ (T : Type 0). T) split-is split)

@@ -16,7 +16,6 @@ use Rattle.plan_doc.specs.declared.document.Document.{Document}
 use Rattle.plan_doc.specs.Accepted.{IsDocumentOf}
 use Rattle.plan_doc.specs.Conditions.{link_count, reporter_count, tasks_in}
 use Rattle.plan_doc.specs.Document.{Accepted}
-use Rattle.plan_doc.specs.Links.{names_view}
 use Rattle.policy_tree.specs.Trees.{task_numbers}
 use Rattle.run_audit.proofs.Counts.{total_counted}
 use Rattle.run_audit.specs.History as history
@@ -50,7 +49,7 @@ module _ (document : Document) (plan : Plan) (same : plan ≡ plan_in document) 
   pub verdict-is : (names : Names) → names ≡ document.names → (split : items_of scripts ≡ scripts_of (reporter_count document) document.script.items)
       → (table : Table) → table ≡ allocation (plan_in document) document.script.items → (bytes : List ℕ) → bytes ≡ text_of (texts_of names) table → (text : List ℕ)
       → verdict_of (texts_of names) (history.scripts_of scripts) (λ reports. tables.total_of (allocation plan reports)) bytes text
-      ≡ script_verdict (names_view document.names) (plan_in document) document.script.items text
+      ≡ script_verdict (texts_of document.names) (plan_in document) document.script.items text
   verdict-is names named split table solved bytes printed text =
       ap (λ planned. verdict_of (texts_of names) (history.scripts_of scripts) (λ reports. tables.total_of (allocation planned reports)) bytes text) same
       ∙ ap (λ lists. verdict_of (texts_of names) lists (λ reports. tables.total_of (allocation (plan_in document) reports)) bytes text) split
@@ -70,7 +69,7 @@ at-1 (Wrong line cause) not = refl
 
 -- the reply of the parts that the code has read is one to the document
 pub reply-parts : (accepted : Accepted) (document : Document) → IsDocumentOf accepted document → (text : List ℕ)
-    → audit_reply (names_view document.names) (plan_in document) document.script.items text ≡ audit_reply accepted.names (plan_of accepted) accepted.script text
+    → audit_reply (texts_of document.names) (plan_in document) document.script.items text ≡ audit_reply accepted.names (plan_of accepted) accepted.script text
 reply-parts accepted document is text =
     ap (λ names. audit_reply names (plan_in document) document.script.items text) is.names
     ∙ ap (λ plan. audit_reply accepted.names plan document.script.items text) (plan-is accepted document is)

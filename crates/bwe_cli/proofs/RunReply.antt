@@ -11,7 +11,6 @@ use Rattle.plan_doc.specs.Document.{Accepted}
 use Rattle.doc_names.specs.NameTexts.{texts_of}
 use Rattle.run_text.specs.RunText.{run_text_of}
 use Rattle.crew_log.specs.LegalCrewLog.{IsClosed}
-use Rattle.audit_law.specs.DocumentRun.{run_names}
 use Rattle.audit_law.proofs.DocumentVerdicts as verdicts
 use Rattle.document_run.specs.Runs.{IsRunOf}
 use Rattle.document_run.proofs.Split.{split-count}
@@ -40,4 +39,4 @@ module _ (accepted : Accepted) (document : Document) (is : IsDocumentOf accepted
       subst (λ script. IsRunOf (plan_of accepted) script (reporter_count document) readers reads log) is.script planned in
       let counted : IsRunOf (plan_of accepted) accepted.script (length accepted.names.reporters) readers reads log =
       subst (λ names. IsRunOf (plan_of accepted) accepted.script (length names.reporters) readers reads log) is.names scripted in
-      (log, counted, closed, ap (reply_of 0) (printed ∙ ap (λ names. run_text_of (run_names names) log) is.names))
+      (log, counted, closed, ap (reply_of 0) (printed ∙ ap (λ names. run_text_of names log) is.names))

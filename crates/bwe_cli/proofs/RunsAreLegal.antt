@@ -7,7 +7,7 @@ use Rattle.command_line.specs.Ranges.{IsInRange}
 use Rattle.command_line.specs.declared.CommandLine.TheVariants.{Run}
 use Rattle.crew_log.specs.declared.log.CrewLog.{CrewLog}
 use Rattle.crew_log.specs.LegalCrewLog.{IsClosed}
-use Rattle.audit_law.specs.DocumentRun.{IsDocumentRun, document_verdict, run_names}
+use Rattle.audit_law.specs.DocumentRun.{IsDocumentRun, document_verdict}
 use Rattle.document_run.specs.Runs.{IsRunOf}
 use Rattle.one_run.specs.Endings.{Reply}
 use Rattle.plan_doc.specs.Document.{Accepted, document}
@@ -30,7 +30,7 @@ use Rattle.bwe_cli.proofs.Behind.{accepted_behind}
 
 pub is-run : (accepted : Accepted) (readers reads : ℕ) (log : CrewLog Table) (text : List ℕ) → IsInRange (Run readers reads)
     → IsRunOf (plan_of accepted) accepted.script (length accepted.names.reporters) readers reads log → IsClosed log
-    → text ≡ run_text_of (run_names accepted.names) log → IsDocumentRun accepted text
+    → text ≡ run_text_of accepted.names log → IsDocumentRun accepted text
 is-run accepted readers reads log text range run closed text_so = record {
   scripts = run.scripts;
   split = run.split;

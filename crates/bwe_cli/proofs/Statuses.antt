@@ -10,7 +10,6 @@ use Rattle.command_line.specs.declared.CommandLine.TheVariants.{Solve, Check, Ru
 use Rattle.enforce_run.specs.declared.event.EventLine.{EventLine}
 use Rattle.one_run.specs.Endings.{IsDue, IsInput, Reply, Served, answered, done, no_line, out_of_memory, read_fault, too_long, write_fault}
 use Rattle.plan_doc.specs.Document.{Accepted, document}
-use Rattle.plan_doc.specs.Names.{NameLists}
 use Rattle.plan_doc.specs.Plans.{plan_of}
 use Rattle.plan_doc.specs.Refusals.{Refusal}
 use Rattle.run_audit.specs.declared.verdict.AuditVerdict.{AuditVerdict}
@@ -66,7 +65,7 @@ tiers-of : (fault : Option ℕ) (given : Reply) → IsOfAnswer given.status → 
 tiers-of None given is = is
 tiers-of (Some at) given is = is-refused
 
-enforced-of : (names : NameLists) (plan : Plan) (script : List Report) (owners : List ℕ) (read : Result (List EventLine) ℕ) → IsOfAnswer (enforced_by names plan script owners read).status
+enforced-of : (names : NameTexts) (plan : Plan) (script : List Report) (owners : List ℕ) (read : Result (List EventLine) ℕ) → IsOfAnswer (enforced_by names plan script owners read).status
 enforced-of names plan script owners (Ok events) = is-done
 enforced-of names plan script owners (Err line) = is-refused
 

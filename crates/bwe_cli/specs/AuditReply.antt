@@ -5,7 +5,7 @@ use Rattle.bwe_specs.specs.Allocation.{Plan}
 use Rattle.audit_law.specs.DocumentRun.{IsDocumentRun, script_verdict}
 use Rattle.one_run.specs.Endings.{Reply}
 use Rattle.plan_doc.specs.Document.{Accepted}
-use Rattle.plan_doc.specs.Names.{NameLists}
+use Rattle.doc_names.specs.NameTexts.{NameTexts}
 use Rattle.plan_doc.specs.Plans.{plan_of}
 use Rattle.run_audit.specs.AuditText.{verdict_line}
 use Rattle.run_audit.specs.declared.verdict.AuditVerdict.{AuditVerdict}
@@ -17,7 +17,7 @@ audit_status Legal = 0
 audit_status (Wrong line cause) = 1
 
 -- the verdict on the text
-abbrev pub audit_reply : NameLists → Plan → List Report → List ℕ → Reply
+abbrev pub audit_reply : NameTexts → Plan → List Report → List ℕ → Reply
 audit_reply names plan script text =
     let judged = script_verdict names plan script text in
     record { status = audit_status judged; text = verdict_line judged }

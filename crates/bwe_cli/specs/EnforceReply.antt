@@ -9,11 +9,11 @@ use Rattle.enforce_run.specs.EventLines.{events_of}
 use Rattle.enforce_run.specs.RefusalLine.{event_refusal}
 use Rattle.one_run.specs.Endings.{Reply}
 use Rattle.plan_doc.specs.Document.{Accepted}
-use Rattle.plan_doc.specs.Names.{NameLists}
+use Rattle.doc_names.specs.NameTexts.{NameTexts}
 use Rattle.plan_doc.specs.Plans.{plan_of}
 
 -- the text of the events on a world with a region for each reporter, with the allocations of the script's first reports
-abbrev pub enforced_reply : NameLists → Plan → List Report → List ℕ → List EventLine → Reply
+abbrev pub enforced_reply : NameTexts → Plan → List Report → List ℕ → List EventLine → Reply
 enforced_reply names plan script task_owners events = record {
   status = 0;
   text =
@@ -22,12 +22,12 @@ enforced_reply names plan script task_owners events = record {
 }
 
 -- or the line for the first line at fault
-abbrev pub enforced_by : NameLists → Plan → List Report → List ℕ → Result (List EventLine) ℕ → Reply
+abbrev pub enforced_by : NameTexts → Plan → List Report → List ℕ → Result (List EventLine) ℕ → Reply
 enforced_by names plan script task_owners (Ok events) = enforced_reply names plan script task_owners events
 enforced_by names plan script task_owners (Err line) = record { status = 3; text = event_refusal line }
 
 -- `enforce`: the events of the part, played on the regions of the document's reporters
-abbrev pub enforce_reply : NameLists → Plan → List Report → List ℕ → List ℕ → Reply
+abbrev pub enforce_reply : NameTexts → Plan → List Report → List ℕ → List ℕ → Reply
 enforce_reply names plan script task_owners part =
     enforced_by names plan script task_owners (events_of (length names.reporters) part)
 

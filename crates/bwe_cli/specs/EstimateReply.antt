@@ -9,7 +9,7 @@ use Rattle.sample_lines.specs.Known.{Known}
 use Rattle.sample_lines.specs.SampleReports.{reports_in}
 use Rattle.doc_names.specs.NameTexts.{NameTexts}
 use Rattle.plan_doc.specs.Plans.{plan_of}
-use Rattle.bwe_cli.specs.Replies.{printed, table_reply}
+use Rattle.bwe_cli.specs.Replies.{table_reply}
 
 -- the table of the script with these reports behind it, or the line for the first sample at fault
 abbrev pub table_behind : NameTexts → Plan → List Report → Result (List Report) ℕ → Reply
@@ -23,8 +23,8 @@ estimate_reply names known plan script window headroom part =
 
 -- what an accepted document knows of samples
 abbrev pub known_in : Accepted → Known
-known_in accepted = record { names = printed accepted.names; task_owners = accepted.task_owners }
+known_in accepted = record { names = accepted.names; task_owners = accepted.task_owners }
 
 abbrev pub estimate_accepted : ℕ → ℕ → Accepted → List ℕ → Reply
 estimate_accepted window headroom accepted part =
-    estimate_reply (printed accepted.names) (known_in accepted) (plan_of accepted) accepted.script window headroom part
+    estimate_reply accepted.names (known_in accepted) (plan_of accepted) accepted.script window headroom part

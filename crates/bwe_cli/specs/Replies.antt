@@ -14,15 +14,10 @@ use Rattle.table_text.specs.TableText.{text_of}
 use Rattle.table_text.specs.CheckText.{verdict_line}
 use Rattle.table_text.specs.LevelsText.{levels_text_of}
 use Rattle.parallel_values.specs.Levels.{levels}
-use Rattle.plan_doc.specs.Names.{NameLists}
 use Rattle.plan_doc.specs.Document.{Accepted, document}
 use Rattle.plan_doc.specs.Refusals.{Refusal}
 use Rattle.plan_doc.specs.RefusalLines.{refusal_line}
 use Rattle.plan_doc.specs.Plans.{plan_of}
-
--- the names that a text prints
-abbrev pub printed : NameLists → NameTexts
-printed names = record { links = names.links; groups = names.groups; tasks = names.tasks; reporters = names.reporters }
 
 -- status 0 where the closings are right, else 1
 abbrev pub verdict_status : Verdict → ℕ
@@ -51,13 +46,13 @@ levels_reply asked names top demand clusters =
 
 -- `solve`, `check` and `levels` of an accepted document
 abbrev pub solve_accepted : Accepted → Reply
-solve_accepted accepted = table_reply (printed accepted.names) (plan_of accepted) accepted.script
+solve_accepted accepted = table_reply accepted.names (plan_of accepted) accepted.script
 
 abbrev pub check_accepted : Accepted → Reply
-check_accepted accepted = check_reply (printed accepted.names) (plan_of accepted) accepted.script accepted.closings
+check_accepted accepted = check_reply accepted.names (plan_of accepted) accepted.script accepted.closings
 
 abbrev pub levels_accepted : ℕ → Accepted → Reply
-levels_accepted share accepted = levels_reply share (printed accepted.names) accepted.top (demand_after accepted.script) accepted.clusters
+levels_accepted share accepted = levels_reply share accepted.names accepted.top (demand_after accepted.script) accepted.clusters
 
 -- a refused document gets the line of its refusal
 abbrev pub refused_reply : Refusal → Reply

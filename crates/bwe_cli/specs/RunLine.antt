@@ -3,7 +3,6 @@ use Rattle.std.specs.Prelude.{◌≡◌, ℕ, length, Result, Ok, Err}
 use Rattle.bwe_specs.specs.Allocation.{Table}
 use Rattle.crew_log.specs.declared.log.CrewLog.{CrewLog}
 use Rattle.crew_log.specs.LegalCrewLog.{IsClosed}
-use Rattle.audit_law.specs.DocumentRun.{run_names}
 use Rattle.one_run.specs.Endings.{Reply}
 use Rattle.plan_doc.specs.Document.{Accepted}
 use Rattle.plan_doc.specs.Refusals.{Refusal}
@@ -17,5 +16,5 @@ abbrev pub IsRunReply : ℕ → ℕ → Result Accepted Refusal → Reply → Ty
 IsRunReply readers reads (Ok accepted) given =
     (log : CrewLog Table) × IsRunOf (plan_of accepted) accepted.script (length accepted.names.reporters) readers reads log
     × IsClosed log
-    × (given ≡ record { status = 0; text = run_text_of (run_names accepted.names) log })
+    × (given ≡ record { status = 0; text = run_text_of accepted.names log })
 IsRunReply readers reads (Err refusal) given = given ≡ refused_reply refusal

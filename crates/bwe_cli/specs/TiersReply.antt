@@ -10,7 +10,6 @@ use Rattle.doc_names.specs.NameTexts.{NameTexts}
 use Rattle.tier_text.specs.TierPart.{part_fault, tiers_in, tiers_line}
 use Rattle.tier_text.specs.TierText.{tier_text_of}
 use Rattle.tiers.specs.Tiered.{Tiered, tiered_under}
-use Rattle.bwe_cli.specs.Replies.{printed}
 
 -- the Tiered allocation of the demands and capacities after these reports
 abbrev pub tiered_after : Plan → List Report → List ℕ → Tiered
@@ -32,4 +31,4 @@ tiers_reply names plan script part =
     unless_refused (part_fault groups part) (tiered_reply names plan script (tiers_in groups part))
 
 abbrev pub tiers_accepted : Accepted → List ℕ → Reply
-tiers_accepted accepted part = tiers_reply (printed accepted.names) (plan_of accepted) accepted.script part
+tiers_accepted accepted part = tiers_reply accepted.names (plan_of accepted) accepted.script part

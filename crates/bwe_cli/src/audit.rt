@@ -6,7 +6,7 @@ ghost use Rattle.bwe_specs.specs.Allocation.{allocation};
 ghost use Rattle.allocator.specs.Frames.{task_count};
 ghost use Rattle.demand_book.specs.Fit.{IsFit};
 ghost use Rattle.plan_doc.specs.Conditions.{IsUsable, tasks_in};
-ghost use Rattle.plan_doc.specs.Links.{names_view};
+ghost use Rattle.doc_names.specs.NameTexts.{texts_of};
 ghost use Rattle.plan_doc.specs.Plans.{plan_in};
 ghost use Rattle.bwe_cli.specs.AuditReply.{IsAuditReply, audit_reply, audit_status};
 ghost use Rattle.bwe_cli.specs.Parted.{IsReplyBehind, accepted_parts};
@@ -40,7 +40,7 @@ fn audit_document(alloc: Global, document: Document, text: &[u8]) -> Result<Answ
     requires usable { IsUsable document }
     requires tasks { task_count (plan_in document) ≡ tasks_in document }
     ensures { IfOk result (λ answer. answer
-        ≡ audit_reply (names_view document.names) (plan_in document) document.script.items text.now) }
+        ≡ audit_reply (texts_of document.names) (plan_in document) document.script.items text.now) }
 {
     let scripts = scripts_of_document(alloc, &document)?;
     let given = capacities_of(alloc, &document.topology)?;

@@ -3,7 +3,7 @@
 ghost use Rattle.std.specs.Prelude.{◌≡◌, [], IfOk};
 ghost use Rattle.enforce_run.specs.EventLines.{AreThere};
 ghost use Rattle.plan_doc.specs.Conditions.{IsUsable, reporter_count};
-ghost use Rattle.plan_doc.specs.Links.{names_view};
+ghost use Rattle.doc_names.specs.NameTexts.{texts_of};
 ghost use Rattle.bwe_cli.specs.EnforceReply.{enforce_accepted, enforce_reply, enforced_reply};
 ghost use Rattle.bwe_cli.specs.Parted.{parts_reply};
 ghost use Rattle.plan_doc.specs.Plans.{plan_in};
@@ -32,7 +32,7 @@ pub(crate) fn enforce(alloc: Global, input: &[u8]) -> Result<Answer, OutOfMemory
 fn enforce_document(alloc: Global, document: Document, part: &[u8]) -> Result<Answer, OutOfMemory>
     requires { IsUsable document }
     ensures { IfOk result (λ answer. answer
-        ≡ enforce_reply (names_view document.names) (plan_in document) document.script.items document.task_owners.items part.now) }
+        ≡ enforce_reply (texts_of document.names) (plan_in document) document.script.items document.task_owners.items part.now) }
 {
     let reporters = document.names.reporters.len() as u32;
     match read_events(alloc, part, reporters) {
@@ -56,7 +56,7 @@ fn play(
     requires reporters { reporters ≡ reporter_count document }
     requires there { AreThere reporters [] events.now }
     ensures { IfOk result (λ answer. answer
-        ≡ enforced_reply (names_view document.names) (plan_in document) document.script.items document.task_owners.items events.now) }
+        ≡ enforced_reply (texts_of document.names) (plan_in document) document.script.items document.task_owners.items events.now) }
 {
     let Opened {
         allocator,

@@ -7,7 +7,7 @@ use Rattle.bwe_specs.specs.declared.report.Report.{Report}
 use Rattle.bwe_specs.specs.declared.report.Target.TheVariants.{Task}
 use Rattle.policy_tree.specs.Trees.{task_numbers}
 use Rattle.path_groups.specs.Given.{Group}
-use Rattle.doc_passes.specs.Names.{NameLists}
+use Rattle.doc_names.specs.NameTexts.{NameTexts}
 use Rattle.doc_passes.specs.Numbers.{Numbers}
 use Rattle.plan_doc.specs.Document.{Accepted, accepted, document}
 use Rattle.doc_maker.specs.Made.{Size, IsSize, drawn, numbered, link_name, task_name, reporter_name, tasks_of, made, made_document}
@@ -20,7 +20,7 @@ walked_tasks size = flat_map (tasks_of size) (numbers size.groups)
 abbrev pub place_of : Size → ℕ → ℕ
 place_of size task = position_or_len (λ other. task == other) (walked_tasks size)
 
-abbrev pub made_names : Size → NameLists
+abbrev pub made_names : Size → NameTexts
 made_names size = record {
   links = map link_name (numbers size.groups);
   groups = map (numbered (codes "g")) (numbers size.groups);

@@ -10,7 +10,8 @@ use Rattle.raw_document.specs.Raw.{Job, User, Group, Raw}
 use Rattle.doc_passes.specs.Limits.{sum_of}
 use Rattle.doc_passes.specs.Passed.{AreNamesOf}
 use Rattle.doc_passes.specs.Counts.{job_tasks, user_tasks, group_tasks, task_count}
-use Rattle.doc_passes.specs.Names.{fresh, fresh_name, fold_member, add_link, add_task, add_job, add_user, add_group, NameLists, name_lists}
+use Rattle.doc_names.specs.NameTexts.{NameTexts}
+use Rattle.doc_passes.specs.Names.{fresh, fresh_name, fold_member, add_link, add_task, add_job, add_user, add_group, name_lists}
 use Rattle.doc_passes.proofs.Readings.{bind_ok, under_ok, ok_is, fold_grows, sum_of-one}
 
 fresh_grows : (before : List (List ℕ)) (after : List (List ℕ)) (name : List ℕ) → fresh before name ≡ Ok after → length after ≡ length before + 1
@@ -58,13 +59,13 @@ group_grows before after group e =
     let is = ok_is (names.0, users.0.1) after users.2 in
     (ap names_in (sym is) ∙ fresh_name_grows before.0 names.0 group.name names.1, ap tasks_in (sym is) ∙ grown)
 
-pub names_of : (raw : Raw) (names : NameLists) → name_lists raw ≡ Ok names → AreNamesOf raw names
+pub names_of : (raw : Raw) (names : NameTexts) → name_lists raw ≡ Ok names → AreNamesOf raw names
 unfolding name_lists
 names_of raw names e =
     let links = bind_ok (fold_member keys.Links add_link [] raw.links) (λ links. fold_member keys.Groups add_group ([], []) raw.groups >>= λ groups. fold_member keys.Reporters fresh [] raw.reporters >>= λ reporters. Ok (record { links = links; groups = groups.0; tasks = groups.1; reporters = reporters })) names e in
     let groups = bind_ok (fold_member keys.Groups add_group ([], []) raw.groups) (λ groups. fold_member keys.Reporters fresh [] raw.reporters >>= λ reporters. Ok (record { links = links.0; groups = groups.0; tasks = groups.1; reporters = reporters })) names links.2 in
     let reporters = bind_ok (fold_member keys.Reporters fresh [] raw.reporters) (λ reporters. Ok (record { links = links.0; groups = groups.0.0; tasks = groups.0.1; reporters = reporters })) names groups.2 in
-    let made : NameLists = record { links = links.0; groups = groups.0.0; tasks = groups.0.1; reporters = reporters.0 } in
+    let made : NameTexts = record { links = links.0; groups = groups.0.0; tasks = groups.0.1; reporters = reporters.0 } in
     let is : made ≡ names = ok_is made names reporters.2 in
     let links_grown : length links.0 ≡ 0 + sum_of (λ _. 1) raw.links = fold_grows add_link length (λ _. 1) (λ before after link. fresh_name_grows before after link.name) 0 [] raw.links links.0 (under_ok (Key keys.Links) (fold_each add_link 0 [] raw.links) links.0 links.1) in
     let groups_folded : fold_each add_group 0 ([], []) raw.groups ≡ Ok groups.0 = under_ok (Key keys.Groups) (fold_each add_group 0 ([], []) raw.groups) groups.0 groups.1 in
@@ -72,8 +73,8 @@ names_of raw names e =
     let tasks_grown : length groups.0.1 ≡ 0 + task_count raw.groups = fold_grows add_group tasks_in group_tasks (λ before after group step. (group_grows before after group step).1) 0 ([], []) raw.groups groups.0 groups_folded in
     let reporters_grown : length reporters.0 ≡ 0 + sum_of (λ _. 1) raw.reporters = fold_grows fresh length (λ _. 1) fresh_grows 0 [] raw.reporters reporters.0 (under_ok (Key keys.Reporters) (fold_each fresh 0 [] raw.reporters) reporters.0 reporters.1) in
     record {
-      links = let same : length names.links ≡ length links.0 = ap (λ (lists : NameLists). length lists.links) (sym is) in omega (arith, sum_of-one raw.links);
-      groups = let same : length names.groups ≡ length groups.0.0 = ap (λ (lists : NameLists). length lists.groups) (sym is) in omega (arith, sum_of-one raw.groups);
-      tasks = let same : length names.tasks ≡ length groups.0.1 = ap (λ (lists : NameLists). length lists.tasks) (sym is) in omega arith;
-      reporters = let same : length names.reporters ≡ length reporters.0 = ap (λ (lists : NameLists). length lists.reporters) (sym is) in omega (arith, sum_of-one raw.reporters);
+      links = let same : length names.links ≡ length links.0 = ap (λ (lists : NameTexts). length lists.links) (sym is) in omega (arith, sum_of-one raw.links);
+      groups = let same : length names.groups ≡ length groups.0.0 = ap (λ (lists : NameTexts). length lists.groups) (sym is) in omega (arith, sum_of-one raw.groups);
+      tasks = let same : length names.tasks ≡ length groups.0.1 = ap (λ (lists : NameTexts). length lists.tasks) (sym is) in omega arith;
+      reporters = let same : length names.reporters ≡ length reporters.0 = ap (λ (lists : NameTexts). length lists.reporters) (sym is) in omega (arith, sum_of-one raw.reporters);
     }

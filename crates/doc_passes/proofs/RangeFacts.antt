@@ -14,7 +14,7 @@ use Rattle.doc_passes.specs.Ranges.{is_name, is_within, member_range, items_rang
 use Rattle.doc_passes.specs.InRange.{HasTaskWeight, HasJobWeights, HasUserWeights, HasGroupWeights, IsInRange}
 use Rattle.doc_passes.proofs.Readings.{bind_ok, under_ok, check_ok, check_each_all}
 
-member_ok : (key : DocKey) (passes : Bool) (u : ⊤) → member_range key passes ≡ Ok u → passes ≡ true
+pub member_ok : (key : DocKey) (passes : Bool) (u : ⊤) → member_range key passes ≡ Ok u → passes ≡ true
 member_ok key passes u e = check_ok passes u (under_ok (Key key) (check passes) u e)
 
 within_ok : (low high number : ℕ) → is_within low high number ≡ true → (low ≤ number) × (number ≤ high)
@@ -26,7 +26,7 @@ member_within key low high number u e = within_ok low high number (member_ok key
 items_ok : {A : Type 0} (key : DocKey) (range : A → Result ⊤ (List PathStep)) (items : List A) (u : ⊤) → items_range key range items ≡ Ok u → check_each range items ≡ Ok u
 items_ok key range items u e = under_ok (Key key) (check_each range items) u e
 
-items_all : {A : Type 0} (key : DocKey) (range : A → Result ⊤ (List PathStep)) (P : A → Type 0) → ((item : A) (u : ⊤) → range item ≡ Ok u → P item) → (items : List A) (u : ⊤) → items_range key range items ≡ Ok u → All P items
+pub items_all : {A : Type 0} (key : DocKey) (range : A → Result ⊤ (List PathStep)) (P : A → Type 0) → ((item : A) (u : ⊤) → range item ≡ Ok u → P item) → (items : List A) (u : ⊤) → items_range key range items ≡ Ok u → All P items
 items_all key range P shows items u e = check_each_all range P shows items u (items_ok key range items u e)
 
 task_weight : (task : Task) (u : ⊤) → ranges.task_range task ≡ Ok u → HasTaskWeight task

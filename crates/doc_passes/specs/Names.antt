@@ -8,6 +8,7 @@ use Rattle.raw_document.specs.declared.doc_path.PathStep.{PathStep}
 use Rattle.raw_document.specs.declared.doc_path.PathStep.TheVariants.{Key}
 use Rattle.raw_document.specs.Reading.{◌>>=◌, under, or_fault, fold_each}
 use Rattle.raw_document.specs.Raw.{Link, Task, Job, User, Group, Raw}
+use Rattle.doc_names.specs.NameTexts.{NameTexts}
 
 -- the names before with this one at their end, or a fault where it stood among them
 unfoldable pub fresh : List (List ℕ) → List ℕ → Result (List (List ℕ)) (List PathStep)
@@ -55,13 +56,7 @@ add_group before group = do
   Ok (names, users.1)
 
 -- the names of a document, each of which stands once, in the order of the walk
-pub record NameLists : Type 0 where
-  pub links : List (List ℕ)
-  pub groups : List (List ℕ)
-  pub tasks : List (List ℕ)
-  pub reporters : List (List ℕ)
-
-unfoldable pub name_lists : Raw → Result NameLists (List PathStep)
+unfoldable pub name_lists : Raw → Result NameTexts (List PathStep)
 name_lists raw = do
   links ← fold_member keys.Links add_link [] raw.links
   groups ← fold_member keys.Groups add_group ([], []) raw.groups

@@ -8,7 +8,7 @@ use Rattle.path_groups.specs.Given.{AreInRange}
 use Rattle.raw_document.specs.Raw.{Raw}
 use Rattle.doc_passes.specs.Counts.{task_count}
 use Rattle.doc_passes.specs.InRange.{IsInRange}
-use Rattle.doc_passes.specs.Names.{NameLists}
+use Rattle.doc_names.specs.NameTexts.{NameTexts}
 use Rattle.doc_passes.specs.Numbers.{Numbers}
 
 -- no list is too long
@@ -19,7 +19,7 @@ pub record AreFew (raw : Raw) : Type 0 where
   pub closings : length raw.closings ≤ 4096
 
 -- there is a name for each link, group, task and reporter
-pub record AreNamesOf (raw : Raw) (names : NameLists) : Type 0 where
+pub record AreNamesOf (raw : Raw) (names : NameTexts) : Type 0 where
   pub links : length names.links ≡ length raw.links
   pub groups : length names.groups ≡ length raw.groups
   pub tasks : length names.tasks ≡ task_count raw.groups
@@ -52,7 +52,7 @@ pub record AreNumbersOf (links tasks reporters : ℕ) (document : Raw) (numbers 
   pub closings : All (IsClosing links) numbers.closings
 
 -- the document has passed the refusals 3 to 6
-pub record HasPassed (raw : Raw) (names : NameLists) (numbers : Numbers) : Type 0 where
+pub record HasPassed (raw : Raw) (names : NameTexts) (numbers : Numbers) : Type 0 where
   pub few : AreFew raw
   pub range : IsInRange raw
   pub each_named : AreNamesOf raw names

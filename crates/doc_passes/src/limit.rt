@@ -17,7 +17,7 @@ const MAX_ALL_HOPS: u64 = 1_000_000;
 const MAX_CLOSINGS: u64 = 4096;
 
 /// What there are too many of. `Points` are those of one function, `Hops` all entries of all lists of links of paths.
-#[derive(Clone, Copy, Debug, PartialEq, Eq)]
+#[derive(Clone, Copy)]
 pub enum What {
     Groups,
     Points,
@@ -28,7 +28,7 @@ pub enum What {
 }
 
 /// A count above its limit.
-#[derive(Clone, Copy, Debug, PartialEq, Eq)]
+#[derive(Clone, Copy)]
 pub struct Overrun {
     pub what: What,
     pub count: u64,

@@ -121,11 +121,11 @@ fn add_user<'a>(
     ensures { Gives (λ _. (table.new, tasks.new)) result
         (names.add_user (table.old, tasks.old) (user_view user.now)) }
 {
-    let mut jobs = NameTable::new(alloc);
     under(
         PathStep::Key { name: DocKey::Name },
         table.add(alloc, user.name),
     )?;
+    let mut jobs = NameTable::new(alloc);
     under(
         PathStep::Key { name: DocKey::Jobs },
         add_jobs(alloc, &user.jobs, &mut jobs, tasks),
@@ -162,11 +162,11 @@ fn add_group<'a>(
     ensures { Gives (λ _. (table.new, tasks.new)) result
         (names.add_group (table.old, tasks.old) (group_view group.now)) }
 {
-    let mut users = NameTable::new(alloc);
     under(
         PathStep::Key { name: DocKey::Name },
         table.add(alloc, group.name),
     )?;
+    let mut users = NameTable::new(alloc);
     under(
         PathStep::Key {
             name: DocKey::Users,

@@ -12,7 +12,8 @@ use Rattle.demand_book.specs.Fit.{IsInRange}
 use Rattle.live_lines.specs.declared.line.LineCause.TheVariants.{NoLine}
 use Rattle.live_lines.specs.declared.line.LineMeaning.TheVariants.{Post, State, Refused}
 use Rattle.text_scan.specs.Words.{words_of}
-use Rattle.live_lines.specs.Known.{Known, Text, owner_of, is_owner}
+use Rattle.live_lines.specs.Known.{Known, Text}
+use Rattle.owner_rule.specs.Owners.{owner_of}
 use Rattle.live_lines.specs.Meaning.{IfNewReport, command_of, meaning_of, meaning_of_words, report_of, reported}
 
 pub no_words : (known : Known) (words : List Text) → words ≡ [] → Refused NoLine ≡ meaning_of_words known words
@@ -69,10 +70,6 @@ no_text known line bytes e none = rw e (go (is_utf8 bytes) refl)
     go false h = refl
 
 -- ---- owners
-
-pub by_owner : (owner : Option ℕ) (reporter : ℕ) → is_owner owner reporter ≡ true → owner ≡ Some reporter
-by_owner None reporter e = absurd (let f : false ≡ true = e in cc)
-by_owner (Some owner) reporter e = ap Some (eqb-true owner reporter e)
 
 there : {X : Type 0} (list : List X) (place : ℕ) (x : X) → slice_get list place ≡ Some x → place < length list
 there list place x e = elim (cases_lt place (length list)) [

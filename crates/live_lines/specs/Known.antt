@@ -1,8 +1,7 @@
 -- What is known of a document: its names, and who owns each task and link.
-use Rattle.std.specs.Prelude.{◌≡◌, ℕ, ◌==◌, Bool, false, List, slice_get, Option, Some, None, option_and_then}
-use Rattle.bwe_specs.specs.declared.report.Target.{Target}
-use Rattle.bwe_specs.specs.declared.report.Target.TheVariants.{Task, Link}
+use Rattle.std.specs.Prelude.{◌≡◌, ℕ, List, Option, Some}
 use Rattle.bwe_specs.specs.declared.report.Report.{Report}
+pub use Rattle.owner_rule.specs.Owners.{owner_of}
 use Rattle.doc_names.specs.declared.Names.{Names}
 use Rattle.doc_names.specs.NameTexts.{NameTexts, texts_of}
 
@@ -21,15 +20,6 @@ known_by names task_owners link_owners = record {
   task_owners = task_owners;
   link_owners = link_owners;
 }
-
--- the owner of a task or link, by the owners of tasks and those of links
-abbrev pub owner_of : List ℕ → List (Option ℕ) → Target → Option ℕ
-owner_of task_owners link_owners (Task task) = slice_get task_owners task
-owner_of task_owners link_owners (Link link) = option_and_then (λ owner. owner) (slice_get link_owners link)
-
-abbrev pub is_owner : Option ℕ → ℕ → Bool
-is_owner None reporter = false
-is_owner (Some owner) reporter = owner == reporter
 
 -- the report is by the owner of its task or link
 abbrev pub IsByOwner : Known → Report → Type 0

@@ -11,7 +11,8 @@ use Rattle.live_lines.specs.declared.line.LineCause.{LineCause}
 use Rattle.live_lines.specs.declared.line.LineCause.TheVariants.{NoLine, UnknownName, AmountOutOfRange, NotOwner}
 use Rattle.live_lines.specs.declared.line.LineMeaning.{LineMeaning}
 use Rattle.live_lines.specs.declared.line.LineMeaning.TheVariants.{NewReport, Post, State, Refused}
-use Rattle.live_lines.specs.Known.{Known, Text, owner_of, is_owner}
+use Rattle.live_lines.specs.Known.{Known, Text}
+use Rattle.owner_rule.specs.Owners.{owner_of, is_owner}
 
 -- ---- steps, of which the first that fails gives the cause
 

@@ -6,12 +6,14 @@ ghost use Rattle.bwe_specs.specs.declared.limits.TheConstants.{MAX_AMOUNT};
 ghost use Rattle.demand_book.specs.Fit.{IsFit};
 ghost use Rattle.doc_names.specs.NameTexts.{texts_of};
 ghost use Rattle.text_scan.specs.Words.{words_of};
-ghost use Rattle.live_lines.specs.Known.{IsByOwner, is_owner as is_owner_of, known_by, owner_of as owner_in};
+ghost use Rattle.owner_rule.specs.Owners as owners;
+ghost use Rattle.live_lines.specs.Known.{IsByOwner, known_by};
 ghost use Rattle.live_lines.specs.Meaning as spec;
 
 use crate::line::{LineCause, LineMeaning};
 use bwe_specs::{OutOfMemory, Report, Target};
 use doc_names::Names;
+use owner_rule::{is_owner, owner_of};
 use std::alloc::Global;
 use std::marker::Model;
 use text_scan::{NameIndex, Words, amount_in_range, is_number, number_of};
@@ -159,7 +161,7 @@ impl Known {
         let Some(amount) = amount_of(amount) else {
             return Err(LineCause::AmountOutOfRange);
         };
-        if !is_owner(self.owner_of(target), reporter) {
+        if !self.is_by_owner(target, reporter) {
             return Err(LineCause::NotOwner);
         }
         Ok(Report {
@@ -181,22 +183,12 @@ impl Known {
         Some(Target::Link { number })
     }
 
-    fn owner_of(&self, target: Target) -> Option<u32>
-        ensures { result ≡ owner_in self.now.task_owners self.now.link_owners target }
+    fn is_by_owner(&self, target: Target, reporter: u32) -> bool
+        ensures { result ≡
+            owners.is_owner (owners.owner_of self.now.task_owners self.now.link_owners target) reporter }
     {
-        match target {
-            Target::Task { number } => self.task_owners.get(number as usize).copied(),
-            Target::Link { number } => self.link_owners.get(number as usize).copied().flatten(),
-        }
-    }
-}
-
-fn is_owner(owner: Option<u32>, reporter: u32) -> bool
-    ensures { result ≡ is_owner_of owner reporter }
-{
-    match owner {
-        Some(owner) => owner == reporter,
-        None => false,
+        let owner = owner_of(&self.task_owners, &self.link_owners, target);
+        is_owner(owner, reporter)
     }
 }
 

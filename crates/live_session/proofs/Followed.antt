@@ -10,7 +10,7 @@ use Rattle.allocator.specs.Frames.{task_count}
 use Rattle.plan_doc.specs.Document.{Accepted, document}
 use Rattle.plan_doc.specs.declared.document.Document.{Document}
 use Rattle.plan_doc.specs.Accepted.{IsDocumentOf}
-use Rattle.plan_doc.specs.Names.{NameLists}
+use Rattle.doc_names.specs.NameTexts.{NameTexts}
 use Rattle.plan_doc.specs.Plans.{plan_in, plan_of}
 use Rattle.plan_doc.specs.Refusals.{Refusal}
 use Rattle.plan_doc.specs.RefusalLines.{refusal_line}
@@ -21,7 +21,7 @@ use Rattle.live_lines.specs.declared.line.LineMeaning.{LineMeaning}
 use Rattle.live_core.specs.Live as live
 use Rattle.live_core.specs.Live.{Live, IsLive}
 use Rattle.live_session.specs.Standing.{Standing, after_line}
-use Rattle.live_session.specs.Answers.{known_of, printed, standing_in, answer_in, answer_by, answer_of, first_by}
+use Rattle.live_session.specs.Answers.{known_of, standing_in, answer_in, answer_by, answer_of, first_by}
 use Rattle.live_session.specs.Following.{Session, HasOwners, Stands, IsSession, HasFollowed}
 use Rattle.live_session.proofs.Lines.{standing-more}
 
@@ -87,9 +87,9 @@ plan-is accepted document is =
     ap (λ tree. plan_parts tree.top tree.clusters document.plan document.topology.capacities) is.tree
     ∙ ap₂ (λ plan topology. plan_parts accepted.top accepted.clusters plan topology.capacities) is.plan is.topology
 
-abbrev known_parts : NameLists → List ℕ → List (Option ℕ) → Known
+abbrev known_parts : NameTexts → List ℕ → List (Option ℕ) → Known
 known_parts names task_owners link_owners = record {
-  names = printed names;
+  names = names;
   task_owners = task_owners;
   link_owners = link_owners;
 }

@@ -4,11 +4,9 @@ use Rattle.bwe_specs.specs.Allocation.{Plan, allocation}
 use Rattle.allocator.specs.Frames.{task_count}
 use Rattle.last_reports.specs.Snapshot.{snapshot}
 use Rattle.plan_doc.specs.Document.{Accepted, document}
-use Rattle.plan_doc.specs.Names.{NameLists}
 use Rattle.plan_doc.specs.Plans.{plan_of}
 use Rattle.plan_doc.specs.Refusals.{Refusal}
 use Rattle.plan_doc.specs.RefusalLines.{refusal_line}
-use Rattle.doc_names.specs.NameTexts.{NameTexts}
 use Rattle.table_text.specs.TableText.{text_of}
 use Rattle.live_lines.specs.Cutting.{Held}
 use Rattle.live_lines.specs.Known.{Known}
@@ -20,14 +18,10 @@ use Rattle.change_text.specs.StateText.{state_text_of}
 use Rattle.change_text.specs.RefusedText.{refused_text_of}
 use Rattle.live_session.specs.Standing.{Standing, at_first, after_lines}
 
--- the names that texts print and lines may have
-abbrev pub printed : NameLists → NameTexts
-printed names = record { links = names.links; groups = names.groups; tasks = names.tasks; reporters = names.reporters }
-
 -- what lines may name in an accepted document, and who owns it
 abbrev pub known_of : Accepted → Known
 known_of accepted = record {
-  names = printed accepted.names;
+  names = accepted.names;
   task_owners = accepted.task_owners;
   link_owners = accepted.link_owners;
 }

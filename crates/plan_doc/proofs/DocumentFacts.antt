@@ -24,16 +24,16 @@ use Rattle.plan_doc.specs.declared.document.Document as code
 use Rattle.doc_passes.specs.Counts.{task_count}
 use Rattle.doc_passes.specs.Limits.{overrun}
 use Rattle.doc_passes.specs.Ranges.{ranges}
-use Rattle.doc_passes.specs.Names.{NameLists, name_lists}
+use Rattle.doc_names.specs.NameTexts.{NameTexts, texts_of}
+use Rattle.doc_passes.specs.Names.{name_lists}
 use Rattle.doc_passes.specs.Numbers.{Numbers, numbers}
 use Rattle.doc_passes.specs.NumbersView.{numbers_view}
-use Rattle.plan_doc.specs.Links.{names_view}
 use Rattle.plan_doc.specs.Functions.{refused_in_groups}
 use Rattle.plan_doc.specs.TreeParts.{cluster_part}
-use Rattle.plan_doc.specs.Owners.{not_owned, owner_of}
+use Rattle.owner_rule.specs.Owners.{not_owned, owner_of}
 use Rattle.plan_doc.specs.Refusals.{Refusal, refused_function, refused_links, refused_paths, refused_tree, not_owner}
 use Rattle.plan_doc.specs.Document as documents
-use Rattle.plan_doc.specs.Document.{Accepted, accepted, unless, links_of, clusters_of, document_by, parts_ok}
+use Rattle.plan_doc.specs.Document.{Accepted, accepted, unless, links_of, clusters_of, document_by, over_ok, parts_ok}
 use Rattle.plan_doc.specs.Accepted.{tree_of, IsDocumentOf}
 use Rattle.doc_passes.specs.Passed.{HasOwnerBelow, IsReport, IsClosing, AreNamesOf, AreNumbersOf, HasPassed}
 use Rattle.plan_doc.specs.Conditions.{link_count, tasks_in, reporter_count, IsByOwner, IsUsable}
@@ -44,11 +44,11 @@ use Rattle.doc_passes.proofs.NumberFacts.{numbers_of}
 use Rattle.policy_tree.proofs.Numbers.{length-numbered}
 use Rattle.plan_doc.proofs.NodeFacts.{length-task_numbers}
 use Rattle.plan_doc.proofs.PlanFacts.{length-capacities}
-use Rattle.plan_doc.proofs.OwnerFacts.{IsOwned, by_owners}
+use Rattle.owner_rule.proofs.OwnerFacts.{IsOwned, by_owners}
 
 -- ---- the passes on names and numbers
 
-pub passed_of : (raw : raw.Raw) (lists names : NameLists) (found : Numbers) (u : ⊤) → overrun raw ≡ None → ranges raw ≡ Ok u → name_lists raw ≡ Ok lists → names ≡ lists → numbers lists.links lists.tasks lists.reporters raw ≡ Ok found → HasPassed raw names found
+pub passed_of : (raw : raw.Raw) (lists names : NameTexts) (found : Numbers) (u : ⊤) → overrun raw ≡ None → ranges raw ≡ Ok u → name_lists raw ≡ Ok lists → names ≡ lists → numbers lists.links lists.tasks lists.reporters raw ≡ Ok found → HasPassed raw names found
 passed_of raw lists names found u few range listed same known =
     let within = in_range raw u range in
     let named : AreNamesOf raw lists = names_of raw lists listed in
@@ -68,7 +68,7 @@ then : {C : Type 0} (number : C → Refusal) (fault : Option C) (next : ⊤ → 
 then number None next r e same = same
 then number (Some cause) next r e same = absurd cc
 
-module _ (raw : raw.Raw) (names : NameLists) (numbers : Numbers) where
+module _ (raw : raw.Raw) (names : NameTexts) (numbers : Numbers) where
   abbrev after_tree : Result Accepted Refusal
   after_tree = documents.◌>>=◌ (unless not_owner (not_owned numbers.task_owners numbers.link_owners 0 numbers.script)) (λ _. Ok (accepted raw names numbers))
 
@@ -99,23 +99,36 @@ err-bind : {A B : Type 0} (read : Result ⊤ Refusal) (next : ⊤ → Result A R
 err-bind (Ok u) next other refusal later is = later is
 err-bind (Err found) next other refusal later is = let same : found ≡ refusal = cc in ap Err same
 
+-- a refusal over the network is one of the parts
+pub over_refused : (raw : raw.Raw) (groups : List Group) (stranger : Option ℕ) (network : Network) (named : Option Refusal)
+    → refused_in_groups raw.top raw.groups ≡ None → topology_fault (links_of raw) ≡ None → network ≡ network_of (links_of raw)
+    → IfSome named (λ refusal. over_ok network raw groups stranger ≡ Err refusal) → IfSome named (λ refusal. parts_ok raw groups stranger ≡ Err refusal)
+unfolding parts_ok
+over_refused raw groups stranger network None functions links is refused = refused
+over_refused raw groups stranger network (Some refusal) functions links is refused =
+    rw (functions, links) (ap (λ n. over_ok n raw groups stranger) (sym is) ∙ refused)
+
 err-last : {B : Type 0} (read : Result ⊤ Refusal) (other : ⊤ → Result B Refusal) (refusal : Refusal) → read ≡ Err refusal → documents.◌>>=◌ read other ≡ Err refusal
 err-last (Ok u) other refusal is = absurd cc
 err-last (Err found) other refusal is = let same : found ≡ refusal = cc in ap Err same
 
-refused_first : (raw : raw.Raw) (names : NameLists) (numbers : Numbers) (refusal : Refusal) → parts_ok raw numbers.groups ≡ Err refusal → document_by raw names numbers ≡ Err refusal
+refused_first : (raw : raw.Raw) (names : NameTexts) (numbers : Numbers) (refusal : Refusal)
+    → parts_ok raw numbers.groups (not_owned numbers.task_owners numbers.link_owners 0 numbers.script) ≡ Err refusal → document_by raw names numbers ≡ Err refusal
 unfolding parts_ok document_by
 refused_first raw names numbers refusal is =
     err-bind (unless refused_function (refused_in_groups raw.top raw.groups)) _ _ refusal
     (err-bind (unless refused_links (topology_fault (links_of raw))) _ _ refusal
     (err-bind (unless refused_paths (plan_fault (network_of (links_of raw)) numbers.groups)) _ _ refusal
-    (err-last (unless refused_tree (tree_fault (clusters_of raw))) _ refusal))) is
+    (err-bind (unless refused_tree (tree_fault (clusters_of raw))) _ _ refusal
+    (err-last (unless not_owner (not_owned numbers.task_owners numbers.link_owners 0 numbers.script)) _ refusal)))) is
 
 -- the first refusal of a builder is that of the document
-pub first_refusal : (raw : raw.Raw) (names : NameLists) (numbers : Numbers) (named : Option Refusal)
-    → IfSome named (λ refusal. parts_ok raw numbers.groups ≡ Err refusal) → IfSome named (λ refusal. document_by raw names numbers ≡ Err refusal)
-first_refusal raw names numbers None is = is
-first_refusal raw names numbers (Some refusal) is = refused_first raw names numbers refusal is
+pub first_refusal : (raw : raw.Raw) (names : NameTexts) (numbers : Numbers) (stranger : Option ℕ) (named : Option Refusal)
+    → stranger ≡ not_owned numbers.task_owners numbers.link_owners 0 numbers.script
+    → IfSome named (λ refusal. parts_ok raw numbers.groups stranger ≡ Err refusal) → IfSome named (λ refusal. document_by raw names numbers ≡ Err refusal)
+first_refusal raw names numbers stranger None found is = is
+first_refusal raw names numbers stranger (Some refusal) found is =
+    refused_first raw names numbers refusal (ap (parts_ok raw numbers.groups) (sym found) ∙ is)
 
 -- the tree of specs that were built of the groups
 pub idle_tree_is : (spec : TreeSpec) (groups : List raw.Group) → map idle_cluster spec.clusters.items ≡ map (cluster_part spec.top) groups
@@ -123,8 +136,8 @@ pub idle_tree_is : (spec : TreeSpec) (groups : List raw.Group) → map idle_clus
 idle_tree_is spec groups e = ap (λ states. record { top = spec.top; clusters = numbered_clusters states; demands = replicate (length (task_numbers (numbered_clusters states))) 0 }) e
 
 pub is_document : (raw : raw.Raw) (names : Names) (numbers : DocumentNumbers) (tree : Tree) (topology : Network) (plan : List PathGroups)
-    → tree ≡ tree_of (accepted raw (names_view names) (numbers_view numbers)) → topology ≡ network_of (links_of raw) → plan ≡ path_groups_of (numbers_view numbers).groups
-    → IsDocumentOf (accepted raw (names_view names) (numbers_view numbers)) (record { tree = tree; topology = topology; plan = plan; script = numbers.script; closings = numbers.closings; names = names; task_owners = numbers.task_owners; link_owners = numbers.link_owners })
+    → tree ≡ tree_of (accepted raw (texts_of names) (numbers_view numbers)) → topology ≡ network_of (links_of raw) → plan ≡ path_groups_of (numbers_view numbers).groups
+    → IsDocumentOf (accepted raw (texts_of names) (numbers_view numbers)) (record { tree = tree; topology = topology; plan = plan; script = numbers.script; closings = numbers.closings; names = names; task_owners = numbers.task_owners; link_owners = numbers.link_owners })
 is_document raw names numbers tree topology plan tree_is topology_is plan_is = record {
   tree = tree_is;
   topology = topology_is;
@@ -138,7 +151,7 @@ is_document raw names numbers tree topology plan tree_is topology_is plan_is = r
 
 -- ---- conditions
 
-pub usable : (document : code.Document) (raw : raw.Raw) (numbers : Numbers) → HasPassed raw (names_view document.names) numbers → IsDocumentOf (accepted raw (names_view document.names) numbers) document
+pub usable : (document : code.Document) (raw : raw.Raw) (numbers : Numbers) → HasPassed raw (texts_of document.names) numbers → IsDocumentOf (accepted raw (texts_of document.names) numbers) document
     → IsBuiltOn document.topology document.plan → not_owned numbers.task_owners numbers.link_owners 0 numbers.script ≡ None → IsUsable document
 usable document raw numbers passed is built_on owned =
     let known = passed.each_numbered in

@@ -6,7 +6,7 @@ use Rattle.raw_document.specs.declared.doc_path.PathStep.{PathStep}
 use Rattle.policy_tree.specs.Trees.{Tree, task_numbers}
 use Rattle.plan_doc.specs.declared.document.Document.{Document}
 use Rattle.plan_doc.specs.declared.doc_error.DocError.{DocError}
-use Rattle.plan_doc.specs.Links.{names_view}
+use Rattle.doc_names.specs.NameTexts.{texts_of}
 use Rattle.plan_doc.specs.Refusals.{Refusal, refusal_of}
 use Rattle.plan_doc.specs.Document.{Accepted, refused_by, unless}
 
@@ -21,7 +21,7 @@ pub record IsDocumentOf (accepted : Accepted) (document : Document) : Type 0 whe
   pub plan : document.plan ≡ path_groups_of accepted.groups
   pub script : document.script.items ≡ accepted.script
   pub closings : document.closings.items ≡ accepted.closings
-  pub names : names_view document.names ≡ accepted.names
+  pub names : texts_of document.names ≡ accepted.names
   pub task_owners : document.task_owners.items ≡ accepted.task_owners
   pub link_owners : document.link_owners.items ≡ accepted.link_owners
 

@@ -4,8 +4,8 @@ use Rattle.bwe_specs.specs.declared.limits.TheConstants.{MAX_REPORTERS, MAX_REPO
 use Rattle.bwe_specs.specs.declared.report.Report.{Report}
 use Rattle.path_groups.specs.Plan.{IsBuiltOn}
 use Rattle.plan_doc.specs.declared.document.Document.{Document}
-use Rattle.plan_doc.specs.Links.{names_view}
-use Rattle.plan_doc.specs.Owners.{owner_of}
+use Rattle.doc_names.specs.NameTexts.{texts_of}
+use Rattle.owner_rule.specs.Owners.{owner_of}
 use Rattle.doc_passes.specs.Passed.{HasOwnerBelow, IsReport, IsClosing}
 
 -- how many links, tasks and reporters there are
@@ -16,7 +16,7 @@ abbrev pub tasks_in : Document → ℕ
 tasks_in document = length document.tree.demands
 
 abbrev pub reporter_count : Document → ℕ
-reporter_count document = length (names_view document.names).reporters
+reporter_count document = length (texts_of document.names).reporters
 
 -- the reporter of the entry owns its task or link
 abbrev pub IsByOwner : Document → Report → Type 0
@@ -28,9 +28,9 @@ pub record IsUsable (document : Document) : Type 0 where
   pub groups : length document.tree.clusters ≡ length document.plan
   pub idle : document.tree.demands ≡ replicate (tasks_in document) 0
   -- there is a name for each link, group and task, and there are few reporters
-  pub link_names : length (names_view document.names).links ≡ link_count document
-  pub group_names : length (names_view document.names).groups ≡ length document.plan
-  pub task_names : length (names_view document.names).tasks ≡ tasks_in document
+  pub link_names : length (texts_of document.names).links ≡ link_count document
+  pub group_names : length (texts_of document.names).groups ≡ length document.plan
+  pub task_names : length (texts_of document.names).tasks ≡ tasks_in document
   pub few_reporters : reporter_count document ≤ MAX_REPORTERS
   -- each task has one owner, and each link at most one
   pub task_owners : length document.task_owners.items ≡ tasks_in document

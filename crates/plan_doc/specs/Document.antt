@@ -17,12 +17,13 @@ use Rattle.raw_document.specs.Forms.{document_at}
 use Rattle.doc_passes.specs.declared.limit.Overrun.{Overrun}
 use Rattle.doc_passes.specs.Limits.{overrun}
 use Rattle.doc_passes.specs.Ranges.{ranges}
-use Rattle.doc_passes.specs.Names.{NameLists, name_lists}
+use Rattle.doc_names.specs.NameTexts.{NameTexts}
+use Rattle.doc_passes.specs.Names.{name_lists}
 use Rattle.doc_passes.specs.Numbers.{Numbers, numbers}
 use Rattle.plan_doc.specs.Functions.{refused_in_groups}
 use Rattle.plan_doc.specs.TreeParts.{cluster_part}
 use Rattle.plan_doc.specs.Links.{link_part}
-use Rattle.plan_doc.specs.Owners.{not_owned}
+use Rattle.owner_rule.specs.Owners.{not_owned}
 use Rattle.plan_doc.specs.Refusals.{Refusal, not_json, bad_shape, above_limit, out_of_range, repeated_name, unknown_name, refused_function, refused_links, refused_paths, refused_tree, not_owner}
 
 -- an accepted document, by numbers; the demands of its tasks are 0
@@ -33,7 +34,7 @@ pub record Accepted : Type 0 where
   pub groups : List groups.Group
   pub script : List Report
   pub closings : List Closing
-  pub names : NameLists
+  pub names : NameTexts
   pub task_owners : List ℕ
   pub link_owners : List (Option ℕ)
 
@@ -70,7 +71,7 @@ links_of raw = map link_part raw.links
 abbrev pub clusters_of : Raw → List Cluster
 clusters_of raw = numbered_clusters (map (cluster_part raw.top) raw.groups)
 
-abbrev pub accepted : Raw → NameLists → Numbers → Accepted
+abbrev pub accepted : Raw → NameTexts → Numbers → Accepted
 accepted raw names numbers = record {
   top = raw.top;
   clusters = clusters_of raw;
@@ -85,16 +86,22 @@ accepted raw names numbers = record {
 
 -- ---- the passes
 
--- refusals 7 to 10
-unfoldable pub parts_ok : Raw → List groups.Group → Result ⊤ Refusal
-parts_ok raw groups = do
-  functions_ok ← unless refused_function (refused_in_groups raw.top raw.groups)
-  links_ok ← unless refused_links (topology_fault (links_of raw))
-  paths_ok ← unless refused_paths (plan_fault (networks.network_of (links_of raw)) groups)
-  unless refused_tree (tree_fault (clusters_of raw))
+-- refusals 9 to 11 over a network, where an entry that is not by the owner is known
+abbrev pub over_ok : networks.Network → Raw → List groups.Group → Option ℕ → Result ⊤ Refusal
+over_ok network raw groups stranger = do
+  paths_ok ← unless refused_paths (plan_fault network groups)
+  tree_ok ← unless refused_tree (tree_fault (clusters_of raw))
+  unless not_owner stranger
 
 -- refusals 7 to 11
-unfoldable pub document_by : Raw → NameLists → Numbers → Result Accepted Refusal
+unfoldable pub parts_ok : Raw → List groups.Group → Option ℕ → Result ⊤ Refusal
+parts_ok raw groups stranger = do
+  functions_ok ← unless refused_function (refused_in_groups raw.top raw.groups)
+  links_ok ← unless refused_links (topology_fault (links_of raw))
+  over_ok (networks.network_of (links_of raw)) raw groups stranger
+
+-- refusals 7 to 11
+unfoldable pub document_by : Raw → NameTexts → Numbers → Result Accepted Refusal
 document_by raw names numbers = do
   functions_ok ← unless refused_function (refused_in_groups raw.top raw.groups)
   links_ok ← unless refused_links (topology_fault (links_of raw))
@@ -104,7 +111,7 @@ document_by raw names numbers = do
   Ok (accepted raw names numbers)
 
 -- refusals 6 to 11 of a document with these names
-abbrev pub document_numbered : Raw → NameLists → Result Accepted Refusal
+abbrev pub document_numbered : Raw → NameTexts → Result Accepted Refusal
 document_numbered raw names = do
   numbers ← refused_by unknown_name (numbers names.links names.tasks names.reporters raw)
   document_by raw names numbers

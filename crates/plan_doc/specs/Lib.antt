@@ -1,4 +1,3 @@
-pub mod Names
 pub mod Functions
 pub mod TreeParts
 pub mod Building

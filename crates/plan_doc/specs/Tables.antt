@@ -1,6 +1,14 @@
 -- What the tables of names show.
-use Rattle.doc_passes.specs.Names.{NameLists}
+use Rattle.std.specs.Prelude.{◌≡◌, []}
+use Rattle.doc_names.specs.NameTexts.{NameTexts}
 use Rattle.plan_doc.specs.declared.names.Tables.{Tables}
 
-abbrev pub tables_view : Tables → NameLists
+abbrev pub tables_view : Tables → NameTexts
 tables_view tables = record { links = tables.links; groups = tables.groups; tasks = tables.tasks; reporters = tables.reporters }
+
+-- no table has a name
+pub record AreEmpty (tables : Tables) : Type 0 where
+  pub links : tables.links ≡ []
+  pub groups : tables.groups ≡ []
+  pub tasks : tables.tasks ≡ []
+  pub reporters : tables.reporters ≡ []

@@ -17,14 +17,14 @@ ghost use Rattle.plan_doc.specs.Functions.{refused_in_groups};
 ghost use Rattle.plan_doc.specs.TreeParts.{cluster_part};
 ghost use Rattle.doc_passes.specs.InRange.{IsInRange};
 ghost use Rattle.doc_passes.specs.Counts.{task_count};
-ghost use Rattle.plan_doc.specs.Links.{link_part, names_view};
+ghost use Rattle.doc_names.specs.NameTexts.{texts_of};
+ghost use Rattle.plan_doc.specs.Links.{link_part};
 ghost use Rattle.doc_passes.specs.NumbersView.{numbers_view};
-ghost use Rattle.plan_doc.specs.Owners.{not_owned};
 ghost use Rattle.plan_doc.specs.Refusals.{out_of_range, refused_function, refused_links, refused_paths, refused_tree, not_owner};
 ghost use Rattle.plan_doc.specs.Accepted.{Answers, Makes, PassesBy};
-ghost use Rattle.plan_doc.specs.Names.{name_lists};
-ghost use Rattle.plan_doc.specs.Parts.{BuildsParts};
-ghost use Rattle.plan_doc.specs.Tables.{tables_view};
+ghost use Rattle.doc_passes.specs.Names.{name_lists};
+ghost use Rattle.plan_doc.specs.Parts.{BuildsOver, BuildsParts};
+ghost use Rattle.plan_doc.specs.Tables.{AreEmpty, tables_view};
 ghost use Rattle.doc_passes.specs.Limits.{overrun};
 ghost use Rattle.doc_passes.specs.Ranges.{ranges};
 ghost use Rattle.doc_passes.specs.Passed.{HasPassed};
@@ -32,13 +32,13 @@ ghost use Rattle.plan_doc.specs.Conditions.{IsUsable};
 
 use crate::doc_error::DocError;
 use crate::functions::cluster_specs;
-use crate::names::{Tables, link_specs, names_of, tables_of};
+use crate::names::{Tables, link_specs, names_of};
 use crate::nodes::has_node_numbers;
-use crate::owner::find_not_owned;
 use bwe_specs::{Closing, MAX_GROUPS, MAX_SHARE, Report};
 use doc_names::Names;
 use doc_passes::{DocumentNumbers, check_ranges, document_numbers, find_overrun};
 use json::Scratch;
+use owner_rule::find_not_owned;
 use path_groups::{GroupSpec, PathError, PathPlan};
 use policy_tree::{ClusterSpec, PolicyTree, TreeError, TreeSpec};
 use raw_document::{RawDocument, RawGroup, RawLink};
@@ -138,17 +138,42 @@ fn build_tree(
     }
 }
 
-fn check_owners(
-    task_owners: &[u32],
-    link_owners: &[Option<u32>],
-    script: &[Report],
-) -> Result<(), DocError>
-    ensures { Makes result not_owner (not_owned task_owners.now link_owners.now 0 script.now) (λ _. Unit) }
+fn check_owners(stranger: Option<u64>) -> Result<(), DocError>
+    ensures { Makes result not_owner stranger (λ _. Unit) }
 {
-    match find_not_owned(task_owners, link_owners, script) {
+    match stranger {
         Some(entry) => Err(DocError::NotOwner { entry }),
         None => Ok(()),
     }
+}
+
+// What is built over a topology.
+#[derive(Drop)]
+struct Over {
+    tree: PolicyTree,
+    plan: PathPlan,
+}
+
+// What is built over the topology, or the first of the refusals 9 to 11. `stranger` is the entry that is not by the owner.
+fn build_over(
+    alloc: Global,
+    raw: &RawDocument,
+    topology: &Topology,
+    groups: Vec<GroupSpec>,
+    clusters: Vec<ClusterSpec>,
+    stranger: Option<u64>,
+) -> Result<Over, DocError>
+    requires range { IsInRange (raw_view raw.now) }
+    requires tasks { task_count (raw_view raw.now).groups < 2 ^ 64 }
+    requires few { length groups.items ≤ MAX_GROUPS }
+    requires in_range { AreInRange (length topology.now.capacities) (groups_of groups.items) }
+    requires clusters { each_view idle_cluster clusters ≡ map (cluster_part raw.now.top) (raw_view raw.now).groups }
+    ensures { BuildsOver (raw_view raw.now) topology.now (groups_of groups.items) stranger result }
+{
+    let plan = build_plan(alloc, topology, groups)?;
+    let tree = build_tree(alloc, raw, clusters)?;
+    check_owners(stranger)?;
+    Ok(Over { tree, plan })
 }
 
 // What is built of a document.
@@ -159,24 +184,30 @@ struct Parts {
     plan: PathPlan,
 }
 
-// The parts, or the first of the refusals 7 to 10.
+// The parts, or the first of the refusals 7 to 11. No other function has a topology that it would have to drop.
 #[tactic(auto, unfolding(crate::specs::Document::parts_ok))]
-fn build_parts(alloc: Global, raw: &RawDocument, groups: Vec<GroupSpec>) -> Result<Parts, DocError>
+fn build_parts(
+    alloc: Global,
+    raw: &RawDocument,
+    groups: Vec<GroupSpec>,
+    stranger: Option<u64>,
+) -> Result<Parts, DocError>
     requires range { IsInRange (raw_view raw.now) }
     requires tasks { task_count (raw_view raw.now).groups < 2 ^ 64 }
     requires few { length groups.items ≤ MAX_GROUPS }
     requires in_range { AreInRange (length (raw_view raw.now).links) (groups_of groups.items) }
-    ensures { BuildsParts (raw_view raw.now) (groups_of groups.items) result }
+    ensures { BuildsParts (raw_view raw.now) (groups_of groups.items) stranger result }
 {
     let clusters = build_clusters(alloc, &raw.groups, raw.top)?;
     let topology = build_topology(alloc, &raw.links)?;
-    let plan = build_plan(alloc, &topology, groups)?;
-    let tree = build_tree(alloc, raw, clusters)?;
-    Ok(Parts {
-        tree,
-        topology,
-        plan,
-    })
+    match build_over(alloc, raw, &topology, groups, clusters, stranger) {
+        Ok(over) => Ok(Parts {
+            tree: over.tree,
+            topology,
+            plan: over.plan,
+        }),
+        Err(error) => Err(error),
+    }
 }
 
 /// The document that has passed the refusals 3 to 6, or the first of the refusals 7 to 11.
@@ -187,9 +218,9 @@ fn build_document(
     names: Names,
     numbers: DocumentNumbers,
 ) -> Result<Document, DocError>
-    requires passed { HasPassed (raw_view raw.now) (names_view names) (numbers_view numbers) }
+    requires passed { HasPassed (raw_view raw.now) (texts_of names) (numbers_view numbers) }
     ensures exact { Answers result
-        (document_by (raw_view raw.now) (names_view names) (numbers_view numbers)) }
+        (document_by (raw_view raw.now) (texts_of names) (numbers_view numbers)) }
     ensures usable { IfOk result IsUsable }
 {
     let DocumentNumbers {
@@ -199,21 +230,21 @@ fn build_document(
         script,
         closings,
     } = numbers;
-    let parts = match build_parts(alloc, raw, groups) {
-        Ok(parts) => parts,
-        Err(error) => return Err(error),
-    };
-    check_owners(&task_owners, &link_owners, &script)?;
-    Ok(Document {
-        tree: parts.tree,
-        topology: parts.topology,
-        plan: parts.plan,
-        script,
-        closings,
-        names,
-        task_owners,
-        link_owners,
-    })
+    // Looked for first, and told last: a builder's refusal has a lower number.
+    let stranger = find_not_owned(&task_owners, &link_owners, &script);
+    match build_parts(alloc, raw, groups, stranger) {
+        Ok(parts) => Ok(Document {
+            tree: parts.tree,
+            topology: parts.topology,
+            plan: parts.plan,
+            script,
+            closings,
+            names,
+            task_owners,
+            link_owners,
+        }),
+        Err(error) => Err(error),
+    }
 }
 
 // Nothing, or refusal 3.
@@ -275,8 +306,24 @@ fn document_in_range(alloc: Global, raw: &RawDocument) -> Result<Document, DocEr
     ensures exact { Answers result (document_named (raw_view raw.now)) }
     ensures usable { IfOk result IsUsable }
 {
-    match tables_of(alloc, raw) {
-        Ok(tables) => document_from_names(alloc, raw, &tables),
+    let mut tables = Tables::new(alloc);
+    document_by_names(alloc, raw, &mut tables)
+}
+
+// The same, with the tables that its names are put into.
+fn document_by_names<'a>(
+    alloc: Global,
+    raw: &RawDocument<'a>,
+    tables: &mut Tables<'a>,
+) -> Result<Document, DocError>
+    requires few { overrun (raw_view raw.now) ≡ None }
+    requires range { ranges (raw_view raw.now) ≡ Ok tt }
+    requires empty { AreEmpty tables.old }
+    ensures exact { Answers result (document_named (raw_view raw.now)) }
+    ensures usable { IfOk result IsUsable }
+{
+    match tables.fill(alloc, raw) {
+        Ok(()) => document_from_names(alloc, raw, tables),
         Err(fault) => Err(DocError::repeated_name(fault)),
     }
 }

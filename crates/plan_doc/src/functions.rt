@@ -16,7 +16,7 @@ use raw_document::{DocKey, DocPath, Fault, PathStep, RawGroup, RawJob, RawTask, 
 use std::alloc::{AllocError, AllocFailed, Global};
 
 /// Why functions could not be built: memory, or what is wrong with the one at a path.
-#[derive(Debug, Drop)]
+#[derive(Drop)]
 pub enum BuildError {
     OutOfMemory,
     Refused { path: DocPath, cause: FunctionFault },

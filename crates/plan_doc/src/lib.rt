@@ -18,7 +18,6 @@ mod document;
 mod functions;
 mod names;
 mod nodes;
-mod owner;
 mod refusal_text;
 
 pub use doc_error::DocError;

@@ -4,8 +4,9 @@ ghost use Rattle.std.specs.Prelude.{◌≡◌, map, IfOk};
 ghost use Rattle.raw_document.specs.Raw.{link_view, raw_view};
 ghost use Rattle.raw_document.specs.Reading.{Gives};
 ghost use Rattle.wan_topology.specs.Held.{link_of, links_of};
-ghost use Rattle.plan_doc.specs.Links.{link_part, names_view};
-ghost use Rattle.plan_doc.specs.Names.{name_lists};
+ghost use Rattle.doc_names.specs.NameTexts.{texts_of};
+ghost use Rattle.plan_doc.specs.Links.{link_part};
+ghost use Rattle.doc_passes.specs.Names.{name_lists};
 ghost use Rattle.plan_doc.specs.Tables.{tables_view};
 
 use doc_names::Names;
@@ -23,33 +24,40 @@ pub struct Tables<'a> {
     pub reporters: NameTable<'a>,
 }
 
-/// The tables of the document's names, or the first name that stood before.
-pub fn tables_of<'a>(alloc: Global, raw: &RawDocument<'a>) -> Result<Tables<'a>, Fault>
-    ensures { Gives tables_view result (name_lists (raw_view raw.now)) }
-{
-    let mut links = NameTable::new(alloc);
-    let mut groups = NameTable::new(alloc);
-    let mut tasks = NameTable::new(alloc);
-    let mut reporters = NameTable::new(alloc);
-    fill_tables(
-        alloc,
-        raw,
-        &mut links,
-        &mut groups,
-        &mut tasks,
-        &mut reporters,
-    )?;
-    Ok(Tables {
-        links,
-        groups,
-        tasks,
-        reporters,
-    })
+impl<'a> Tables<'a> {
+    ghost use Rattle.plan_doc.specs.Tables.{AreEmpty};
+
+    /// Tables without a name.
+    pub fn new(alloc: Global) -> Tables<'a>
+        ensures { AreEmpty result }
+    {
+        Tables {
+            links: NameTable::new(alloc),
+            groups: NameTable::new(alloc),
+            tasks: NameTable::new(alloc),
+            reporters: NameTable::new(alloc),
+        }
+    }
+
+    /// Takes in the names of the document, up to the first name that stood before.
+    pub fn fill(&mut self, alloc: Global, raw: &RawDocument<'a>) -> Result<(), Fault>
+        requires empty { AreEmpty self.old }
+        ensures { Gives (λ _. tables_view self.new) result (name_lists (raw_view raw.now)) }
+    {
+        fill_tables(
+            alloc,
+            raw,
+            &mut self.links,
+            &mut self.groups,
+            &mut self.tasks,
+            &mut self.reporters,
+        )
+    }
 }
 
 /// The names that the tables hold.
 pub fn names_of(alloc: Global, tables: &Tables) -> Result<Names, AllocError>
-    ensures { IfOk result (λ names. names_view names ≡ tables_view tables.now) }
+    ensures { IfOk result (λ names. texts_of names ≡ tables_view tables.now) }
 {
     Ok(Names {
         links: tables.links.copies(alloc)?,

@@ -2,7 +2,7 @@
 use Rattle.std.proofs.Common.{◌≡◌, ℕ, suc, ◌≤◌, Bool, true, false, cond, List, [], ◌∷◌, ◌++◌, length, Option, Some, None, Ok, String, Global, string_bytes, refl, sym, ap, subst, ◌∙◌, nat_le, nat_lt, arith, length-append}
 use Rattle.std.specs.Prelude.{option_and_then, position, slice_get, All}
 use Rattle.std.specs.Str.{bytes_eq}
-use Rattle.std.proofs.lemmas.Bool.{eqb-true, leb-true, ltb-true}
+use Rattle.std.proofs.lemmas.Bool.{leb-true, ltb-true}
 use Rattle.std.proofs.lemmas.List.{length-map}
 use Rattle.std.proofs.lemmas.List.Elements.{All-nil, All-push, All-cons, All-head, All-tail}
 use Rattle.std.proofs.lemmas.List.Quantifiers.{position-Some}
@@ -16,7 +16,9 @@ use Rattle.text_scan.specs.Lines.{left_of, lines_of}
 use Rattle.text_scan.specs.Numbers.{amount_in_range, printed_number_of}
 use Rattle.text_scan.proofs.ItemFacts.{items_keep}
 use Rattle.sample_lines.specs.Known.{Known, known_by}
-use Rattle.sample_lines.specs.SampleLine.{Text, Fields, amount_of, fields_of, is_owner, sample_of}
+use Rattle.sample_lines.specs.SampleLine.{Text, Fields, amount_of, fields_of, sample_of}
+use Rattle.owner_rule.specs.Owners.{is_owner}
+use Rattle.owner_rule.proofs.OwnerFacts.{owner_is}
 use Rattle.sample_lines.specs.SampleLines.{next_sample}
 use Rattle.sample_lines.specs.SampleReports.{amounts_of, report_of, reports_behind}
 use Rattle.doc_names.specs.declared.Names.{Names}
@@ -27,10 +29,6 @@ bind None f y e = absurd (let g : None ≡ Some y = e in cc)
 bind (Some x) f y e = (x, refl, e)
 
 -- ---- one sample
-
-owns : (owner : Option ℕ) (reporter : ℕ) → is_owner owner reporter ≡ true → owner ≡ Some reporter
-owns None reporter e = absurd (let g : false ≡ true = e in cc)
-owns (Some owner) reporter e = ap Some (eqb-true owner reporter e)
 
 chosen : {A : Type 0} (b : Bool) (x y : A) → cond b (Some x) None ≡ Some y → (b ≡ true) × (x ≡ y)
 chosen true x y e = (refl, let g : Some x ≡ Some y = e in cc)
@@ -55,7 +53,7 @@ sample_held known text sample e =
     let held : IsHeld known made = record {
       task = (position-Some (bytes_eq fields.0.task) known.names.tasks task.0 [] task.1).0;
       reporter = (position-Some (bytes_eq fields.0.reporter) known.names.reporters reporter.0 [] reporter.1).0;
-      owner = owns (slice_get known.task_owners task.0) reporter.0 last.0;
+      owner = owner_is (slice_get known.task_owners task.0) reporter.0 last.0;
       amount = amount_fits fields.0.amount amount.0 amount.1;
     } in
     subst (λ (s : Sample). IsHeld known s) last.1 held

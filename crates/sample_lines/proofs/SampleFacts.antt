@@ -4,7 +4,8 @@ use Rattle.std.specs.Prelude.{slice_get}
 use Rattle.text_scan.specs.Names.{number_of_name}
 use Rattle.sample_lines.specs.declared.sample.Sample.{Sample}
 use Rattle.sample_lines.specs.Known.{Known}
-use Rattle.sample_lines.specs.SampleLine.{Text, Fields, amount_of, fields_of, is_owner, sample_of}
+use Rattle.sample_lines.specs.SampleLine.{Text, Fields, amount_of, fields_of, sample_of}
+use Rattle.owner_rule.specs.Owners.{is_owner}
 
 abbrev pub sample_by : Bool → ℕ → ℕ → ℕ → Option Sample
 sample_by owns reporter task amount = cond owns (let made : Sample = record { reporter = reporter; task = task; amount = amount } in Some made) None

@@ -1,5 +1,6 @@
 -- A line of samples: `<reporter> <task> <amount>`, with single blanks.
-use Rattle.std.specs.Prelude.{ℕ, Bool, false, ◌==◌, List, slice_get, Option, Some, None, if◌then◌else◌, option_and_then}
+use Rattle.std.specs.Prelude.{ℕ, List, slice_get, Option, Some, None, if◌then◌else◌, option_and_then}
+use Rattle.owner_rule.specs.Owners.{is_owner}
 use Rattle.text_scan.specs.Cuts.{cut_at}
 use Rattle.text_scan.specs.Names.{number_of_name}
 use Rattle.text_scan.specs.Numbers.{amount_in_range, printed_number_of}
@@ -32,11 +33,6 @@ unfoldable pub amount_of : Text → Option ℕ
 amount_of digits = option_and_then amount_in_range (printed_number_of digits)
 
 -- ---- a sample
-
--- a task's owner, if it has the number, is this reporter
-abbrev pub is_owner : Option ℕ → ℕ → Bool
-is_owner None reporter = false
-is_owner (Some owner) reporter = owner == reporter
 
 -- the sample of a text without its line feed: of a known task, told by its owner
 unfoldable pub sample_of : Known → Text → Option Sample

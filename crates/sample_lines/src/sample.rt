@@ -1,11 +1,12 @@
 //! One line of samples.
 
-ghost use Rattle.std.specs.Prelude.{◌≡◌, IfOk, slice_get};
+ghost use Rattle.std.specs.Prelude.{◌≡◌, IfOk};
 ghost use Rattle.sample_lines.specs.SampleLine as spec;
 ghost use Rattle.sample_lines.specs.Known.{known_by};
 
-use bwe_specs::OutOfMemory;
+use bwe_specs::{OutOfMemory, Target};
 use doc_names::Names;
+use owner_rule::{is_owner, owner_of};
 use std::alloc::Global;
 use std::marker::Model;
 use text_scan::{NameIndex, amount_in_range, cut_at, printed_number_of};
@@ -69,7 +70,8 @@ impl<'a> Known<'a> {
         let reporter = self.reporters.number_of_bytes(fields.reporter)?;
         let task = self.tasks.number_of_bytes(fields.task)?;
         let amount = amount_of(fields.amount)?;
-        if !is_owner(owner_of(self.task_owners, task), reporter) {
+        let owner = owner_of(self.task_owners, &[], Target::Task { number: task });
+        if !is_owner(owner, reporter) {
             return None;
         }
         Some(Sample {
@@ -114,19 +116,4 @@ fn amount_of(digits: &[u8]) -> Option<u64>
     ensures { result ≡ spec.amount_of digits.now }
 {
     amount_in_range(printed_number_of(digits)?)
-}
-
-fn owner_of(task_owners: &[u32], task: u32) -> Option<u32>
-    ensures { result ≡ slice_get task_owners.now task }
-{
-    task_owners.get(task as usize).copied()
-}
-
-fn is_owner(owner: Option<u32>, reporter: u32) -> bool
-    ensures { result ≡ spec.is_owner owner reporter }
-{
-    match owner {
-        Some(owner) => owner == reporter,
-        None => false,
-    }
 }

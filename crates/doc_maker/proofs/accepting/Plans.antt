@@ -24,7 +24,7 @@ use Rattle.doc_passes.specs.Limits.{sum_of}
 use Rattle.doc_passes.specs.Counts.{group_tasks, task_count}
 use Rattle.plan_doc.specs.Links.{link_part}
 use Rattle.plan_doc.specs.TreeParts.{weights_of, job_part, user_part, cluster_part}
-use Rattle.plan_doc.specs.Owners.{not_owned}
+use Rattle.owner_rule.specs.Owners.{not_owned}
 use Rattle.plan_doc.specs.Document.{links_of, clusters_of}
 use Rattle.policy_tree.proofs.Numbers.{length-numbered}
 use Rattle.plan_doc.proofs.NodeFacts.{length-task_numbers}

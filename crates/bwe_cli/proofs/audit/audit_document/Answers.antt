@@ -2,7 +2,7 @@ use Rattle.std.proofs.Common.{◌≡◌, ℕ, List, ap, ap₂, ◌∙◌}
 use Rattle.bwe_specs.specs.declared.report.Report.{Report}
 use Rattle.bwe_specs.specs.Allocation.{Plan, allocation}
 use Rattle.one_run.specs.Endings.{Reply}
-use Rattle.plan_doc.specs.Links.{names_view}
+use Rattle.doc_names.specs.NameTexts.{texts_of}
 use Rattle.run_audit.specs.AuditText.{verdict_line}
 use Rattle.bwe_cli.specs.AuditReply.{audit_status}
 use Rattle.audit_law.specs.DocumentRun.{script_verdict}
@@ -30,7 +30,7 @@ returns c =
     c.in_ok-solved.ensures.table
     ∙ ap₂ (λ (plan : Plan) (script : List Report). allocation plan script) c.open-allocator.ensures.plan (c.deref.ensures.value ∙ ap (λ script. script.items) c.open-allocator.ensures.script) in
     let found = rw (c.deref-3.ensures.value, c.deref-4.ensures.value) at c.in_ok-verdict.ensures in
-    let judged : c.in_ok-verdict.verdict ≡ script_verdict (names_view document.names) (plan_in document) document.script.items text =
+    let judged : c.in_ok-verdict.verdict ≡ script_verdict (texts_of document.names) (plan_in document) document.script.items text =
     found ∙ verdict-is document _ same c.in_ok-scripts.scripts.items c.open-allocator.result.names c.open-allocator.ensures.names c.in_ok-scripts.ensures.split
     c.in_ok-solved.solved solved c.in_ok-table.table.items c.in_ok-table.ensures text in
     ap₂ reply_parts (c.status_of.ensures ∙ ap audit_status judged) (c.in_ok-audit_text.ensures ∙ ap verdict_line judged)

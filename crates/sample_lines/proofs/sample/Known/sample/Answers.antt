@@ -1,7 +1,8 @@
 use Rattle.std.proofs.Common.{◌≡◌, ℕ, Option, false, true, Some, sym, ap, ◌∙◌}
 use Rattle.std.specs.Prelude.{slice_get}
 use Rattle.sample_lines.specs.Known.{Known, known_by}
-use Rattle.sample_lines.specs.SampleLine.{Fields, is_owner, sample_of}
+use Rattle.sample_lines.specs.SampleLine.{Fields, sample_of}
+use Rattle.owner_rule.specs.Owners.{is_owner}
 use Rattle.sample_lines.proofs.SampleFacts.{sample_is}
 use Rattle.sample_lines.proofs.sample.Known.sample.Goals as goal
 
@@ -9,7 +10,7 @@ pub returns-then-not-is_owner : goal.returns-then-not-is_owner
 returns-then-not-is_owner c =
     let names = c.self.inside.names.now in
     let fields : Fields = record { reporter = c.fields.inside.reporter.now; task = c.fields.inside.task.now; amount = c.fields.inside.amount.now } in
-    let own = ap (λ (owner : Option ℕ). is_owner owner c.in_ok-reporter.reporter) c.owner_of.ensures in
+    let own = ap (λ (owner : Option ℕ). is_owner owner c.in_ok-reporter.reporter) c.owner_of-owner.ensures in
     let owns : false ≡ is_owner (slice_get c.self.inside.task_owners.now c.in_ok-task.task) c.in_ok-reporter.reporter = sym c.if-not-is_owner.true ∙ c.is_owner.ensures ∙ own in
     sample_is (known_by names c.self.inside.task_owners.now) c.args.text.now fields c.in_ok-reporter.reporter c.in_ok-task.task c.in_ok-amount.amount false
     (ap Some c.fields.view_is ∙ c.in_ok-fields.ensures)
@@ -21,7 +22,7 @@ pub returns : goal.returns
 returns c =
     let names = c.self.inside.names.now in
     let fields : Fields = record { reporter = c.fields.inside.reporter.now; task = c.fields.inside.task.now; amount = c.fields.inside.amount.now } in
-    let own = ap (λ (owner : Option ℕ). is_owner owner c.in_ok-reporter.reporter) c.owner_of.ensures in
+    let own = ap (λ (owner : Option ℕ). is_owner owner c.in_ok-reporter.reporter) c.owner_of-owner.ensures in
     let owns : true ≡ is_owner (slice_get c.self.inside.task_owners.now c.in_ok-task.task) c.in_ok-reporter.reporter = sym c.if-not-is_owner.false ∙ c.is_owner.ensures ∙ own in
     sample_is (known_by names c.self.inside.task_owners.now) c.args.text.now fields c.in_ok-reporter.reporter c.in_ok-task.task c.in_ok-amount.amount true
     (ap Some c.fields.view_is ∙ c.in_ok-fields.ensures)

@@ -1,12 +1,13 @@
 -- A script in which no entry is refused is by the owners.
 use Rattle.std.proofs.Common.{◌≡◌, ℕ, suc, Bool, true, false, cond, List, [], ◌∷◌, Option, Some, None, refl, ap}
-use Rattle.std.specs.Prelude.{All, ◌==◌}
+use Rattle.std.specs.Prelude.{All}
 use Rattle.std.proofs.lemmas.Bool.{eqb-true}
 use Rattle.std.proofs.lemmas.List.Elements.{All-nil, All-cons}
 use Rattle.bwe_specs.specs.declared.report.Report.{Report}
-use Rattle.plan_doc.specs.Owners.{owner_of, is_owner, not_owned}
+use Rattle.owner_rule.specs.Owners.{owner_of, is_owner, not_owned}
 
-owner_is : (owner : Option ℕ) (reporter : ℕ) → is_owner owner reporter ≡ true → owner ≡ Some reporter
+-- whoever is the owner is the one that was found
+pub owner_is : (owner : Option ℕ) (reporter : ℕ) → is_owner owner reporter ≡ true → owner ≡ Some reporter
 owner_is None reporter e = absurd cc
 owner_is (Some owner) reporter e = ap Some (eqb-true owner reporter e)
 

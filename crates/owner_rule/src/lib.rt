@@ -1,11 +1,17 @@
-//! Who may report what.
+//! Who may report what ("Owner rule", docs/DEFINITIONS.md).
+//!
+//! `plan_doc` asks for the first entry of a script that is not by the owner, `live_lines` and `sample_lines` ask of one report.
+//! Owners are lists by number: each task has a reporter, and a link may have none. `specs/Owners.antt` says the whole of it.
+//! Nothing here takes memory; a question costs one look into a list.
+#![tactic(auto)]
 
 ghost use Rattle.std.specs.Prelude.{◌≡◌};
-ghost use Rattle.plan_doc.specs.Owners as owners;
+ghost use Rattle.owner_rule.specs.Owners as owners;
 
 use bwe_specs::{Report, Target};
 
-fn owner_of(task_owners: &[u32], link_owners: &[Option<u32>], target: Target) -> Option<u32>
+/// The owner of a task or link; `None` where there is no such task or link, or the link has no owner.
+pub fn owner_of(task_owners: &[u32], link_owners: &[Option<u32>], target: Target) -> Option<u32>
     ensures { result ≡ owners.owner_of task_owners.now link_owners.now target }
 {
     match target {
@@ -14,7 +20,8 @@ fn owner_of(task_owners: &[u32], link_owners: &[Option<u32>], target: Target) ->
     }
 }
 
-fn is_owner(owner: Option<u32>, reporter: u32) -> bool
+/// Whether this reporter is the owner that was found.
+pub fn is_owner(owner: Option<u32>, reporter: u32) -> bool
     ensures { result ≡ owners.is_owner owner reporter }
 {
     match owner {
@@ -23,7 +30,7 @@ fn is_owner(owner: Option<u32>, reporter: u32) -> bool
     }
 }
 
-/// The first entry of the script whose reporter does not own its task or link ("Owner rule", docs/DEFINITIONS.md).
+/// The first entry of the script whose reporter does not own its task or link.
 pub fn find_not_owned(
     task_owners: &[u32],
     link_owners: &[Option<u32>],

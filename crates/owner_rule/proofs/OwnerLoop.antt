@@ -1,19 +1,18 @@
 -- The script, entry by entry.
-use Rattle.std.proofs.Common.{◌≡◌, ℕ, suc, ◌+◌, ◌<◌, ◌≤◌, Bool, true, false, cond, List, [], length, drop, get_or, Option, Some, None, sym, ap, ◌∙◌, add-one}
-use Rattle.std.proofs.lemmas.List.{drop_all, get_or_default}
+use Rattle.std.proofs.Common.{◌≡◌, ℕ, suc, ◌+◌, ◌<◌, ◌≤◌, Bool, true, false, cond, List, [], length, drop, get_or, Option, Some, None, sym, ap, ◌∙◌, add-one, drop-cons}
+use Rattle.std.proofs.lemmas.List.{drop_all}
 use Rattle.bwe_specs.specs.declared.report.Report.{Report}
-use Rattle.plan_doc.specs.Owners.{owner_of, is_owner, not_owned}
-use Rattle.doc_passes.proofs.Loops.{drop_here}
+use Rattle.owner_rule.specs.Owners.{owner_of, is_owner, not_owned}
 
 module _ (tasks : List ℕ) (links : List (Option ℕ)) (script : List Report) (i : ℕ) (d : Report) (owner : Option ℕ) (may : Bool) where
   not_owned-drop : i < length script → owner ≡ owner_of tasks links (get_or script i d).target → may ≡ is_owner owner (get_or script i d).reporter
       → not_owned tasks links i (drop i script) ≡ cond may (not_owned tasks links (i + 1) (drop (i + 1) script)) (Some i)
   unfolding not_owned
   not_owned-drop within owner_is may_is =
-      ap (λ rest. not_owned tasks links i rest) (drop_here script i (get_or script i d) within (get_or_default script i d (get_or script i d) within))
-      ∙ ap (λ o. cond (is_owner o (get_or script i d).reporter) (not_owned tasks links (suc i) (drop (i + 1) script)) (Some i)) (sym owner_is)
-      ∙ ap (λ b. cond b (not_owned tasks links (suc i) (drop (i + 1) script)) (Some i)) (sym may_is)
-      ∙ ap (λ k. cond may (not_owned tasks links k (drop (i + 1) script)) (Some i)) (sym (add-one i))
+      ap (λ rest. not_owned tasks links i rest) (drop-cons script i d within)
+      ∙ ap (λ o. cond (is_owner o (get_or script i d).reporter) (not_owned tasks links (suc i) (drop (suc i) script)) (Some i)) (sym owner_is)
+      ∙ ap (λ b. cond b (not_owned tasks links (suc i) (drop (suc i) script)) (Some i)) (sym may_is)
+      ∙ ap (λ k. cond may (not_owned tasks links k (drop k script)) (Some i)) (sym (add-one i))
 
   pub not_owned_here : i < length script → owner ≡ owner_of tasks links (get_or script i d).target → may ≡ is_owner owner (get_or script i d).reporter → may ≡ false
       → not_owned tasks links i (drop i script) ≡ not_owned tasks links 0 script → Some i ≡ not_owned tasks links 0 script

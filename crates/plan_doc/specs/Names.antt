@@ -1,2 +1,0 @@
--- The names of a document, as the passes leave them.
-pub use Rattle.doc_passes.specs.Names.{NameLists, name_lists}
