@@ -1,9 +1,8 @@
 -- A document that has passed every refusal is the definition's, and meets the conditions of the calls that take its parts.
-use Rattle.std.proofs.Common.{◌≡◌, ℕ, ◌<◌, ◌≤◌, List, length, map, replicate, Option, Some, None, Result, Ok, Err, refl, sym, ap, subst, ◌∙◌, arith}
+use Rattle.std.proofs.Common.{◌≡◌, ℕ, ◌<◌, List, length, map, replicate, Option, Some, None, Result, Ok, Err, refl, sym, ap, subst, ◌∙◌, arith}
 use Rattle.std.specs.Prelude.{All, IfSome, ⊤}
 use Rattle.std.proofs.lemmas.List.{length-map, length-replicate}
-use Rattle.std.proofs.lemmas.List.Elements.{All-same, All-weaker}
-use Rattle.bwe_specs.specs.declared.report.Report.{Report}
+use Rattle.std.proofs.lemmas.List.Elements.{All-same}
 use Rattle.wan_topology.specs.Network.{Network, network_of}
 use Rattle.wan_topology.specs.Faults.{topology_fault}
 use Rattle.path_groups.specs.Given.{Group, path_groups_of}
@@ -30,7 +29,7 @@ use Rattle.doc_passes.specs.Numbers.{Numbers, numbers}
 use Rattle.doc_passes.specs.NumbersView.{numbers_view}
 use Rattle.plan_doc.specs.Functions.{refused_in_groups}
 use Rattle.plan_doc.specs.TreeParts.{cluster_part}
-use Rattle.owner_rule.specs.Owners.{not_owned, owner_of}
+use Rattle.owner_rule.specs.Owners.{not_owned}
 use Rattle.plan_doc.specs.Refusals.{Refusal, refused_function, refused_links, refused_paths, refused_tree, not_owner}
 use Rattle.plan_doc.specs.Document as documents
 use Rattle.plan_doc.specs.Document.{Accepted, accepted, unless, links_of, clusters_of, document_by, over_ok, parts_ok}

@@ -1,5 +1,5 @@
 -- The links of the topology are those of the document.
-use Rattle.std.proofs.Common.{◌≡◌, ℕ, List, length, map, ◌∙◌}
+use Rattle.std.proofs.Common.{◌≡◌, List, length, map, ◌∙◌}
 use Rattle.std.proofs.lemmas.List.{length-map}
 use Rattle.wan_topology.specs.Network as networks
 use Rattle.raw_document.specs.Raw as raw

@@ -9,7 +9,7 @@ use Rattle.policy_tree.specs.declared.spec.JobSpec.{JobSpec}
 use Rattle.policy_tree.specs.declared.spec.UserSpec.{UserSpec}
 use Rattle.policy_tree.specs.declared.spec.ClusterSpec.{ClusterSpec}
 use Rattle.policy_tree.specs.States.{JobState, UserState, ClusterState}
-use Rattle.policy_tree.specs.Asked.{idle_job, idle_user, idle_cluster, HasTop, HasJobTop, HasUserTop, HasClusterTop, AreWeights, HasJobWeights, HasUserWeights, HasClusterWeights}
+use Rattle.policy_tree.specs.Asked.{idle_job, idle_user, idle_cluster, HasTop, HasJobTop, HasUserTop, HasClusterTop, HasJobWeights, HasUserWeights, HasClusterWeights}
 use Rattle.raw_document.specs.Raw as raw
 use Rattle.plan_doc.specs.TreeParts.{function_part, weights_of, job_part, user_part, cluster_part}
 use Rattle.doc_passes.specs.InRange as ranges

@@ -1,5 +1,5 @@
 -- What of the definition Document the code answers.
-use Rattle.std.specs.Prelude.{◌≡◌, ℕ, List, length, replicate, Option, Some, None, Result, Ok, Err, IfSome, ⊤}
+use Rattle.std.specs.Prelude.{◌≡◌, List, length, replicate, Option, None, Result, Ok, Err, IfSome, ⊤}
 use Rattle.wan_topology.specs.Network.{network_of}
 use Rattle.path_groups.specs.Given.{path_groups_of}
 use Rattle.raw_document.specs.declared.doc_path.PathStep.{PathStep}

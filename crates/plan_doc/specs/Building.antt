@@ -1,5 +1,5 @@
 -- What is built while functions are looked at, or the first function that is refused.
-use Rattle.std.specs.Prelude.{◌≡◌, List, ◌∷◌, Option, Some, None, Result, Ok, Err}
+use Rattle.std.specs.Prelude.{◌≡◌, ◌∷◌, Option, Some, None, Result, Ok, Err}
 use Rattle.raw_document.specs.declared.doc_path.PathStep.{PathStep}
 use Rattle.plan_doc.specs.declared.functions.BuildError.{BuildError}
 use Rattle.plan_doc.specs.declared.functions.BuildError.TheVariants.{OutOfMemory, Refused}

@@ -1,5 +1,5 @@
 -- An accepted document meets the conditions of the calls that take its parts.
-use Rattle.std.specs.Prelude.{◌≡◌, ℕ, ◌<◌, ◌≤◌, List, length, replicate, Option, Some, All}
+use Rattle.std.specs.Prelude.{◌≡◌, ℕ, ◌<◌, ◌≤◌, length, replicate, Some, All}
 use Rattle.bwe_specs.specs.declared.limits.TheConstants.{MAX_REPORTERS, MAX_REPORTS}
 use Rattle.bwe_specs.specs.declared.report.Report.{Report}
 use Rattle.path_groups.specs.Plan.{IsBuiltOn}

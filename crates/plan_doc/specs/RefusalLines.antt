@@ -15,7 +15,6 @@ use Rattle.raw_document.specs.Words.{word}
 use Rattle.doc_passes.specs.declared.limit.What.{What}
 use Rattle.doc_passes.specs.declared.limit.What.TheVariants.{Groups, Points, Hops, Reporters, Script, Closings}
 use Rattle.plan_doc.specs.declared.doc_error.DocError.{DocError}
-use Rattle.plan_doc.specs.Functions.{RefusedFunction}
 use Rattle.plan_doc.specs.Refusals.{Refusal, not_json, bad_shape, above_limit, out_of_range, repeated_name, unknown_name, refused_function, refused_links, refused_paths, refused_tree, not_owner, refusal_of}
 
 -- ---- a path: a slash and the key or the place for each step; the root is a slash alone

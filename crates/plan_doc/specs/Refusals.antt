@@ -1,6 +1,5 @@
 -- Why a document is refused, and what of it the code answers.
 use Rattle.std.specs.Prelude.{◌≡◌, ℕ, List, Option, Some, None}
-use Rattle.bw_function.specs.declared.fault.FunctionFault.{FunctionFault}
 use Rattle.wan_topology.specs.declared.fault.TopologyFault.{TopologyFault}
 use Rattle.path_groups.specs.declared.fault.PathFault.{PathFault}
 use Rattle.policy_tree.specs.declared.fault.TreeFault.{TreeFault}

@@ -1,5 +1,5 @@
 -- What a tree is built of: the functions and the weights of a document, with every demand 0.
-use Rattle.std.specs.Prelude.{ℕ, List, map, Option, option_map}
+use Rattle.std.specs.Prelude.{ℕ, List, map, option_map}
 use Rattle.bw_function.specs.BwFunction.{Function, points_of}
 use Rattle.capped_sum.specs.CappedSum.{without_demand}
 use Rattle.policy_tree.specs.States.{JobState, UserState, ClusterState}

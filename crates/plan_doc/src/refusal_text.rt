@@ -106,9 +106,7 @@ fn push_path_cause(text: &mut String, cause: PathFault) -> Result<(), AllocError
     match cause {
         PathFault::TooManyPathGroups { group } => push_path_place(text, "1", group, 0, 0),
         PathFault::NoPath { group, place } => push_path_place(text, "2", group, place, 0),
-        PathFault::TooManyPaths { group, place } => {
-            push_path_place(text, "3", group, place, 0)
-        }
+        PathFault::TooManyPaths { group, place } => push_path_place(text, "3", group, place, 0),
         PathFault::TooManyHops { group, place, path } => {
             push_path_place(text, "4", group, place, path)
         }
@@ -150,11 +148,7 @@ fn push_limit(text: &mut String, what: What, count: u64) -> Result<(), AllocErro
     write!(text, "3 limit {what} {count}")
 }
 
-fn push_function(
-    text: &mut String,
-    path: &DocPath,
-    cause: FunctionFault,
-) -> Result<(), AllocError>
+fn push_function(text: &mut String, path: &DocPath, cause: FunctionFault) -> Result<(), AllocError>
     ensures { OnOk result (string_bytes text.new ≡
         string_bytes text.old ++ codes "7 function at " ++ lines.path_text path.now.steps.items
         ++ codes " cause " ++ lines.function_cause cause) }

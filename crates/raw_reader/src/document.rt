@@ -85,7 +85,13 @@ impl<'a> Part<'a> for RawDocument<'a> {
         if slots.version? != version {
             return None;
         }
-        match (slots.top, slots.links, slots.groups, slots.reporters, slots.script) {
+        match (
+            slots.top,
+            slots.links,
+            slots.groups,
+            slots.reporters,
+            slots.script,
+        ) {
             (Some(top), Some(links), Some(groups), Some(reporters), Some(script)) => {
                 let closings = slots.closings.unwrap_or(Vec::new(alloc));
                 Some(RawDocument {

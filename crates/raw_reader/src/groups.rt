@@ -195,7 +195,13 @@ impl<'a> Part<'a> for RawGroup<'a> {
             users: None,
         };
         fill_slots(&mut slots, alloc, version, reader, depth)?;
-        match (slots.name, slots.from, slots.to, slots.path_groups, slots.users) {
+        match (
+            slots.name,
+            slots.from,
+            slots.to,
+            slots.path_groups,
+            slots.users,
+        ) {
             (Some(name), Some(from), Some(to), Some(path_groups), Some(users)) => Some(RawGroup {
                 name,
                 from,

@@ -1,4 +1,4 @@
-use Rattle.std.proofs.Common.{◌≡◌, ◌+◌, ◌<◌, ℕ, length, map, ap, ◌∙◌, arith}
+use Rattle.std.proofs.Common.{◌≡◌, ◌<◌, ℕ, length, ap, ◌∙◌, arith}
 use Rattle.policy_tree.specs.Numbering.{numbered_clusters}
 use Rattle.policy_tree.specs.Trees.{task_numbers}
 use Rattle.policy_tree.specs.Walk.{walk}

@@ -1,4 +1,4 @@
-use Rattle.std.proofs.Common.{◌≡◌, ℕ, List, Some, Result, Ok, sym, subst}
+use Rattle.std.proofs.Common.{◌≡◌, ℕ, List, Some, Ok, subst}
 use Rattle.serde_json.specs.Data.{Data}
 use Rattle.raw_document.specs.Forms.{document_at}
 use Rattle.raw_document.specs.Json.{json}

@@ -1,4 +1,4 @@
-use Rattle.std.proofs.Common.{Option, Some, Err, [], ap, ◌∙◌, option_map}
+use Rattle.std.proofs.Common.{Err, [], ap, ◌∙◌, option_map}
 use Rattle.bw_function.specs.declared.fault.FunctionFault.{FunctionFault}
 use Rattle.plan_doc.specs.Functions.{RefusedFunction}
 use Rattle.plan_doc.proofs.functions.function_here.Goals as goal

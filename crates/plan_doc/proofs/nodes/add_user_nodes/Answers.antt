@@ -1,6 +1,6 @@
 use Rattle.std.proofs.Common.{arith, rules}
 use Rattle.std.proofs.lemmas.List.{length-map}
-use Rattle.raw_document.specs.Raw.{user_view, job_view}
+use Rattle.raw_document.specs.Raw.{user_view}
 use Rattle.doc_passes.specs.Counts.{user_nodes}
 use Rattle.doc_passes.proofs.Loops.{sum_later, sum_whole}
 use Rattle.plan_doc.proofs.nodes.add_user_nodes.Goals as goal

@@ -1,4 +1,4 @@
-use Rattle.std.proofs.Common.{◌≡◌, ℕ, ◌+◌, arith, rules}
+use Rattle.std.proofs.Common.{◌≡◌, ℕ, ◌+◌, arith}
 use Rattle.raw_document.specs.Raw.{group_view}
 use Rattle.doc_passes.specs.Counts.{group_nodes}
 use Rattle.doc_passes.proofs.Loops.{sum_later, sum_whole}
