@@ -22,6 +22,3 @@ pub use sure::{SureSink, SureSource};
 /// A read or a write failed. The count of the source or sink has risen.
 #[derive(Clone, Copy, Debug, PartialEq, Eq, Drop)]
 pub struct Failed;
-
-#[cfg(test)]
-mod tests;

@@ -15,8 +15,6 @@ use std::alloc::Global;
 
 mod matches;
 mod number;
-#[cfg(test)]
-mod tests;
 
 /// The line for words that are no command line.
 pub const USAGE: &str =

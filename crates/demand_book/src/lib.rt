@@ -9,8 +9,6 @@ mod book;
 mod maker;
 mod posted;
 mod small;
-#[cfg(test)]
-mod tests;
 mod told;
 
 pub use book::{BookError, DemandBook};

@@ -12,6 +12,3 @@ mod table;
 pub use change::TableChange;
 pub use line::{GroupLine, PlaceLine};
 pub use table::{LimitTable, TableFrame};
-
-#[cfg(test)]
-mod tests;

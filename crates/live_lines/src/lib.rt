@@ -11,8 +11,6 @@ mod cutter;
 mod known;
 mod laws;
 mod line;
-#[cfg(test)]
-mod tests;
 
 pub use cutter::{LineCutter, MAX_LINE};
 pub use known::Known;

@@ -18,6 +18,3 @@ mod served;
 pub use ending::Stop;
 pub use follower::{Follower, Opened};
 pub use served::serve;
-
-#[cfg(test)]
-mod tests;

@@ -10,8 +10,6 @@
 mod answer;
 mod laws;
 mod session;
-#[cfg(test)]
-mod tests;
 
 pub use laws::{
     kept_tables, never_back, posts_alone, printed_snapshot, refused_lines_are_no_reports,

@@ -16,6 +16,3 @@ pub use event::Event;
 pub use memory::MemoryStream;
 pub use standard::StdStream;
 pub use stream::Stream;
-
-#[cfg(test)]
-mod tests;

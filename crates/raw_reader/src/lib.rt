@@ -13,6 +13,3 @@ mod tasks;
 mod values;
 
 pub use document::read_straight;
-
-#[cfg(test)]
-mod tests;

@@ -7,7 +7,5 @@
 mod reader;
 mod report;
 mod run;
-#[cfg(test)]
-mod tests;
 
 pub use run::run_text;

@@ -14,8 +14,6 @@ mod check;
 mod levels;
 mod line;
 mod table;
-#[cfg(test)]
-mod tests;
 
 pub use bulk::bulk_text;
 pub use check::check_text;

@@ -20,6 +20,3 @@ pub use lines::Lines;
 pub use names::NameIndex;
 pub use numbers::{amount_in_range, is_number, number_of, printed_number_of};
 pub use words::Words;
-
-#[cfg(test)]
-mod tests;

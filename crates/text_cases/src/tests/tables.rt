@@ -1,7 +1,9 @@
+//! A table that is kept up to date.
+
 ghost use Rattle.std.specs.Prelude.{◌≡◌, [], ◌∷◌, IfOk};
 ghost use Rattle.bwe_specs.specs.Allocation.{Table};
 
-use super::*;
+use limit_table::LimitTable;
 use bwe_specs::OutOfMemory;
 use demand_book::Posted;
 use std::alloc::Global;

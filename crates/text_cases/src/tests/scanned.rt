@@ -1,4 +1,6 @@
-use super::{Lines, NameIndex, Words, cut_at, is_number, number_of, printed_number_of};
+//! Numbers, words and names in bytes.
+
+use text_scan::{Lines, NameIndex, Words, cut_at, is_number, number_of, printed_number_of};
 use bwe_specs::OutOfMemory;
 
 // Leading zeros count among the 20 digits; 64 bits hold 18,446,744,073,709,551,615.

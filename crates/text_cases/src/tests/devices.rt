@@ -1,4 +1,9 @@
-use super::*;
+//! Reading and writing by devices in memory that fail.
+
+use bwe_io::{
+    Failed, MemorySink, MemorySource, ReadError, Sink, StdSink, StdSource, SureSink, SureSource,
+    WriteFault, read_all, write_all,
+};
 use std::io::Cursor;
 use std::test::Fail;
 

@@ -1,4 +1,6 @@
-use super::*;
+//! What passes a stream, by devices in memory.
+
+use live_stream::{Event, MemoryStream, StdStream, Stream};
 use bwe_io::Failed;
 use std::io::Cursor;
 use std::test::Fail;

@@ -1,4 +1,6 @@
-use super::{bulk_text, check_text, levels_text, table_text};
+//! Texts of tables, summaries and causes, as bytes.
+
+use table_text::{bulk_text, check_text, levels_text, table_text};
 use bwe_specs::{Cause, Closing, OutOfMemory, Verdict};
 use doc_names::Names;
 use limit_table::{GroupLine, LimitTable, PlaceLine};

@@ -1,8 +1,10 @@
+//! A book of reports at its limit, and a small maker.
+
 ghost use Rattle.std.specs.Prelude.{◌≡◌, ◌<◌, ◌≤◌, ◌+◌, ◌^◌, [], ℕ, length, List, IfOk};
 ghost use Rattle.bwe_specs.specs.declared.report.Report.{Report};
 ghost use Rattle.demand_book.specs.Fit.{IsFit};
 
-use crate::*;
+use demand_book::{BookError, DemandBook, Maker, Posted, Report, SmallMaker, Target};
 use bwe_specs::{MAX_AMOUNT, MAX_REPORTS, OutOfMemory};
 use std::alloc::Global;
 use std::test::Fail;

@@ -1,4 +1,6 @@
-use super::*;
+//! A text that is read from its tokens.
+
+use raw_reader::read_straight;
 use json::Scratch;
 
 // Each member that a document may have.

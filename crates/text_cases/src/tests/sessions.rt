@@ -1,4 +1,6 @@
-use super::*;
+//! Lines and their answers over one document.
+
+use live_session::{LiveSession, OpenedSession};
 use std::test::Fail;
 
 // The document of the case "Shared link".

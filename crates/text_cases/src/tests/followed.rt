@@ -1,6 +1,8 @@
+//! Answers are written before the next byte is asked for.
+
 ghost use Rattle.std.specs.Prelude.{true, [], unwrap_or};
 
-use super::*;
+use live_run::{Follower, Opened, serve};
 use bwe_specs::OutOfMemory;
 use live_stream::{Event, MemoryStream};
 use std::alloc::Global;

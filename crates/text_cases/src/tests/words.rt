@@ -1,4 +1,6 @@
-use super::{CommandLine, USAGE, command_line_of_words};
+//! Words that are lines, and words that are none.
+
+use command_line::{CommandLine, USAGE, command_line_of_words};
 use bwe_specs::OutOfMemory;
 
 fn words(rt: &HostRuntime, texts: &[&str]) -> Result<Vec<String>, OutOfMemory> {

@@ -1,4 +1,6 @@
-use super::{Known, LineCause, LineCutter, LineMeaning, MAX_LINE};
+//! Lines of reports, what they mean, and the first cause against them.
+
+use live_lines::{Known, LineCause, LineCutter, LineMeaning, MAX_LINE};
 use bwe_specs::{MAX_AMOUNT, OutOfMemory, Report, Target};
 use doc_names::Names;
 

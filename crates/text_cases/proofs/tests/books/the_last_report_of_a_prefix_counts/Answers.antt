@@ -1,6 +1,6 @@
 use Rattle.std.proofs.Common.{◌≡◌, ◌<◌, length, arith, ap, ◌∙◌, lit<, ℕ, List}
 use Rattle.demand_book.specs.Book.{Book}
-use Rattle.demand_book.proofs.tests.the_last_report_of_a_prefix_counts.Goals as goal
+use Rattle.text_cases.proofs.tests.books.the_last_report_of_a_prefix_counts.Goals as goal
 
 pub push-requires-2 : goal.push-requires-2
 push-requires-2 g c =

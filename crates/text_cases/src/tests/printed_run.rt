@@ -1,7 +1,9 @@
+//! The text of a run, by hand.
+
 ghost use Rattle.std.specs.Prelude.{◌+◌, ◌<◌, ◌^◌, length, IfOk};
 ghost use Rattle.std.specs.List.{All};
 
-use super::run_text;
+use run_text::run_text;
 use bwe_specs::{Closing, OutOfMemory, Report, Target};
 use crew_log::{CrewLog, ReadLine, ReaderLog};
 use doc_names::Names;

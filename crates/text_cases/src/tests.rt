@@ -1,0 +1,12 @@
+mod books;
+mod devices;
+mod documents;
+mod followed;
+mod lines;
+mod printed;
+mod printed_run;
+mod scanned;
+mod sessions;
+mod streams;
+mod tables;
+mod words;
