@@ -9,11 +9,10 @@ use Rattle.bwe_specs.specs.declared.report.Target.{Target}
 use Rattle.bwe_specs.specs.Allocation.{allocation}
 use Rattle.bwe_specs.specs.TreeFunctions.{AreClusters}
 use Rattle.bwe_specs.specs.Reports.{numbers as numbers_below, reports_of}
-use Rattle.document_run.specs.Runs.{items_of, scripts_of}
-use Rattle.crew.specs.Starting.{AreScripts as AreCrewScripts}
+use Rattle.document_scripts.specs.Scripts.{AreOfReporters, items_of, scripts_of}
 use Rattle.demand_book.specs.Fit.{IsFit}
-use Rattle.document_run.proofs.Owned.{are-scripts, few-scripts, history-table, room-scripts}
-use Rattle.document_run.proofs.Split.{split-count}
+use Rattle.document_scripts.proofs.Owned.{are-scripts, few-scripts, history-table, room-scripts}
+use Rattle.document_scripts.proofs.Split.{split-count}
 use Rattle.limit_table.specs.Tables.{total_of as table_total}
 use Rattle.policy_tree.specs.Trees.{task_numbers}
 use Rattle.policy_tree.specs.Walk.{tree_fault}
@@ -151,7 +150,7 @@ module _ (bytes : List ℕ) (document : code.Document) (usable : IsUsable docume
       few = subst (λ count. count ≤ 200_000) (sym (total_counted scripts)) (room-scripts document usable scripts split);
     }
       where
-        are : AreCrewScripts (tasks_in document) (link_count document) scripts
+        are : AreOfReporters (tasks_in document) (link_count document) scripts
         are = are-scripts document usable scripts split
 
         own_at : (number : ℕ) (other : Vec Report Global) → number < length scripts → All (λ report. (report.reporter ≡ number) × IsFit (tasks_in document) (link_count document) report) (slice_index_or (lists_of scripts) number [])

@@ -6,7 +6,7 @@ use Rattle.bwe_specs.specs.Allocation.{Plan, allocation}
 use Rattle.bwe_specs.specs.Paths.{PathGroups}
 use Rattle.bwe_specs.specs.Tree.{Cluster}
 use Rattle.allocator.specs.Frames.{task_count}
-use Rattle.document_run.specs.Runs.{items_of, scripts_of}
+use Rattle.document_scripts.specs.Scripts.{items_of, scripts_of}
 use Rattle.limit_table.specs.Tables.{total_of}
 use Rattle.plan_doc.specs.declared.document.Document as read
 use Rattle.plan_doc.specs.Accepted.{IsDocumentOf}

@@ -3,7 +3,7 @@ use Rattle.std.specs.Prelude.{◌≡◌, ℕ, List, Vec, Ok}
 use Rattle.std.specs.declared.alloc.Global.{Global}
 use Rattle.bwe_specs.specs.declared.report.Report.{Report}
 use Rattle.bwe_specs.specs.Allocation.{allocation}
-use Rattle.document_run.specs.Runs.{items_of, scripts_of}
+use Rattle.document_scripts.specs.Scripts.{items_of, scripts_of}
 use Rattle.plan_doc.specs.declared.document.Document as read
 use Rattle.plan_doc.specs.Accepted.{IsAccepted, IsDocumentOf}
 use Rattle.plan_doc.specs.Conditions.{IsUsable, link_count, reporter_count, tasks_in}

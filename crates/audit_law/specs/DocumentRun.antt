@@ -4,7 +4,7 @@ use Rattle.std.specs.declared.alloc.Global.{Global}
 use Rattle.bwe_specs.specs.declared.report.Report.{Report}
 use Rattle.bwe_specs.specs.Allocation.{Plan, allocation}
 use Rattle.allocator.specs.Frames.{task_count}
-use Rattle.document_run.specs.Runs.{items_of, scripts_of}
+use Rattle.document_scripts.specs.Scripts.{items_of, scripts_of}
 use Rattle.limit_table.specs.Tables.{total_of}
 use Rattle.plan_doc.specs.Document.{Accepted}
 use Rattle.plan_doc.specs.Plans.{plan_of}

@@ -5,11 +5,9 @@ use Rattle.bwe_specs.specs.declared.limits.TheConstants.{MAX_REPORTS}
 use Rattle.bwe_specs.specs.declared.report.Report.{Report}
 use Rattle.bwe_specs.specs.Allocation.{Plan, Table, allocation}
 use Rattle.allocator.specs.Frames.{task_count}
-use Rattle.crew.specs.Reporters.{scripted}
-use Rattle.crew.specs.Starting.{AreScripts}
 use Rattle.doc_names.specs.declared.Names.{Names}
 use Rattle.audit_law.specs.DocumentRun.{IsDocumentRun, document_verdict, script_verdict}
-use Rattle.document_run.specs.Runs.{items_of, scripts_of}
+use Rattle.document_scripts.specs.Scripts.{AreOfReporters, items_of, reports_in, scripts_of}
 use Rattle.limit_table.specs.Tables as tables
 use Rattle.one_run.specs.Endings.{Reply}
 use Rattle.plan_doc.specs.declared.document.Document.{Document}
@@ -36,13 +34,13 @@ tasks-are accepted document is =
 -- ---- the scripts
 
 module _ (document : Document) (plan : Plan) (same : plan ≡ plan_in document) (scripts : List (Vec Report Global)) where
-  pub are-fit : task_count (plan_in document) ≡ tasks_in document → AreScripts (tasks_in document) (link_count document) scripts → AreFit (task_count plan) (length plan.capacities) scripts
+  pub are-fit : task_count (plan_in document) ≡ tasks_in document → AreOfReporters (tasks_in document) (link_count document) scripts → AreFit (task_count plan) (length plan.capacities) scripts
   are-fit tasks are =
       let fit : AreFit (tasks_in document) (link_count document) scripts = λ number script lt. (are number script lt).1 in
       let counted : AreFit (task_count (plan_in document)) (link_count document) scripts = subst (λ count. AreFit count (link_count document) scripts) (sym tasks) fit in
       subst (λ planned. AreFit (task_count planned) (length planned.capacities) scripts) (sym same) counted
 
-  pub are-few : scripted scripts ≤ MAX_REPORTS → history.total_of (history.scripts_of scripts) ≤ MAX_REPORTS
+  pub are-few : reports_in scripts ≤ MAX_REPORTS → history.total_of (history.scripts_of scripts) ≤ MAX_REPORTS
   are-few few = subst (λ count. count ≤ MAX_REPORTS) (sym (total_counted scripts)) few
 
   -- the verdict is that on a run of the document

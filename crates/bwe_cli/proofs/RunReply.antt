@@ -13,7 +13,7 @@ use Rattle.run_text.specs.RunText.{run_text_of}
 use Rattle.crew_log.specs.LegalCrewLog.{IsClosed}
 use Rattle.audit_law.proofs.DocumentVerdicts as verdicts
 use Rattle.document_run.specs.Runs.{IsRunOf}
-use Rattle.document_run.proofs.Split.{split-count}
+use Rattle.document_scripts.proofs.Split.{split-count}
 use Rattle.plan_doc.specs.Plans.{plan_in, plan_of}
 use Rattle.bwe_cli.specs.RunLine.{IsRunReply}
 

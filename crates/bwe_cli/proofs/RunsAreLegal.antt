@@ -21,10 +21,10 @@ use Rattle.two_part.specs.TwoPart.{IsTwoPart, parts_behind}
 use Rattle.two_part.proofs.PartsFacts.{parts_complete}
 use Rattle.bwe_cli.specs.AuditReply.{IsAuditReply, audit_status}
 use Rattle.bwe_cli.specs.Laws.{RunsAreLegal}
-use Rattle.bwe_cli.specs.Parted.{IsReplyBehind, accepted_parts, document_bytes}
+use Rattle.line_answers.specs.Parted.{IsReplyBehind, accepted_parts, document_bytes}
 use Rattle.bwe_cli.specs.RunLine.{IsRunReply}
 use Rattle.bwe_cli.proofs.Audits.{legal_at-0}
-use Rattle.bwe_cli.proofs.Behind.{accepted_behind}
+use Rattle.line_answers.proofs.Behind.{accepted_behind}
 
 -- ---- the text of a run
 

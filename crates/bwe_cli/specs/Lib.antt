@@ -1,11 +1,5 @@
-pub mod Replies
 pub mod RunLine
-pub mod MadeLines
 pub mod AuditReply
-pub mod Parted
-pub mod EstimateReply
-pub mod TiersReply
-pub mod EnforceReply
 pub mod TopCall
 pub mod Laws
 pub mod Statuses

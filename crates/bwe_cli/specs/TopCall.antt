@@ -4,14 +4,14 @@ use Rattle.command_line.specs.declared.CommandLine.{CommandLine}
 use Rattle.command_line.specs.declared.CommandLine.TheVariants.{Solve, Check, Run, Make, Bulk, Audit, Tiers, Enforce, Estimate, Levels}
 use Rattle.one_run.specs.Endings.{Ending, Reply, Served}
 use Rattle.plan_doc.specs.Document.{document}
-use Rattle.bwe_cli.specs.Replies.{check_accepted, document_reply, levels_accepted, solve_accepted}
+use Rattle.line_answers.specs.Replies.{check_accepted, document_reply, levels_accepted, solve_accepted}
 use Rattle.bwe_cli.specs.RunLine.{IsRunReply}
-use Rattle.bwe_cli.specs.MadeLines.{bulk_reply, make_reply}
-use Rattle.bwe_cli.specs.Parted.{IsReplyBehind, accepted_parts, parts_reply}
+use Rattle.line_answers.specs.MadeLines.{bulk_reply, make_reply}
+use Rattle.line_answers.specs.Parted.{IsReplyBehind, accepted_parts, parts_reply}
 use Rattle.bwe_cli.specs.AuditReply.{IsAuditReply}
-use Rattle.bwe_cli.specs.EnforceReply.{enforce_accepted}
-use Rattle.bwe_cli.specs.EstimateReply.{estimate_accepted}
-use Rattle.bwe_cli.specs.TiersReply.{tiers_accepted}
+use Rattle.line_answers.specs.EnforceReply.{enforce_accepted}
+use Rattle.line_answers.specs.EstimateReply.{estimate_accepted}
+use Rattle.line_answers.specs.TiersReply.{tiers_accepted}
 
 -- what a line may get for its input: of all lines but `run` it is determined. Of `audit` it is said besides that status 0
 -- comes exactly where the text is that of a closed legal run of the document.

@@ -5,17 +5,11 @@ ghost use Rattle.command_line.specs.Ranges.{IsInRange};
 ghost use Rattle.bwe_cli.specs.TopCall.{needs_threads, replies};
 
 use crate::audit::audit;
-use crate::check::check;
-use crate::enforce::enforce;
-use crate::estimate::estimate;
-use crate::levels::{levels, levels_on_threads};
-use crate::made::{bulk, make};
 use crate::run::run;
-use crate::solve::solve;
-use crate::tiers_line::tiers;
 use bwe_specs::OutOfMemory;
 use command_line::CommandLine;
 use crew_actors::Gate;
+use line_answers::{bulk, check, enforce, estimate, levels, levels_on_threads, make, solve, tiers};
 use one_run::Answer;
 use std::alloc::Global;
 use std::sync::Wait;

@@ -13,20 +13,10 @@ ghost use Rattle.bwe_cli.specs.TopCall.{IsServed, needs_threads, of_one_thread};
 
 mod answers;
 mod audit;
-mod check;
-mod enforce;
-mod estimate;
 mod laws;
-mod levels;
-mod made;
-mod opened;
-mod parted;
 mod reading;
-mod refused;
 mod rewound;
 mod run;
-mod solve;
-mod tiers_line;
 
 use answers::{answer, answer_in_turn};
 use bwe_io::{Sink, Source};

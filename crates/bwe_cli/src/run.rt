@@ -4,10 +4,10 @@ ghost use Rattle.std.specs.Prelude.{◌≤◌, IfOk};
 ghost use Rattle.plan_doc.specs.Document.{document as document_of};
 ghost use Rattle.bwe_cli.specs.RunLine.{IsRunReply};
 
-use crate::refused::refused;
 use bwe_specs::{MAX_READERS, OutOfMemory};
 use crew_actors::Gate;
 use document_run::run_document;
+use line_answers::refused;
 use one_run::Answer;
 use plan_doc::read_document;
 use run_text::run_text;

@@ -1,20 +1,13 @@
 -- A run of a document: what its log is.
-use Rattle.std.specs.Prelude.{◌≡◌, ℕ, List, Vec, length, map}
+use Rattle.std.specs.Prelude.{◌≡◌, ℕ, List, Vec, length}
 use Rattle.std.specs.declared.alloc.Global.{Global}
 use Rattle.bwe_specs.specs.declared.report.Report.{Report}
-use Rattle.bwe_specs.specs.Reports.{numbers, reports_of}
 use Rattle.bwe_specs.specs.Allocation.{Plan, Table, allocation}
 use Rattle.limit_table.specs.Tables.{total_of}
 use Rattle.allocator.specs.Frames.{task_count}
 use Rattle.crew_log.specs.declared.log.CrewLog.{CrewLog}
 use Rattle.crew_log.specs.LegalCrewLog.{IsLegalCrewLog}
-
--- the script split by reporter: those of each number, in the script's order
-abbrev pub scripts_of : ℕ → List Report → List (List Report)
-scripts_of reporters script = map (λ number. reports_of number script) (numbers reporters)
-
-abbrev pub items_of : List (Vec Report Global) → List (List Report)
-items_of scripts = map (λ script. script.items) scripts
+use Rattle.document_scripts.specs.Scripts.{items_of, scripts_of}
 
 -- the log is a legal crew log for the script split by reporter, under the allocations of the plan, and its table is that of the script
 pub record IsRunOf (plan : Plan) (script : List Report) (reporters readers reads : ℕ) (log : CrewLog Table) : Type 0 where

@@ -5,12 +5,12 @@ ghost use Rattle.plan_doc.specs.Conditions.{IsUsable, reporter_count};
 ghost use Rattle.crew_log.specs.LegalCrewLog.{IsClosed};
 ghost use Rattle.document_run.specs.Runs.{IsRunOf};
 
-use crate::scripts::scripts_of_document;
 use allocator::Allocator;
 use bwe_specs::OutOfMemory;
 use crew::run_crew;
 use crew_actors::Gate;
 use crew_log::CrewLog;
+use document_scripts::scripts_of_document;
 use limit_table::LimitTable;
 use plan_doc::{Document, Names};
 use std::alloc::Global;

@@ -2,9 +2,9 @@ use Rattle.std.proofs.Common.{◌∙◌, sym, subst}
 use Rattle.std.proofs.lemmas.Result.{IfOk-weaker}
 use Rattle.audit_law.specs.DocumentLaws.{IsRead}
 use Rattle.audit_law.proofs.DocumentLaw.{document-run-legal, legal-document-run}
-use Rattle.bwe_cli.specs.declared.parted.Parted.TheVariants.{Read}
+use Rattle.line_answers.specs.declared.parted.Parted.TheVariants.{Read}
 use Rattle.bwe_cli.specs.AuditReply.{IsAuditReply}
-use Rattle.bwe_cli.specs.Parted.{AreRead, IsReplyBehind, accepted_parts}
+use Rattle.line_answers.specs.Parted.{AreRead, IsReplyBehind, accepted_parts}
 use Rattle.bwe_cli.proofs.Audits.{audit-says, reply-parts, tasks-are}
 use Rattle.bwe_cli.proofs.audit.audit.Goals as goal
 

@@ -3,18 +3,18 @@ use Rattle.bwe_specs.specs.Allocation.{allocation}
 use Rattle.limit_table.specs.Tables.{total_of}
 use Rattle.allocator.specs.Frames.{task_count}
 use Rattle.crew_log.specs.LegalCrewLog.{IsLegalCrewLog}
-use Rattle.crew.specs.Starting.{AreScripts}
 use Rattle.policy_tree.specs.Trees.{task_numbers}
 use Rattle.plan_doc.specs.Conditions.{link_count}
-use Rattle.document_run.proofs.Owned.{run-is}
+use Rattle.document_scripts.specs.Scripts.{AreOfReporters}
+use Rattle.document_run.proofs.Legal.{run-is}
 use Rattle.document_run.proofs.run.run_document.Goals as goal
 
 pub run_crew-requires-clause-scripts : goal.run_crew-requires-clause-scripts
 run_crew-requires-clause-scripts g c lifetimes within =
     let scripts = c.in_ok-scripts.scripts.items in
-    let counted : AreScripts (length (task_numbers c.args.document.tree.clusters)) (link_count c.args.document) scripts =
-    subst (λ tasks. AreScripts tasks (link_count c.args.document) scripts) (sym c.new-allocator.ensures.tasks) c.in_ok-scripts.ensures.scripts in
-    let planned = subst (λ plan. AreScripts (task_count plan) (length plan.capacities) scripts) (sym c.new-allocator.ensures.plan) counted in
+    let counted : AreOfReporters (length (task_numbers c.args.document.tree.clusters)) (link_count c.args.document) scripts =
+    subst (λ tasks. AreOfReporters tasks (link_count c.args.document) scripts) (sym c.new-allocator.ensures.tasks) c.in_ok-scripts.ensures.scripts in
+    let planned = subst (λ plan. AreOfReporters (task_count plan) (length plan.capacities) scripts) (sym c.new-allocator.ensures.plan) counted in
     rw (c.deref.ensures.value) planned
 
 pub returns-clause-log : goal.returns-clause-log

@@ -1,0 +1,3 @@
+mod Together
+pub mod Behind
+mod Tiered

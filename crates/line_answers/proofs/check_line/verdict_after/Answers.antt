@@ -1,0 +1,12 @@
+use Rattle.std.proofs.Common.{ap, ◌∙◌}
+use Rattle.std.proofs.lemmas.Result.{IfOk-weaker}
+use Rattle.bwe_specs.specs.RightClosings.{verdict}
+use Rattle.allocator.proofs.Fitted.{wan-after}
+use Rattle.line_answers.proofs.check_line.verdict_after.Goals as goal
+
+pub returns : goal.returns
+returns c =
+    let reported = c.args.allocator.now.reported in
+    let groups = c.args.allocator.now.groups in
+    let judged = rw (c.values-values.ensures, c.plan-plan.ensures.same, c.topology.ensures) at c.check.ensures.verdict in
+    IfOk-weaker c.check.result _ _ (λ found e. λ script after. e ∙ ap (λ wan. verdict wan c.args.closings.now) (wan-after reported groups script after)) judged

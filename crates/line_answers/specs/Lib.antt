@@ -1,0 +1,6 @@
+pub mod Replies
+pub mod MadeLines
+pub mod Parted
+pub mod EstimateReply
+pub mod TiersReply
+pub mod EnforceReply

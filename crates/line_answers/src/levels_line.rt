@@ -1,0 +1,132 @@
+//! The line `levels`.
+
+ghost use Rattle.std.specs.Prelude.{◌≡◌, ◌≤◌, ℕ, IfOk};
+ghost use Rattle.bwe_specs.specs.Reports.{demand_after};
+ghost use Rattle.parallel_values.specs.Levels.{levels_in};
+ghost use Rattle.plan_doc.specs.Conditions.{IsUsable};
+ghost use Rattle.policy_tree.specs.Trees.{demand_in};
+ghost use Rattle.doc_names.specs.NameTexts.{texts_of};
+ghost use Rattle.line_answers.specs.Replies.{document_reply, levels_accepted, levels_reply, values_reply};
+
+use crate::opened::{Opened, open_after_script};
+use crate::refusal::refused;
+use bwe_specs::OutOfMemory;
+use doc_names::Names;
+use one_run::Answer;
+use parallel_values::values_at;
+use plan_doc::{Document, read_document};
+use policy_tree::PolicyTree;
+use std::alloc::Global;
+use std::thread::Threads;
+use table_text::levels_text;
+
+/// What the line writes for its input, of values that are asked of one group after the other.
+pub fn levels(alloc: Global, share: u64, input: &[u8]) -> Result<Answer, OutOfMemory>
+    ensures { IfOk result (λ answer. answer ≡ document_reply (levels_accepted share) input.now) }
+{
+    match read_document(alloc, input) {
+        Ok(document) => document_levels(alloc, share, document),
+        Err(error) => refused(alloc, &error),
+    }
+}
+
+// What each group may have at the share after the document's script.
+fn document_levels(alloc: Global, share: u64, document: Document) -> Result<Answer, OutOfMemory>
+    requires { IsUsable document }
+    ensures { IfOk result (λ answer. answer
+        ≡ levels_reply share (texts_of document.names) document.tree.top (demand_after document.script.items) document.tree.clusters) }
+{
+    let opened = open_after_script(alloc, document)?;
+    opened_levels(alloc, share, &opened)
+}
+
+// What each group may have at the share under the demands of the allocator's tree.
+fn opened_levels(alloc: Global, share: u64, opened: &Opened) -> Result<Answer, OutOfMemory>
+    ensures { IfOk result (λ answer. answer
+        ≡ levels_reply share (texts_of opened.now.names) opened.now.allocator.reported.tree.top
+        (demand_in opened.now.allocator.reported.tree) opened.now.allocator.reported.tree.clusters) }
+{
+    let tree = opened.allocator.values().tree;
+    let share = share.min(tree.top());
+    let values = values_in_turn(alloc, tree, share)?;
+    levels_answer(alloc, tree, share, &values, &opened.names)
+}
+
+/// What the line writes for its input, of values that are worked out on threads.
+pub fn levels_on_threads<R: Threads + Sync>(
+    rt: &R,
+    alloc: Global,
+    share: u64,
+    input: &[u8],
+) -> Result<Answer, OutOfMemory>
+    ensures { IfOk result (λ answer. answer ≡ document_reply (levels_accepted share) input.now) }
+{
+    match read_document(alloc, input) {
+        Ok(document) => document_levels_on_threads(rt, alloc, share, document),
+        Err(error) => refused(alloc, &error),
+    }
+}
+
+// The answer of `levels`, of values that are worked out on threads.
+fn document_levels_on_threads<R: Threads + Sync>(
+    rt: &R,
+    alloc: Global,
+    share: u64,
+    document: Document,
+) -> Result<Answer, OutOfMemory>
+    requires { IsUsable document }
+    ensures { IfOk result (λ answer. answer
+        ≡ levels_reply share (texts_of document.names) document.tree.top (demand_after document.script.items) document.tree.clusters) }
+{
+    let opened = open_after_script(alloc, document)?;
+    opened_levels_on_threads(rt, alloc, share, &opened)
+}
+
+// The same, by `values_at`.
+fn opened_levels_on_threads<R: Threads + Sync>(
+    rt: &R,
+    alloc: Global,
+    share: u64,
+    opened: &Opened,
+) -> Result<Answer, OutOfMemory>
+    ensures { IfOk result (λ answer. answer
+        ≡ levels_reply share (texts_of opened.now.names) opened.now.allocator.reported.tree.top
+        (demand_in opened.now.allocator.reported.tree) opened.now.allocator.reported.tree.clusters) }
+{
+    let tree = opened.allocator.values().tree;
+    let share = share.min(tree.top());
+    let values = values_at(rt, alloc, tree, share)?;
+    levels_answer(alloc, tree, share, &values, &opened.names)
+}
+
+// What each group may have at the share.
+fn values_in_turn(alloc: Global, tree: &PolicyTree, share: u64) -> Result<Vec<u64>, OutOfMemory>
+    ensures { IfOk result (λ values. values.items ≡ levels_in tree.now share) }
+{
+    let mut values = Vec::new(alloc);
+    for group in 0..tree.groups() {
+        values.push(tree.group_value(group, share))?;
+    }
+    Ok(values)
+}
+
+// The text of the values of a tree's groups at a share.
+fn levels_answer(
+    alloc: Global,
+    tree: &PolicyTree,
+    share: u64,
+    values: &[u64],
+    names: &Names,
+) -> Result<Answer, OutOfMemory>
+    requires share { share ≤ tree.now.top }
+    requires values { values.now ≡ levels_in tree.now share }
+    ensures { IfOk result (λ answer. answer
+        ≡ values_reply (texts_of names.now) share (levels_in tree.now share)) }
+{
+    // Who asks a tree for these learns that it has few groups, and values that can be added up.
+    let (_groups, _top) = (tree.groups(), tree.top());
+    Ok(Answer {
+        status: 0,
+        text: levels_text(alloc, share, values, names)?,
+    })
+}

@@ -1,0 +1,28 @@
+//! What each line of the program writes for its input, but for `run` and `audit`, which stand above.
+//!
+//! The top call makes a whole answer by one of these, and then writes it. A document is read and
+//! taken apart here for the lines above too: `open`, `read_parts`, `refused`. The contract of each
+//! says the one reply that an input has. Nothing is promised of time, nor that memory is there.
+#![tactic(auto)]
+
+mod check_line;
+mod enforce_line;
+mod estimate_line;
+mod levels_line;
+mod made;
+mod opened;
+mod parted;
+mod refusal;
+mod solve_line;
+mod tiers_line;
+
+pub use check_line::check;
+pub use enforce_line::enforce;
+pub use estimate_line::estimate;
+pub use levels_line::{levels, levels_on_threads};
+pub use made::{bulk, make};
+pub use opened::{Opened, open};
+pub use parted::{Parted, read_parts};
+pub use refusal::refused;
+pub use solve_line::solve;
+pub use tiers_line::tiers;

@@ -1,0 +1,19 @@
+//! The line of a refused document.
+
+ghost use Rattle.std.specs.Prelude.{◌≡◌, Some, IfOk};
+ghost use Rattle.plan_doc.specs.RefusalLines.{error_line};
+
+use bwe_specs::OutOfMemory;
+use one_run::Answer;
+use plan_doc::{DocError, refusal_line};
+use std::alloc::Global;
+
+/// The one line of a refused document, with status 3.
+pub fn refused(alloc: Global, error: &DocError) -> Result<Answer, OutOfMemory>
+    ensures { IfOk result (λ answer. (answer.status ≡ 3) × (error_line error.now ≡ Some answer.text)) }
+{
+    Ok(Answer {
+        status: 3,
+        text: refusal_line(alloc, error)?,
+    })
+}

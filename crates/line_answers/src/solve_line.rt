@@ -1,0 +1,52 @@
+//! The line `solve`.
+
+ghost use Rattle.std.specs.Prelude.{◌≡◌, List, IfOk};
+ghost use Rattle.bwe_specs.specs.declared.report.Report.{Report};
+ghost use Rattle.doc_names.specs.NameTexts.{texts_of};
+ghost use Rattle.plan_doc.specs.Conditions.{IsUsable};
+ghost use Rattle.plan_doc.specs.Plans.{plan_in};
+ghost use Rattle.line_answers.specs.Replies.{document_reply, solve_accepted, table_reply};
+
+use crate::opened::{Opened, open_after_script};
+use crate::refusal::refused;
+use allocator::Allocator;
+use bwe_specs::OutOfMemory;
+use demand_book::Maker;
+use one_run::Answer;
+use plan_doc::{Document, read_document};
+use std::alloc::Global;
+use table_text::table_text;
+
+/// What the line writes for its input.
+pub fn solve(alloc: Global, input: &[u8]) -> Result<Answer, OutOfMemory>
+    ensures { IfOk result (λ answer. answer ≡ document_reply solve_accepted input.now) }
+{
+    match read_document(alloc, input) {
+        Ok(document) => solve_document(alloc, document),
+        Err(error) => refused(alloc, &error),
+    }
+}
+
+/// The table of the document's script.
+pub(crate) fn solve_document(alloc: Global, document: Document) -> Result<Answer, OutOfMemory>
+    requires { IsUsable document }
+    ensures { IfOk result (λ answer. answer
+        ≡ table_reply (texts_of document.names) (plan_in document) document.script.items) }
+{
+    let mut opened = open_after_script(alloc, document)?;
+    solve_opened(alloc, &mut opened)
+}
+
+// The table of what a document's allocator has taken in.
+fn solve_opened(alloc: Global, opened: &mut Opened) -> Result<Answer, OutOfMemory>
+    ensures { IfOk result (λ answer. (script : List Report)
+        → ⟦<Allocator as Maker>⟧.absorbed opened.old.allocator script
+        → answer ≡ table_reply (texts_of opened.old.names)
+        (⟦<Allocator as Maker>⟧.plan opened.old.allocator) script) }
+{
+    let table = opened.allocator.table(alloc)?;
+    Ok(Answer {
+        status: 0,
+        text: table_text(alloc, &table, &opened.names)?,
+    })
+}
