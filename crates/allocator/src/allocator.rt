@@ -1,6 +1,6 @@
 //! The allocator.
 
-ghost use Rattle.std.specs.Prelude.{◌≡◌, ◌<◌, ◌++◌, ◌∷◌, [], List, length, replicate, OnOk, OnErr};
+ghost use Rattle.std.specs.Prelude.{◌≡◌, ◌^◌, ◌<◌, ◌++◌, ◌∷◌, [], List, length, replicate, OnOk, OnErr};
 ghost use Rattle.bwe_specs.specs.declared.report.Report.{Report};
 ghost use Rattle.demand_book.specs.Fit.{IsFit};
 ghost use Rattle.path_groups.specs.Plan.{IsBuiltOn};
@@ -66,6 +66,13 @@ impl Allocator {
             reported: Reported::new(tree, topology),
             plan,
         }
+    }
+
+    /// Does nothing. Who calls it knows that 32 bits number the tasks.
+    pub fn what_holds(&self)
+        ensures { ⟦<Allocator as Maker>⟧.plan_tasks (⟦<Allocator as Maker>⟧.plan self.now) < 2 ^ 32 }
+    {
+        let _tasks = self.tasks();
     }
 
     /// Takes in a report behind however many, as `absorb` does behind fewer than `MAX_REPORTS`.

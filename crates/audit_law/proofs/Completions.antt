@@ -31,7 +31,8 @@ use Rattle.audit_law.specs.ClosedRun.{AreNames, AreScripts, IsInterleaving}
 use Rattle.audit_law.specs.FirstFault.{IsNoRead}
 use Rattle.audit_law.proofs.Lines.{spaced}
 use Rattle.audit_law.proofs.LineForms.{history_line}
-use Rattle.audit_law.proofs.Histories.{Begin, HasTaken, IsTaken, all_taken, begin_more, begin_none, history_length, history_taken, line_read, lines_full, lines_next, report_lines, taken_more, taken_none}
+use Rattle.run_audit.proofs.Takes.{lines_full}
+use Rattle.audit_law.proofs.Histories.{Begin, HasTaken, IsTaken, all_taken, begin_more, begin_none, history_length, history_taken, line_read, lines_next, report_lines, taken_more, taken_none}
 use Rattle.audit_law.proofs.Laters.{goes-on, laters}
 use Rattle.audit_law.proofs.Steps.{IsLegalFrom, IsTable, all_sent, due_some, sent_lines, step_on, table_next, table_on}
 use Rattle.audit_law.proofs.Blocks.{IsRight}

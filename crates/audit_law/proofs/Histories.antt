@@ -19,6 +19,7 @@ use Rattle.run_audit.specs.History.{Printed, Reported, begins, continue_with, fa
 use Rattle.run_audit.specs.declared.forms.ReportWords.{ReportWords}
 use Rattle.run_audit.specs.declared.verdict.Fault.{Fault}
 use Rattle.run_audit.specs.declared.verdict.AuditCause.TheVariants.{Form, Script}
+use Rattle.run_audit.proofs.Takes.{lines_full}
 use Rattle.audit_law.specs.ClosedRun.{AreNames, AreScripts, IsInterleaving}
 use Rattle.audit_law.proofs.Lines.{spaced, spaced_words}
 use Rattle.audit_law.proofs.LineForms.{IsNamed, history_line, history_printed, history_read, own_target, report_line, report_printed, report_read}
@@ -168,15 +169,6 @@ reports-split number done later report own =
 All-drop-append : (P : Report → Type 0) (front later : List Report) → All P (front ++ later) → All P later
 All-drop-append P [] later all = all
 All-drop-append P (first ∷ front) later all = All-drop-append P front later (All-tail P first (front ++ later) all)
-
--- as many reports as the scripts have
-pub lines_full : (names : NameTexts) (scripts : List (List Report)) (printed : Printed) (lines : List (List ℕ)) → total_of scripts ≤ length printed.reports
-    → take_lines names scripts printed lines ≡ Ok (record { reports = printed.reports; lines = lines })
-unfolding take_lines
-lines_full names scripts printed [] full =
-    ap (λ (b : Bool). cond {A = Result Reported Fault} b (fault (line_after printed) Form) (Ok (record { reports = printed.reports; lines = [] }))) (le-ltb (length printed.reports) (total_of scripts) full)
-lines_full names scripts printed (line ∷ lines) full =
-    ap (λ (b : Bool). cond {A = Result Reported Fault} b (continue_with (λ next. take_lines names scripts next lines) (take_line names scripts printed line)) (Ok (record { reports = printed.reports; lines = line ∷ lines }))) (le-ltb (length printed.reports) (total_of scripts) full)
 
 pub lines_next : (names : NameTexts) (scripts : List (List Report)) (printed next : Printed) (line : List ℕ) (lines : List (List ℕ)) → length printed.reports < total_of scripts
     → take_line names scripts printed line ≡ Ok next → take_lines names scripts printed (line ∷ lines) ≡ take_lines names scripts next lines

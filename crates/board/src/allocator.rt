@@ -1,3 +1,5 @@
+//! The allocator's pass.
+
 ghost use Rattle.std.specs.Prelude.{◌≡◌, ◌+◌, ◌-◌, ◌^◌, min};
 
 use board_log::Bases;

@@ -1,3 +1,5 @@
+//! A board whose log has ended.
+
 use crate::reporter::ReporterPass;
 use board_log::Bases;
 use board_pair::FinalAck;

@@ -1,3 +1,5 @@
+//! Why a board takes no reports.
+
 use bwe_specs::OutOfMemory;
 use std::alloc::AllocError;
 use thiserror::Error;

@@ -1,3 +1,5 @@
+//! Boards and runs over small makers.
+
 ghost use Rattle.std.specs.Prelude.{◌≡◌, ◌≤◌};
 
 mod balky;

@@ -1,3 +1,5 @@
+//! What happens to a board, and what it answers.
+
 ghost use Rattle.std.specs.Prelude.{◌≡◌};
 ghost use Rattle.board_core.specs.declared.event.CoreError.TheVariants.{OutOfMemory};
 

@@ -1,3 +1,5 @@
+//! The law of what a board has answered.
+
 ghost use Rattle.board_core.specs.Laws.{CoreHistoryLaw};
 
 /// What a reader is answered never falls, each total is that of the table of the seen prefix of the

@@ -1,3 +1,5 @@
+//! Reports that are made at once.
+
 ghost use Rattle.std.specs.Prelude.{◌≡◌, ◌^◌, ◌<◌, length};
 
 use demand_book::Report;

@@ -1,3 +1,5 @@
+//! The history and the roll of a board, by a name.
+
 use std::marker::Brand;
 
 /// Which history and which roll a board stands on. Each call of a program picks them.

@@ -1,3 +1,5 @@
+//! Acknowledgements, each of a posted table.
+
 ghost use Rattle.std.specs.Prelude.{◌≡◌, length, take};
 ghost use mathlib.Core.List.{IsPrefix};
 

@@ -1,3 +1,5 @@
+//! The plan of a board's tables, by a name.
+
 use std::marker::Brand;
 
 /// Which plan a board's tables are of, and which reports may stand in its log. Each call of a

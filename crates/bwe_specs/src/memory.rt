@@ -1,3 +1,5 @@
+//! The one answer that memory was wanting.
+
 use std::alloc::{AllocError, AllocFailed};
 use thiserror::Error;
 

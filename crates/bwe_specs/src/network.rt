@@ -1,3 +1,5 @@
+//! Closings of links, and what is not right about a list of them.
+
 /// A link that was closed, and the share at which it was.
 #[derive(Clone, Copy, Debug, PartialEq, Eq, Drop)]
 pub struct Closing {

@@ -1,3 +1,5 @@
+//! Reports: what tasks ask for, and what links can carry.
+
 /// What a report is of: a task's demand, or a link's capacity.
 #[derive(Clone, Copy, Debug, PartialEq, Eq, Drop)]
 pub enum Target {

@@ -1,3 +1,5 @@
+//! Who takes part in a run, and the gate round each call.
+
 use board::{Bases, Profile, View};
 use demand_book::Posted;
 

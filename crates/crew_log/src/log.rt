@@ -1,3 +1,5 @@
+//! What a run leaves behind: reads, readers and the whole log.
+
 use bwe_specs::Report;
 
 /// One read of a reader: its floor before, how many reports the table covers that it was shown, and

@@ -73,8 +73,7 @@ fn play(
         task_owners,
         ..
     } = open(document);
-    // Who asks a maker for its number of tasks learns that they can be numbered.
-    let _tasks = allocator.tasks();
+    allocator.what_holds();
     Ok(Answer {
         status: 0,
         text: enforce_run::enforce(

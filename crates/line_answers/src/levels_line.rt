@@ -123,8 +123,7 @@ fn levels_answer(
     ensures { IfOk result (λ answer. answer
         ≡ values_reply (texts_of names.now) share (levels_in tree.now share)) }
 {
-    // Who asks a tree for these learns that it has few groups, and values that can be added up.
-    let (_groups, _top) = (tree.groups(), tree.top());
+    tree.what_holds();
     Ok(Answer {
         status: 0,
         text: levels_text(alloc, share, values, names)?,

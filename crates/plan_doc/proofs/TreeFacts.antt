@@ -12,6 +12,7 @@ use Rattle.policy_tree.specs.States.{JobState, UserState, ClusterState}
 use Rattle.policy_tree.specs.Asked.{idle_job, idle_user, idle_cluster, HasTop, HasJobTop, HasUserTop, HasClusterTop, HasJobWeights, HasUserWeights, HasClusterWeights}
 use Rattle.raw_document.specs.Raw as raw
 use Rattle.plan_doc.specs.TreeParts.{function_part, weights_of, job_part, user_part, cluster_part}
+use Rattle.doc_passes.proofs.Readings.{All-anything}
 use Rattle.doc_passes.specs.InRange as ranges
 
 -- what holds of each spec where it holds of each that was built of a right item
@@ -30,9 +31,6 @@ has_top top None function e = tt
 has_top top (Some found) None e = absurd cc
 has_top top (Some found) (Some points) e = let is : found ≡ function_part top points = cc in ap (λ function. function.top) is
 
-any : {A : Type 0} (items : List A) → All (λ _. Unit {0}) items
-any items k d within = tt
-
 job_top : (top : ℕ) (spec : JobSpec) (job : raw.Job) → Unit {0} → idle_job spec ≡ job_part top job → HasJobTop top spec
 job_top top spec job _ e = record {
   configured = has_top top spec.function job.function (ap (λ (state : JobState). state.configured) e);
@@ -42,17 +40,17 @@ job_top top spec job _ e = record {
 user_top : (top : ℕ) (spec : UserSpec) (user : raw.User) → Unit {0} → idle_user spec ≡ user_part top user → HasUserTop top spec
 user_top top spec user _ e = record {
   configured = has_top top spec.function user.function (ap (λ (state : UserState). state.configured) e);
-  jobs = all_built idle_job (job_part top) (λ _. Unit {0}) (HasJobTop top) (job_top top) spec.jobs.items user.jobs (any user.jobs) (ap (λ (state : UserState). state.jobs) e);
+  jobs = all_built idle_job (job_part top) (λ _. Unit {0}) (HasJobTop top) (job_top top) spec.jobs.items user.jobs (All-anything user.jobs) (ap (λ (state : UserState). state.jobs) e);
 }
 
 cluster_top : (top : ℕ) (spec : ClusterSpec) (group : raw.Group) → Unit {0} → idle_cluster spec ≡ cluster_part top group → HasClusterTop top spec
 cluster_top top spec group _ e = record {
   configured = has_top top spec.function group.function (ap (λ (state : ClusterState). state.configured) e);
-  users = all_built idle_user (user_part top) (λ _. Unit {0}) (HasUserTop top) (user_top top) spec.users.items group.users (any group.users) (ap (λ (state : ClusterState). state.users) e);
+  users = all_built idle_user (user_part top) (λ _. Unit {0}) (HasUserTop top) (user_top top) spec.users.items group.users (All-anything group.users) (ap (λ (state : ClusterState). state.users) e);
 }
 
 pub have_top : (top : ℕ) (specs : List ClusterSpec) (groups : List raw.Group) → map idle_cluster specs ≡ map (cluster_part top) groups → All (HasClusterTop top) specs
-have_top top specs groups e = all_built idle_cluster (cluster_part top) (λ _. Unit {0}) (HasClusterTop top) (cluster_top top) specs groups (any groups) e
+have_top top specs groups e = all_built idle_cluster (cluster_part top) (λ _. Unit {0}) (HasClusterTop top) (cluster_top top) specs groups (All-anything groups) e
 
 -- ---- weights
 

@@ -138,12 +138,14 @@ impl PolicyTree {
     }
 
     /// Does nothing. Who calls it knows what holds of each tree: its tasks are numbered in one walk,
-    /// and no group's value falls, nor are all of them together too much to be added up.
+    /// 32 bits number its groups, and no group's value falls, nor are all of them together too much
+    /// to be added up.
     pub fn what_holds(&self)
         ensures tree { IsTree self.now }
         ensures values { AreValues (length self.now.clusters) self.now.top (value_in self.now) }
+        ensures few { length self.now.clusters < 2 ^ 32 }
     {
-        let _top = self.top;
+        let (_top, _groups) = (self.top, self.groups());
     }
 
     /// The cluster of a group, for those who go down its nodes.

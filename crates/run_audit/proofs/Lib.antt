@@ -2,7 +2,7 @@ pub mod Counts
 mod WordFacts
 mod Names
 mod Dues
-mod Takes
+pub mod Takes
 mod Pursues
 mod Fits
 mod Verdicts

@@ -1,3 +1,5 @@
+//! The line for samples that are refused.
+
 ghost use Rattle.std.specs.Prelude.{◌≡◌, IfOk};
 ghost use Rattle.sample_lines.specs.RefusalLine.{sample_refusal};
 

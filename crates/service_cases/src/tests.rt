@@ -1,3 +1,5 @@
+//! Runs of the program over devices in memory, and of the service over documents.
+
 ghost use Rattle.std.specs.Prelude.{[], IfOk};
 
 mod devices;

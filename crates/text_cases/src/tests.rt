@@ -1,3 +1,5 @@
+//! A module for each topic.
+
 mod books;
 mod devices;
 mod documents;

@@ -1,3 +1,5 @@
+//! A module for each topic.
+
 mod capped;
 mod functions;
 mod groups;

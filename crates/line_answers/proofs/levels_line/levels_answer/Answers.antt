@@ -7,11 +7,11 @@ use Rattle.line_answers.proofs.levels_line.levels_answer.Goals as goal
 pub levels_text-requires-clause-few : goal.levels_text-requires-clause-few
 levels_text-requires-clause-few c =
     let groups = length c.args.tree.now.clusters in
-    let few : groups < 2 ^ 32 = omega (arith, c.groups-groups.ensures, c.groups-groups.type_inv) in
+    let few : groups < 2 ^ 32 = c.what_holds.ensures.few in
     subst (λ (values : List ℕ). length values < 2 ^ 32) (sym c.requires.values)
     (rw (length-map-range_with_len (λ (group : ℕ). value_in c.args.tree.now group c.args.share) 0 groups) few)
 
 pub levels_text-requires-clause-total : goal.levels_text-requires-clause-total
 levels_text-requires-clause-total c =
     subst (λ (values : List ℕ). sum values ≤ 20_000_000_000_000_000) (sym c.requires.values)
-    (levels-together c.args.tree.now c.args.share c.top-top.ensures.values c.requires.share)
+    (levels-together c.args.tree.now c.args.share c.what_holds.ensures.values c.requires.share)
