@@ -3,3 +3,4 @@ pub mod Audits
 pub mod RunsAreLegal
 pub mod Statuses
 mod WhatRan
+pub mod KnownTables

@@ -3,3 +3,4 @@ pub mod AuditReply
 pub mod TopCall
 pub mod Laws
 pub mod Statuses
+pub mod Known

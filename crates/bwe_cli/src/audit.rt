@@ -11,12 +11,12 @@ ghost use Rattle.plan_doc.specs.Plans.{plan_in};
 ghost use Rattle.bwe_cli.specs.AuditReply.{IsAuditReply, audit_reply, audit_status};
 ghost use Rattle.line_answers.specs.Parted.{IsReplyBehind, accepted_parts};
 
+use crate::known::{KnowingAllocator, known_of};
 use crate::rewound::{capacities_of, rewound};
 use allocator::{Allocator, after_script};
 use bwe_specs::{OutOfMemory, Report};
 use demand_book::Maker;
 use document_scripts::scripts_of_document;
-use limit_table::LimitTable;
 use line_answers::{Opened, Parted, open, read_parts};
 use one_run::Answer;
 use plan_doc::Document;
@@ -49,8 +49,8 @@ fn audit_document(alloc: Global, document: Document, text: &[u8]) -> Result<Answ
         names,
         ..
     } = open(document);
-    let (solved, first) = table_and_rewound(alloc, allocator, &script, &given)?;
-    let table = table_text(alloc, &solved, &names)?;
+    let first = solved_and_rewound(alloc, allocator, &script, &given)?;
+    let table = table_text(alloc, &first.known.table, &names)?;
     let verdict = run_audit::audit(alloc, first, &scripts, &names, &table, text)?;
     Ok(Answer {
         status: status_of(verdict),
@@ -58,28 +58,29 @@ fn audit_document(alloc: Global, document: Document, text: &[u8]) -> Result<Answ
     })
 }
 
-// The table of the script, and the allocator of the same plan before any report.
-fn table_and_rewound(
+// The allocator of the same plan before any report, which knows the table of the script.
+fn solved_and_rewound(
     alloc: Global,
     allocator: Allocator,
     script: &[Report],
     given: &[u64],
-) -> Result<(LimitTable, Allocator), OutOfMemory>
+) -> Result<KnowingAllocator, OutOfMemory>
     requires first { ⟦<Allocator as Maker>⟧.absorbed allocator [] }
     requires few { length script.now ≤ MAX_REPORTS }
     requires fit { All (IsFit (⟦<Allocator as Maker>⟧.plan_tasks (⟦<Allocator as Maker>⟧.plan allocator))
         (⟦<Allocator as Maker>⟧.plan_links (⟦<Allocator as Maker>⟧.plan allocator))) script.now }
     requires given { given.now ≡ (⟦<Allocator as Maker>⟧.plan allocator).capacities }
     requires range { All (λ capacity. capacity ≤ MAX_AMOUNT) given.now }
-    ensures table { IfOk result (λ made. made.0 ≡ allocation (⟦<Allocator as Maker>⟧.plan allocator) script.now) }
-    ensures plan { IfOk result (λ made.
-        ⟦<Allocator as Maker>⟧.plan made.1 ≡ ⟦<Allocator as Maker>⟧.plan allocator) }
-    ensures first { IfOk result (λ made. ⟦<Allocator as Maker>⟧.absorbed made.1 []) }
+    ensures table { IfOk result (λ knowing.
+        knowing.known.table ≡ allocation (⟦<Allocator as Maker>⟧.plan allocator) script.now) }
+    ensures plan { IfOk result (λ knowing.
+        ⟦<KnowingAllocator as Maker>⟧.plan knowing ≡ ⟦<Allocator as Maker>⟧.plan allocator) }
+    ensures first { IfOk result (λ knowing. ⟦<KnowingAllocator as Maker>⟧.absorbed knowing []) }
 {
     let mut allocator = after_script(alloc, allocator, script)?;
-    let table = allocator.table(alloc)?;
-    let first = rewound(allocator, given)?;
-    Ok((table, first))
+    let known = known_of(alloc, &mut allocator)?;
+    let allocator = rewound(allocator, given)?;
+    Ok(KnowingAllocator { allocator, known })
 }
 
 // The status of a verdict.

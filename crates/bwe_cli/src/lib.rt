@@ -13,6 +13,7 @@ ghost use Rattle.bwe_cli.specs.TopCall.{IsServed, needs_threads, of_one_thread};
 
 mod answers;
 mod audit;
+mod known;
 mod laws;
 mod reading;
 mod rewound;
