@@ -4,8 +4,8 @@ ghost use Rattle.std.specs.Prelude.{◌≡◌, ◌<◌, ◌≤◌, ◌+◌, ◌^
 ghost use Rattle.bwe_specs.specs.declared.report.Report.{Report};
 ghost use Rattle.demand_book.specs.Fit.{IsFit};
 
-use demand_book::{BookError, DemandBook, Maker, Posted, Report, SmallMaker, Target};
 use bwe_specs::{MAX_AMOUNT, MAX_REPORTS, OutOfMemory};
+use demand_book::{BookError, DemandBook, Maker, Posted, Report, SmallMaker, Target};
 use std::alloc::Global;
 use std::test::Fail;
 

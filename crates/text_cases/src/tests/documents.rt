@@ -1,7 +1,7 @@
 //! A text that is read from its tokens.
 
-use raw_reader::read_straight;
 use json::Scratch;
+use raw_reader::read_straight;
 
 // Each member that a document may have.
 const WHOLE: &str =

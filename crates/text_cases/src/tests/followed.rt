@@ -2,8 +2,8 @@
 
 ghost use Rattle.std.specs.Prelude.{true, [], unwrap_or};
 
-use live_run::{Follower, Opened, serve};
 use bwe_specs::OutOfMemory;
+use live_run::{Follower, Opened, serve};
 use live_stream::{Event, MemoryStream};
 use std::alloc::Global;
 use std::test::Fail;

@@ -1,8 +1,8 @@
 //! Lines of reports, what they mean, and the first cause against them.
 
-use live_lines::{Known, LineCause, LineCutter, LineMeaning, MAX_LINE};
 use bwe_specs::{MAX_AMOUNT, OutOfMemory, Report, Target};
 use doc_names::Names;
+use live_lines::{Known, LineCause, LineCutter, LineMeaning, MAX_LINE};
 
 fn named(rt: &HostRuntime, texts: &[&str]) -> Result<Vec<String>, OutOfMemory> {
     let mut names = Vec::new(rt.alloc());

@@ -1,9 +1,9 @@
 //! Texts of tables, summaries and causes, as bytes.
 
-use table_text::{bulk_text, check_text, levels_text, table_text};
 use bwe_specs::{Cause, Closing, OutOfMemory, Verdict};
 use doc_names::Names;
 use limit_table::{GroupLine, LimitTable, PlaceLine};
+use table_text::{bulk_text, check_text, levels_text, table_text};
 
 fn named(rt: &HostRuntime, texts: &[&str]) -> Result<Vec<String>, OutOfMemory> {
     let mut names = Vec::new(rt.alloc());

@@ -3,11 +3,11 @@
 ghost use Rattle.std.specs.Prelude.{◌+◌, ◌<◌, ◌^◌, length, IfOk};
 ghost use Rattle.std.specs.List.{All};
 
-use run_text::run_text;
 use bwe_specs::{Closing, OutOfMemory, Report, Target};
 use crew_log::{CrewLog, ReadLine, ReaderLog};
 use doc_names::Names;
 use limit_table::{GroupLine, LimitTable, PlaceLine};
+use run_text::run_text;
 use std::alloc::Global;
 
 // The text of the run below. Its table is that of the case "Capacity cut", of the link and one of its two groups.

@@ -1,7 +1,7 @@
 //! Numbers, words and names in bytes.
 
-use text_scan::{Lines, NameIndex, Words, cut_at, is_number, number_of, printed_number_of};
 use bwe_specs::OutOfMemory;
+use text_scan::{Lines, NameIndex, Words, cut_at, is_number, number_of, printed_number_of};
 
 // Leading zeros count among the 20 digits; 64 bits hold 18,446,744,073,709,551,615.
 #[test]

@@ -1,7 +1,7 @@
 //! What passes a stream, by devices in memory.
 
-use live_stream::{Event, MemoryStream, StdStream, Stream};
 use bwe_io::Failed;
+use live_stream::{Event, MemoryStream, StdStream, Stream};
 use std::io::Cursor;
 use std::test::Fail;
 

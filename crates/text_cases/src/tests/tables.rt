@@ -3,9 +3,9 @@
 ghost use Rattle.std.specs.Prelude.{◌≡◌, [], ◌∷◌, IfOk};
 ghost use Rattle.bwe_specs.specs.Allocation.{Table};
 
-use limit_table::LimitTable;
 use bwe_specs::OutOfMemory;
 use demand_book::Posted;
+use limit_table::LimitTable;
 use std::alloc::Global;
 use std::test::Fail;
 

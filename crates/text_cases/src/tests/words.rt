@@ -1,7 +1,7 @@
 //! Words that are lines, and words that are none.
 
-use command_line::{CommandLine, USAGE, command_line_of_words};
 use bwe_specs::OutOfMemory;
+use command_line::{CommandLine, USAGE, command_line_of_words};
 
 fn words(rt: &HostRuntime, texts: &[&str]) -> Result<Vec<String>, OutOfMemory> {
     let mut words = Vec::new(rt.alloc());

@@ -2,8 +2,8 @@
 
 ghost use Rattle.std.specs.Prelude.{◌≤◌};
 
-use capped_sum::CappedSum;
 use bw_function::BwFunction;
+use capped_sum::CappedSum;
 use function_sum::ShareFunction;
 use std::alloc::Global;
 use std::test::Fail;

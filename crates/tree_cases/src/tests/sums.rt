@@ -1,7 +1,7 @@
 //! Sums and merged shares, run on the code.
 
-use function_sum::{Look, ShareFunction, look_at, merged_shares, sum_at};
 use bw_function::BwFunction;
+use function_sum::{Look, ShareFunction, look_at, merged_shares, sum_at};
 use std::test::Fail;
 
 // The case "Merged shares".

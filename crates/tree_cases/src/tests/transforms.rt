@@ -4,10 +4,10 @@
 
 ghost use Rattle.std.specs.Prelude.{◌≡◌, ◌<◌};
 
-use share_transform::Transform;
 use bw_function::BwFunction;
 use function_sum::{Look, Outline, ShareFunction, Stretch};
 use mono_search::Steps;
+use share_transform::Transform;
 use std::cell::Cell;
 use std::marker::Brand;
 use std::sync::ledger::{Blank, Ledger};
