@@ -4,7 +4,6 @@ use Rattle.std.specs.Prelude.{slice_index}
 use Rattle.bwe_specs.specs.declared.report.Report.{Report}
 use Rattle.bwe_specs.specs.Paths.{PathGroups}
 use Rattle.bwe_specs.specs.Allocation.{Plan, Table, allocation, table_under}
-use Rattle.policy_tree.specs.Trees.{demand_in}
 use Rattle.allocator.specs.Allocators.{plan_by, table_by}
 use Rattle.allocator.specs.Reported.{IsAfter, Reported}
 use Rattle.allocator.proofs.Fitted.{table-after}

@@ -1,6 +1,6 @@
 -- A table that is known beside what it was made of.
-use Rattle.std.specs.Prelude.{◌≡◌, ℕ, List, slice_index}
-use Rattle.bwe_specs.specs.Allocation.{Plan, Table, table_under}
+use Rattle.std.specs.Prelude.{◌≡◌, slice_index}
+use Rattle.bwe_specs.specs.Allocation.{Plan, table_under}
 use Rattle.bwe_cli.specs.declared.known.Known.{Known}
 
 -- the table is that of the plan under the demands and capacities that are kept
