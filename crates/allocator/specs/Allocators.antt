@@ -14,16 +14,24 @@ pub record Allocating : Type 0 where
 -- the plan of its tables: the capacities are those that the network was given at first
 abbrev pub plan_by : Reported → List PathGroups → Plan
 plan_by reported groups =
-    record { top = reported.tree.top; clusters = reported.tree.clusters; groups = groups; capacities = reported.given }
+    record {
+      top = reported.tree.top;
+      clusters = reported.tree.clusters;
+      groups = groups;
+      capacities = reported.given;
+    }
 
 abbrev pub plan_in : Allocating → Plan
 plan_in allocating = plan_by allocating.reported allocating.groups
 
 -- the table under the demands and capacities that now stand
 abbrev pub table_by : Reported → List PathGroups → Table
-table_by reported groups = table_under (plan_by reported groups) reported.prefix (demand_in reported.tree) reported.network.capacities
+table_by reported groups =
+    table_under (plan_by reported groups) reported.prefix (demand_in reported.tree)
+    reported.network.capacities
 
--- the path groups go over the links of the network, the tree has their groups, and nothing is missing or left over
+-- the path groups go over the links of the network, the tree has their groups, and nothing is
+-- missing or left over
 pub record IsFitted (reported : Reported) (groups : List PathGroups) : Type 0 where
   pub plan : IsPlan groups
   pub built_on : IsBuiltOn reported.network groups

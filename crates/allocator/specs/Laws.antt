@@ -20,40 +20,47 @@ amount_in table group = slice_index (map (λ line. line.amount) table.groups) gr
 
 -- Feasibility law: no link's load exceeds its capacity
 abbrev pub IsFeasible : List ℕ → Table → Type 0
-IsFeasible capacities table = (link : ℕ) → link < length capacities → slice_index table.loads link ≤ slice_index capacities link
+IsFeasible capacities table = (link : ℕ) → link < length capacities
+    → slice_index table.loads link ≤ slice_index capacities link
 
--- Bottleneck law: a group that gets less than it may have at the top is held back on each of its path groups, by a
--- closing whose link would be over at the next share
+-- Bottleneck law: a group that gets less than it may have at the top is held back on each of its
+-- path groups, by a closing whose link would be over at the next share
 abbrev pub IsHeldBack : Wan → Table → Type 0
-IsHeldBack wan table = (group place : ℕ) → group < length wan.groups → place < path_group_count wan.groups group → amount_in table group < wan.value group wan.top
-    → (closing : Closing) × (earlier : List Closing) × IsHeldBy wan (reverse table.closings) group place closing earlier
+IsHeldBack wan table = (group place : ℕ) → group < length wan.groups
+    → place < path_group_count wan.groups group → amount_in table group < wan.value group wan.top
+    → (closing : Closing) × (earlier : List Closing)
+    × IsHeldBy wan (reverse table.closings) group place closing earlier
 
 -- Conservation law: the limits of a group's tasks add up to its amount
 abbrev pub IsConserved : Tree → Table → Type 0
-IsConserved tree table = (group : ℕ) → group < length tree.clusters → sum (map (slice_index table.limits) (cluster_numbers (cluster_in tree group))) ≡ amount_in table group
+IsConserved tree table = (group : ℕ) → group < length tree.clusters
+    → sum (map (slice_index table.limits) (cluster_numbers (cluster_in tree group)))
+    ≡ amount_in table group
 
--- No more than asked: each task's limit is at most its demand, and at most its weight times what its job's task function
--- gives at the top share
+-- No more than asked: each task's limit is at most its demand, and at most its weight times what
+-- its job's task function gives at the top share
 abbrev pub IsNoMoreThanAsked : Tree → Table → Type 0
 IsNoMoreThanAsked tree table = AreAskedFor tree.top (demand_in tree) tree.clusters table.limits
 
--- The same share: a group's amount is exactly what its function gives at its stop share, and at each closing every group
--- that then grew over the link stood at the closing's share
+-- The same share: a group's amount is exactly what its function gives at its stop share, and at
+-- each closing every group that then grew over the link stood at the closing's share
 abbrev pub IsShared : Wan → Table → Type 0
 IsShared wan table = IsSharedAlike wan table.groups (reverse table.closings)
 
--- No waste: where a group has less than it may have at the top, each of its path groups uses a closed link; and on each
--- closed link what is left free is less than what the groups that then grew over it would have put there with the next
--- whole share
+-- No waste: where a group has less than it may have at the top, each of its path groups uses a
+-- closed link; and on each closed link what is left free is less than what the groups that then
+-- grew over it would have put there with the next whole share
 abbrev pub IsUnwasted : Wan → Table → Type 0
 IsUnwasted wan table = IsWithoutWaste wan table.groups table.loads (reverse table.closings)
 
--- Nobody's place matters: the table of every plan that has the groups in another order, with their tasks, is this one in
--- that order
+-- Nobody's place matters: the table of every plan that has the groups in another order, with their
+-- tasks, is this one in that order
 abbrev pub IsTheSameInAnyOrder : Reported → List PathGroups → Table → Type 0
 IsTheSameInAnyOrder reported groups table =
-    IsInAnyOrder (plan_by reported groups) reported.prefix (demand_in reported.tree) reported.network.capacities table
+    IsInAnyOrder (plan_by reported groups) reported.prefix (demand_in reported.tree)
+    reported.network.capacities table
 
--- One text, one table: under names that tell the links apart each table that is written as the same text is this one
+-- One text, one table: under names that tell the links apart each table that is written as the same
+-- text is this one
 abbrev pub IsTold : Reported → Table → Type 0
 IsTold reported table = IsToldByItsText (length reported.network.capacities) table

@@ -8,26 +8,34 @@ use Rattle.bwe_specs.specs.Allocation.{PlaceLine, GroupLine}
 use Rattle.mpfa_fill.specs.declared.steps.Filling.{Filling}
 use Rattle.mpfa_fill.specs.Rows.{rows_in, AreShaped}
 
--- the line of a path group: its amount, and the link of the first of the closings, in their order, that it uses
+-- the line of a path group: its amount, and the link of the first of the closings, in their order,
+-- that it uses
 abbrev pub line_of_place : List PathGroups → List Closing → ℕ → List ℕ → ℕ → PlaceLine
 line_of_place groups closings group amounts place =
-    record { amount = slice_index amounts place; closed = closed_by (path_group_at groups group place) (reverse closings) }
+    record {
+      amount = slice_index amounts place;
+      closed = closed_by (path_group_at groups group place) (reverse closings);
+    }
 
 -- the line of a group with so much on each of its path groups, which stopped at a share
 abbrev pub line_of_group : List PathGroups → List Closing → ℕ → List ℕ → ℕ → GroupLine
 line_of_group groups closings group amounts share = record {
   share = share;
   amount = sum amounts;
-  places = map (line_of_place groups closings group amounts) (numbers (path_group_count groups group));
+  places = map (line_of_place groups closings group amounts)
+      (numbers (path_group_count groups group));
 }
 
 -- the line of a group of a filling
 abbrev pub line_in : List PathGroups → Filling → ℕ → GroupLine
 line_in groups filled group =
-    line_of_group groups filled.closings.items group (slice_index_or (rows_in filled.amounts.items) group []) (slice_index filled.shares.items group)
+    line_of_group groups filled.closings.items group
+    (slice_index_or (rows_in filled.amounts.items) group [])
+    (slice_index filled.shares.items group)
 
 -- what a filling keeps of each group can be summed
 pub record HasRows (groups : List PathGroups) (filled : Filling) : Type 0 where
   pub rows : AreShaped groups filled.amounts.items
   pub shares : length filled.shares.items ≡ length groups
-  pub sums : (group : ℕ) → group < length groups → sum (slice_index_or (rows_in filled.amounts.items) group []) < 2 ^ 64
+  pub sums : (group : ℕ) → group < length groups
+      → sum (slice_index_or (rows_in filled.amounts.items) group []) < 2 ^ 64

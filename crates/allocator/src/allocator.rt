@@ -48,7 +48,8 @@ impl Model for AllocatorPlan {
 }
 
 impl Allocator {
-    /// The allocator of a tree, of which nobody has asked anything yet, and of path groups over the links of a network.
+    /// The allocator of a tree, of which nobody has asked anything yet, and of path groups over the
+    /// links of a network.
     ///
     /// The capacities of `topology` stand where a link has no report.
     pub fn new(tree: PolicyTree, topology: Topology, plan: PathPlan) -> Allocator
@@ -56,7 +57,12 @@ impl Allocator {
         requires built_on { IsBuiltOn topology plan }
         requires groups { length tree.clusters ≡ length plan }
         ensures plan { ⟦<Allocator as Maker>⟧.plan result
-            ≡ record { top = tree.top; clusters = tree.clusters; groups = plan; capacities = topology.capacities } }
+            ≡ record {
+              top = tree.top;
+              clusters = tree.clusters;
+              groups = plan;
+              capacities = topology.capacities;
+            } }
         ensures tasks { length (task_numbers tree.clusters) ≡ length tree.demands }
         ensures first { ⟦<Allocator as Maker>⟧.absorbed result [] }
     {
@@ -70,7 +76,8 @@ impl Allocator {
 
     /// Does nothing. Who calls it knows that 32 bits number the tasks.
     pub fn what_holds(&self)
-        ensures { ⟦<Allocator as Maker>⟧.plan_tasks (⟦<Allocator as Maker>⟧.plan self.now) < 2 ^ 32 }
+        ensures { ⟦<Allocator as Maker>⟧.plan_tasks (⟦<Allocator as Maker>⟧.plan self.now)
+            < 2 ^ 32 }
     {
         let _tasks = self.tasks();
     }
@@ -79,11 +86,13 @@ impl Allocator {
     ///
     /// 64 bits count the reports; no list of them is kept. After a refusal it stands as before.
     pub fn take_in(&mut self, alloc: Global, report: Report) -> Result<(), OutOfMemory>
-        requires fit { IsFit (⟦<Allocator as Maker>⟧.plan_tasks (⟦<Allocator as Maker>⟧.plan self.old))
+        requires fit { IsFit
+            (⟦<Allocator as Maker>⟧.plan_tasks (⟦<Allocator as Maker>⟧.plan self.old))
             (⟦<Allocator as Maker>⟧.plan_links (⟦<Allocator as Maker>⟧.plan self.old)) report }
         requires room { self.old.reported.prefix < u64.MAX }
         ensures plan { ⟦<Allocator as Maker>⟧.plan self.new ≡ ⟦<Allocator as Maker>⟧.plan self.old }
-        ensures ok { OnOk result ((reports : List Report) → ⟦<Allocator as Maker>⟧.absorbed self.old reports
+        ensures ok { OnOk result
+            ((reports : List Report) → ⟦<Allocator as Maker>⟧.absorbed self.old reports
             → ⟦<Allocator as Maker>⟧.absorbed self.new (reports ++ report ∷ [])) }
         ensures refused { OnErr result (self.new ≡ self.old) }
     {

@@ -11,7 +11,8 @@ use std::alloc::Global;
 pub fn after_script<M: Maker>(alloc: Global, maker: M, script: &[Report]) -> Result<M, OutOfMemory>
     requires first { M.absorbed maker [] }
     requires few { length script.now ≤ MAX_REPORTS }
-    requires fit { All (IsFit (M.plan_tasks (M.plan maker)) (M.plan_links (M.plan maker))) script.now }
+    requires fit { All (IsFit (M.plan_tasks (M.plan maker)) (M.plan_links (M.plan maker)))
+        script.now }
     ensures absorbed { IfOk result (λ after. M.absorbed after script.now) }
     ensures plan { IfOk result (λ after. M.plan after ≡ M.plan maker) }
 {

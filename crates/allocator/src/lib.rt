@@ -1,11 +1,13 @@
 //! The allocator: tables of limits, made of the reports that it has taken in.
 //!
-//! `Allocator` is the `Maker` that the board and the top call use: its table is the allocation of the plan and of all
-//! reports taken in, whatever they are. `make_table` is what it calls, and carries the laws of every table: no link is
-//! over, a group with less than it may have is held back by closings, the limits of a group's tasks add up to its
-//! amount, no task gets more than it asked for, groups that meet at a closing have one share, nothing is wasted, the
-//! groups in another order get the same, and no other table is written as the same text. `Reported` keeps a tree and a
-//! network as they stand after reports; `TreeValues` lends a tree's groups to the filling. Nothing is promised of time.
+//! `Allocator` is the `Maker` that the board and the top call use: its table is the allocation of
+//! the plan and of all reports taken in, whatever they are. `make_table` is what it calls, and
+//! carries the laws of every table: no link is over, a group with less than it may have is held
+//! back by closings, the limits of a group's tasks add up to its amount, no task gets more than it
+//! asked for, groups that meet at a closing have one share, nothing is wasted, the groups in
+//! another order get the same, and no other table is written as the same text. `Reported` keeps a
+//! tree and a network as they stand after reports; `TreeValues` lends a tree's groups to the
+//! filling. Nothing is promised of time.
 #![tactic(auto)]
 
 mod allocator;

@@ -32,9 +32,11 @@ pub fn group_lines(
     Ok(lines)
 }
 
-/// The line of a group that has so much on each of its path groups, in kilobits per second, and stopped at the share.
+/// The line of a group that has so much on each of its path groups, in kilobits per second, and
+/// stopped at the share.
 ///
-/// `closings` are those of the whole filling, in their order. It looks at them once for each path group.
+/// `closings` are those of the whole filling, in their order. It looks at them once for each path
+/// group.
 pub fn group_line(
     alloc: Global,
     plan: &PathPlan,
@@ -46,7 +48,8 @@ pub fn group_line(
     requires group { group < length plan.now }
     requires places { length amounts.now ≡ path_group_count plan.now group }
     requires total { sum amounts.now < 2 ^ 64 }
-    ensures { IfOk result (λ line. line ≡ line_of_group plan.now closings.now group amounts.now share) }
+    ensures { IfOk result
+        (λ line. line ≡ line_of_group plan.now closings.now group amounts.now share) }
 {
     let mut places = Vec::new(alloc);
     for place in 0..plan.places(group) {

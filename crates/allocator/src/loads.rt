@@ -13,8 +13,8 @@ use path_groups::PathPlan;
 use std::alloc::Global;
 use wan_topology::Topology;
 
-/// The load of each link where the path groups of the plan have these amounts, by group and place. All are kilobits per
-/// second.
+/// The load of each link where the path groups of the plan have these amounts, by group and place.
+/// All are kilobits per second.
 pub fn loads_of(
     alloc: Global,
     topology: &Topology,
@@ -25,7 +25,8 @@ pub fn loads_of(
     requires rows { AreRowsOf plan.now (rows_in amounts.now) }
     requires total { total_of plan.now (rows_in amounts.now) ≤ MAX_TOTAL }
     ensures { IfOk result (λ loads. loads.items
-        ≡ map (link_load plan.now (amount_at (rows_in amounts.now))) (numbers (length topology.now.capacities))) }
+        ≡ map (link_load plan.now (amount_at (rows_in amounts.now)))
+        (numbers (length topology.now.capacities))) }
 {
     let mut sums = LinkSums::open(alloc, topology, plan)?;
     for group in 0..plan.groups() {
@@ -39,8 +40,10 @@ fn put_group(sums: &mut LinkSums, plan: &PathPlan, amounts: &[Vec<u64>], group: 
     requires rows { AreRowsOf plan.now (rows_in amounts.now) }
     requires total { total_of plan.now (rows_in amounts.now) ≤ MAX_TOTAL }
     requires group { group < length plan.now }
-    requires before { IsPutUpTo plan.now (rows_in amounts.now) (length sums.old.loads) group 0 sums.old }
-    ensures { IsPutUpTo plan.now (rows_in amounts.now) (length sums.old.loads) (group + 1) 0 sums.new }
+    requires before { IsPutUpTo plan.now (rows_in amounts.now) (length sums.old.loads) group 0
+        sums.old }
+    ensures { IsPutUpTo plan.now (rows_in amounts.now) (length sums.old.loads) (group + 1) 0
+        sums.new }
 {
     let row = &amounts[group as usize];
     for place in 0..plan.places(group) {

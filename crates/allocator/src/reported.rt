@@ -16,8 +16,8 @@ use wan_topology::Topology;
 
 /// A tree and a network that take in reports one by one.
 ///
-/// A report of a demand sets its task's demand, one of a capacity its link's capacity. The capacities that the network
-/// was given are kept from the first report that changes one.
+/// A report of a demand sets its task's demand, one of a capacity its link's capacity. The
+/// capacities that the network was given are kept from the first report that changes one.
 #[derive(Drop)]
 pub struct Reported {
     tree: PolicyTree,
@@ -62,7 +62,8 @@ impl Reported {
     pub fn tree(&self) -> &PolicyTree
         ensures same { result.now ≡ self.now.tree }
         ensures tree { IsTree result.now }
-        ensures values { AreValues (length result.now.clusters) result.now.top (value_in result.now) }
+        ensures values { AreValues (length result.now.clusters) result.now.top
+            (value_in result.now) }
     {
         self.tree.what_holds();
         &self.tree
@@ -77,7 +78,8 @@ impl Reported {
         &self.topology
     }
 
-    /// Does nothing. Who calls it knows what holds of each network, and that 64 bits count the reports.
+    /// Does nothing. Who calls it knows what holds of each network, and that 64 bits count the
+    /// reports.
     pub fn what_holds(&self)
         ensures network { IsNetwork self.now.network }
         ensures prefix { self.now.prefix < 2 ^ 64 }
@@ -102,7 +104,8 @@ impl Reported {
 
     /// Takes in a report, of as many as 64 bits count. After a refusal it stands as before.
     pub fn absorb(&mut self, alloc: Global, report: Report) -> Result<(), OutOfMemory>
-        requires fit { IsFit (length self.old.tree.demands) (length self.old.network.capacities) report }
+        requires fit { IsFit (length self.old.tree.demands) (length self.old.network.capacities)
+            report }
         requires room { self.old.prefix < u64.MAX }
         ensures ok { OnOk result (self.new ≡ with_report self.old report) }
         ensures after { OnOk result ((reports : List Report)
@@ -167,7 +170,8 @@ fn keep_given(
     given: &mut Option<Vec<u64>>,
     topology: &Topology,
 ) -> Result<(), OutOfMemory>
-    ensures ok { OnOk result (kept given.new ≡ Some (unwrap_or (kept given.old) topology.now.capacities)) }
+    ensures ok { OnOk result
+        (kept given.new ≡ Some (unwrap_or (kept given.old) topology.now.capacities)) }
     ensures refused { OnErr result (given.new ≡ given.old) }
 {
     if given.is_none() {

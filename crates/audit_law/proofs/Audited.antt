@@ -9,7 +9,8 @@ use Rattle.bwe_specs.specs.declared.report.Target.{Target}
 use Rattle.bwe_specs.specs.Allocation.{allocation}
 use Rattle.bwe_specs.specs.TreeFunctions.{AreClusters}
 use Rattle.bwe_specs.specs.Reports.{numbers as numbers_below, reports_of}
-use Rattle.document_scripts.specs.Scripts.{AreOfReporters, items_of, scripts_of}
+use Rattle.crew_log.specs.Scripts.{AreOfReporters}
+use Rattle.document_scripts.specs.Scripts.{items_of, scripts_of}
 use Rattle.demand_book.specs.Fit.{IsFit}
 use Rattle.document_scripts.proofs.Owned.{are-scripts, few-scripts, history-table, room-scripts}
 use Rattle.document_scripts.proofs.Split.{split-count}

@@ -14,19 +14,23 @@ use Rattle.run_audit.specs.declared.verdict.AuditVerdict.{AuditVerdict}
 use Rattle.table_text.specs.TableText.{text_of}
 use Rattle.audit_law.specs.ClosedRun.{IsClosedRun}
 
--- the text is that of a closed legal run of the document: of its script split by reporter, under the allocations of its plan
+-- the text is that of a closed legal run of the document: of its script split by reporter, under
+-- the allocations of its plan
 pub record IsDocumentRun (document : Accepted) (text : List ℕ) : Type 0 where
   pub scripts : List (Vec Report Global)
   pub split : items_of scripts ≡ scripts_of (length document.names.reporters) document.script
-  pub run : IsClosedRun document.names (allocation (plan_of document)) (task_count (plan_of document)) (length (plan_of document).capacities) scripts text
+  pub run : IsClosedRun document.names (allocation (plan_of document))
+      (task_count (plan_of document)) (length (plan_of document).capacities) scripts text
 
--- the first fault of a text: its reporters have the script split by reporter, each total is that of the allocation of
--- a part of its history, and its table is the allocation of the script
+-- the first fault of a text: its reporters have the script split by reporter, each total is that of
+-- the allocation of a part of its history, and its table is the allocation of the script
 abbrev pub script_verdict : NameTexts → Plan → List Report → List ℕ → AuditVerdict
 script_verdict names plan script text =
-    verdict_of names (scripts_of (length names.reporters) script) (λ reports. total_of (allocation plan reports))
+    verdict_of names (scripts_of (length names.reporters) script)
+    (λ reports. total_of (allocation plan reports))
     (text_of names (allocation plan script)) text
 
 -- the verdict on a text that is to be that of a run of the document
 abbrev pub document_verdict : Accepted → List ℕ → AuditVerdict
-document_verdict document text = script_verdict document.names (plan_of document) document.script text
+document_verdict document text =
+    script_verdict document.names (plan_of document) document.script text

@@ -19,10 +19,13 @@ BeginsAs count text other = take count (lines_of other) ≡ take count (lines_of
 -- no closed legal run has the line at fault behind the lines before it
 abbrev pub NoRunGoesOn : Type 0
 NoRunGoesOn =
-    (names : NameTexts) (table_of : List Report → Table) (table : Table) (tasks links : ℕ) (scripts : List (Vec Report Global)) (text : List ℕ) (line : ℕ) (cause : AuditCause)
+    (names : NameTexts) (table_of : List Report → Table) (table : Table) (tasks links : ℕ)
+    (scripts : List (Vec Report Global)) (text : List ℕ) (line : ℕ) (cause : AuditCause)
     → AreAudited names table_of table tasks links scripts
-    → verdict_on names table_of table scripts text ≡ Wrong line cause → line < length (lines_of text)
-    → (other : List ℕ) → IsClosedRun names table_of tasks links scripts other → BeginsAs (line + 1) text other → ⊥
+    → verdict_on names table_of table scripts text ≡ Wrong line cause
+    → line < length (lines_of text)
+    → (other : List ℕ) → IsClosedRun names table_of tasks links scripts other
+    → BeginsAs (line + 1) text other → ⊥
 
 -- the causes that no line among the reads of a reader has
 abbrev pub IsNoRead : AuditCause → Type 0
@@ -38,7 +41,9 @@ IsNoRead causes.Table = Unit {0}
 -- some closed legal run has the lines before the one at fault, where the cause is one of those
 abbrev pub SomeRunBeginsSo : Type 0
 SomeRunBeginsSo =
-    (names : NameTexts) (table_of : List Report → Table) (table : Table) (tasks links : ℕ) (scripts : List (Vec Report Global)) (text : List ℕ) (line : ℕ) (cause : AuditCause)
+    (names : NameTexts) (table_of : List Report → Table) (table : Table) (tasks links : ℕ)
+    (scripts : List (Vec Report Global)) (text : List ℕ) (line : ℕ) (cause : AuditCause)
     → AreAudited names table_of table tasks links scripts
     → verdict_on names table_of table scripts text ≡ Wrong line cause → IsNoRead cause
-    → (other : List ℕ) × IsClosedRun names table_of tasks links scripts other × BeginsAs line text other
+    → (other : List ℕ) × IsClosedRun names table_of tasks links scripts other
+    × BeginsAs line text other

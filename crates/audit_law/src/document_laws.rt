@@ -1,4 +1,5 @@
-//! The law of the audit for an accepted document, each part as the contract of a function that does nothing.
+//! The law of the audit for an accepted document, each part as the contract of a function that does
+//! nothing.
 
 ghost use Rattle.audit_law.specs.DocumentLaws.{AcceptedDocumentIsAudited, DocumentRunIsLegal, LegalTextIsADocumentRun};
 

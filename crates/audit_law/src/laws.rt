@@ -1,4 +1,5 @@
-//! The law of the audit, both ways, and of its first fault, each as the contract of a function that does nothing.
+//! The law of the audit, both ways, and of its first fault, each as the contract of a function that
+//! does nothing.
 
 ghost use Rattle.audit_law.specs.FirstFault.{NoRunGoesOn, SomeRunBeginsSo};
 ghost use Rattle.audit_law.specs.Laws.{LegalRunIsLegal, LegalTextIsARun};
@@ -18,7 +19,8 @@ pub fn no_run_goes_on()
     ensures { NoRunGoesOn }
 {}
 
-/// Some closed legal run has the lines before the one at fault, where the cause is script, sent, length or table.
+/// Some closed legal run has the lines before the one at fault, where the cause is script, sent,
+/// length or table.
 pub fn some_run_begins_so()
     ensures { SomeRunBeginsSo }
 {}

@@ -12,22 +12,35 @@ use Rattle.board.specs.declared.refusal.ReportError.{ReportError}
 use Rattle.board.specs.declared.refusal.ReportError.TheVariants.{Full, OutOfMemory}
 use Rattle.board.specs.Standing.{Standing}
 
--- the locked state as a state of Core run: what is taken is what is posted. The readers' floors are not behind the lock
+-- the locked state as a state of Core run: what is taken is what is posted. The readers' floors are
+-- not behind the lock
 abbrev pub core_state : Standing → List ℕ → State
-core_state standing floors = record { log = standing.log; posted = standing.posted; taken = standing.posted; floors = floors }
+core_state standing floors =
+    record {
+      log = standing.log;
+      posted = standing.posted;
+      taken = standing.posted;
+      floors = floors;
+    }
 
 -- a step on the locked state is this event of Core run, whatever the floors are, and has its answer
 abbrev pub IsEvent : Standing → CoreEvent → Result CoreAnswer CoreError → Standing → Type 0
-IsEvent old event answer new = (total : List Report → ℕ) (floors : List ℕ) → Steps total (core_state old floors) event answer (core_state new floors)
+IsEvent old event answer new = (total : List Report → ℕ) (floors : List ℕ)
+    → Steps total (core_state old floors) event answer (core_state new floors)
 
 -- the event Report. Want of memory leaves the state as it was
 abbrev pub IsReportStep : Standing → ℕ → List Report → Result ℕ ReportError → Standing → Type 0
-IsReportStep old reporter piece (Ok first) new = IsEvent old (event.Report reporter piece) (Ok (Placed first)) new
-IsReportStep old reporter piece (Err (Full held)) new = IsEvent old (event.Report reporter piece) (Err (core_error.Full held)) new
+IsReportStep old reporter piece (Ok first) new =
+    IsEvent old (event.Report reporter piece) (Ok (Placed first)) new
+IsReportStep old reporter piece (Err (Full held)) new =
+    IsEvent old (event.Report reporter piece) (Err (core_error.Full held)) new
 IsReportStep old reporter piece (Err OutOfMemory) new = new ≡ old
 
--- the event Post twice: of the table that waits, or of the posted one where none waits; and then of a table of so many reports
+-- the event Post twice: of the table that waits, or of the posted one where none waits; and then of
+-- a table of so many reports
 abbrev pub ArePostSteps : Standing → ℕ → ℕ → Standing → Type 0
 ArePostSteps old covers prefix new = (total : List Report → ℕ) (floors : List ℕ)
-    → Steps total (core_state old floors) (event.Post old.pending) (Ok (Posted old.pending)) (state_after (core_state old floors) (event.Post old.pending))
-    × Steps total (state_after (core_state old floors) (event.Post old.pending)) (event.Post covers) (Ok (Posted prefix)) (core_state new floors)
+    → Steps total (core_state old floors) (event.Post old.pending) (Ok (Posted old.pending))
+    (state_after (core_state old floors) (event.Post old.pending))
+    × Steps total (state_after (core_state old floors) (event.Post old.pending)) (event.Post covers)
+    (Ok (Posted prefix)) (core_state new floors)

@@ -4,6 +4,5 @@ pub mod Reporting
 pub mod Allocating
 pub mod Refusals
 pub mod Standing
-pub mod Shop
 pub mod Opening
 pub mod CoreSteps

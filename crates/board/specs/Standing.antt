@@ -8,16 +8,18 @@ use Rattle.board_pair.specs.Desk.{Desk, last_of}
 use Rattle.demand_book.specs.Fit.{IsFit}
 use Rattle.board_core.specs.Core.{IsAllowed}
 
--- what contracts see of the locked state: the log, how many reports the posted table covers,
--- and how many the table that a refused publish left waiting covers, or the posted one where none waits
+-- what contracts see of the locked state: the log, how many reports the posted table covers, and
+-- how many the table that a refused publish left waiting covers, or the posted one where none waits
 pub record Standing : Type 0 where
   pub log : List Report
   pub posted : ℕ
   pub pending : ℕ
 
--- the locked value ties the bases: the log, its history and its roll are one, and what is posted is a beginning of it
+-- the locked value ties the bases: the log, its history and its roll are one, and what is posted is
+-- a beginning of it
 pub record IsStanding {T : Type 0} (covers : T → ℕ) (reporters tasks links : ℕ)
-    (log whole : List Report) (roll : Rolled) (desk : Desk (Posting T) (Posting T)) (pending laid : ℕ) : Type 0 where
+    (log whole : List Report) (roll : Rolled) (desk : Desk (Posting T) (Posting T))
+    (pending laid : ℕ) : Type 0 where
   pub whole_so : whole ≡ log
   pub rolled : roll ≡ record { log = log; members = reporters }
   pub room : length log ≤ 200_000

@@ -14,9 +14,9 @@ use crate::ended::{Ended, FinishRefused};
 use crate::refusal::ReportError;
 use crate::reporter::ReporterPass;
 use crate::steps::LogState;
-use crate::workshop::{Workshop, solve_and_post};
 use board_log::{Bases, Beginning};
 use board_pair::{Ack, Profile};
+use board_workshop::Workshop;
 use bwe_specs::{OutOfMemory, Report};
 use demand_book::Maker;
 use std::alloc::Global;
@@ -165,7 +165,7 @@ impl<M: Maker, N: Profile<M::Table>, B: Bases> Board<M, N, B> {
         if is_behind {
             return solve_and_post(rt, alloc, &self.shop, &self.state, known);
         }
-        self.state.lock(rt).ack(known)
+        self.posted_ack(rt, known)
     }
 
     // An ack that holds what is known.
@@ -177,9 +177,49 @@ impl<M: Maker, N: Profile<M::Table>, B: Bases> Board<M, N, B> {
     ) -> Result<Ack<B>, OutOfMemory>
         ensures known { IfOk result (λ ack. IsPrefix known.now ack) }
     {
-        if let Ok(ack) = self.state.lock(rt).ack(known) {
-            return Ok(ack);
+        match self.posted_ack(rt, known) {
+            Ok(ack) => Ok(ack),
+            Err(_) => solve_and_post(rt, alloc, &self.shop, &self.state, known),
         }
-        solve_and_post(rt, alloc, &self.shop, &self.state, known)
     }
+
+    // The ack of what is posted, if that holds what is known.
+    fn posted_ack<R: Wait>(&self, rt: &R, known: &Beginning<B>) -> Result<Ack<B>, OutOfMemory>
+        ensures known { IfOk result (λ ack. IsPrefix known.now ack) }
+    {
+        self.state.lock(rt).ack(known)
+    }
+}
+
+// Sees the log, makes the table of it while the log lock is free, and posts it. The ack of what is
+// then posted holds what is known.
+fn solve_and_post<M: Maker, N: Profile<M::Table>, B: Bases, R: Wait>(
+    rt: &R,
+    alloc: Global,
+    shop: &Mutex<Workshop<M, N, B>>,
+    state: &Mutex<LogState<M, N, B>>,
+    known: &Beginning<B>,
+) -> Result<Ack<B>, OutOfMemory>
+    ensures known { IfOk result (λ ack. IsPrefix known.now ack) }
+{
+    let mut shop = shop.lock(rt);
+    let shop = &mut *shop;
+    let ack = solve_in(rt, alloc, shop, state)?;
+    if !known.begins(ack.known()) {
+        return Err(OutOfMemory);
+    }
+    Ok(ack)
+}
+
+// The same, once the maker's lock is taken. The log lock is free while the table is made.
+fn solve_in<M: Maker, N: Profile<M::Table>, B: Bases, R: Wait>(
+    rt: &R,
+    alloc: Global,
+    shop: &mut Workshop<M, N, B>,
+    state: &Mutex<LogState<M, N, B>>,
+) -> Result<Ack<B>, OutOfMemory> {
+    let shown = state.lock(rt).show(shop);
+    shown?;
+    let table = shop.solve(alloc)?;
+    state.lock(rt).post_made(rt, alloc, shop, table)
 }

@@ -35,7 +35,6 @@ mod open;
 mod refusal;
 mod reporter;
 pub mod steps;
-mod workshop;
 
 pub use allocator::AllocatorPass;
 pub use board::Board;

@@ -4,15 +4,15 @@ ghost use Rattle.std.specs.List.{All};
 ghost use Rattle.bwe_specs.specs.declared.report.Report.{Report};
 ghost use Rattle.board.specs.Reporting.{AreFresh, fresh_pass};
 ghost use Rattle.board_pair.specs.Reading.{IsNewReader};
-ghost use Rattle.board_pair.specs.Plan.{AreOfOnePlan, NamesTables};
+ghost use Rattle.board_log.specs.Plan.{AreOfOnePlan, NamesTables};
 
 use crate::allocator::AllocatorPass;
 use crate::board::Board;
 use crate::reporter::ReporterPass;
 use crate::steps::LogState;
-use crate::workshop::Workshop;
 use board_log::{Bases, Beginning, OpenedLog, OpenedRoll, Roll, WholeLog};
 use board_pair::{Ack, News, Pair, Poster, Profile, ReaderPass, seat_all};
+use board_workshop::Workshop;
 use bwe_specs::OutOfMemory;
 use demand_book::{Maker, Posted};
 use std::alloc::Global;
@@ -120,8 +120,7 @@ impl<M: Maker, N: Profile<M::Table>> Opened<M, N> {
         let whole = log.named::<B>();
         let mut roll = roll.named::<B>();
         let passes = enroll_all(alloc, reporters, &whole, &mut roll)?;
-        let table = maker.table(alloc)?;
-        let (poster, seats) = open_desk(rt, alloc, readers, &whole.first(0), &table)?;
+        let (poster, seats) = open_desk(rt, alloc, readers, &whole.first(0), &mut maker)?;
         let allocator = AllocatorPass::new(Ack::of(&poster));
         let shop = Workshop::empty(alloc, maker, whole.first(0));
         let state = LogState::empty(alloc, whole, roll, poster);
@@ -131,26 +130,30 @@ impl<M: Maker, N: Profile<M::Table>> Opened<M, N> {
 
 type Desk<T, N, B> = Poster<Pair<T, N, B>, News<T, N, B>>;
 
-// The poster of the empty log and its table, with a seat for each reader.
-fn open_desk<T: Posted, N: Profile<T>, B: Bases, R: Wait>(
+// The poster of the empty log and of the table that the maker makes of it, with a seat for each
+// reader.
+fn open_desk<M: Maker, N: Profile<M::Table>, B: Bases, R: Wait>(
     rt: &R,
     alloc: Global,
     readers: u32,
     known: &Beginning<B>,
-    table: &T,
-) -> Result<(Desk<T, N, B>, Vec<ReaderPass<T, N, B>>), OutOfMemory>
+    maker: &mut M,
+) -> Result<(Desk<M::Table, N, B>, Vec<ReaderPass<M::Table, N, B>>), OutOfMemory>
     requires readers { 1 ≤ readers }
     requires known { known.now ≡ [] }
-    requires covers { T.covers table.now ≡ 0 }
-    requires belongs { N.belongs [] table.now }
-    requires one_plan { AreOfOnePlan T.frame T.tasks_of N.belongs N.tasks }
-    ensures shown { IfOk result (λ desk. T.covers desk.0.shown.table ≡ 0) }
+    requires absorbed { M.absorbed maker.old [] }
+    requires names { NamesTables N.belongs (M.table_of (M.plan maker.old)) }
+    requires tasks { M.plan_tasks (M.plan maker.old) ≡ N.tasks }
+    ensures absorbed { M.absorbed maker.new [] }
+    ensures plan { M.plan maker.new ≡ M.plan maker.old }
+    ensures shown { IfOk result (λ desk. M.Table.covers desk.0.shown.table ≡ 0) }
     ensures waiting { IfOk result (λ desk. desk.0.waiting ≡ []) }
     ensures count { IfOk result (λ desk. length desk.1.items ≡ readers) }
-    ensures new { IfOk result (λ desk. All (IsNewReader T.covers N.belongs) desk.1.items) }
+    ensures new { IfOk result (λ desk. All (IsNewReader M.Table.covers N.belongs) desk.1.items) }
 {
-    let poster = open_poster(alloc, readers, known, table)?;
-    match seat_all(alloc, readers, known, table, &poster) {
+    let table = maker.table(alloc)?;
+    let poster = open_poster(alloc, readers, known, &table)?;
+    match seat_all(alloc, readers, known, &table, &poster) {
         Ok(seats) => Ok((poster, seats)),
         Err(error) => {
             poster.take(rt);

@@ -1,5 +1,5 @@
 //! What the log lock holds, and the steps on it. Nothing else adds to the log or publishes.
-ghost use Rattle.std.specs.Prelude.{◌≡◌, ◌+◌, ◌<◌, ◌≤◌, ◌↔◌, IsTrue, ◌++◌, [], List, length, take, drop, max, IfOk, IfErr, OnOk, OnErr};
+ghost use Rattle.std.specs.Prelude.{◌≡◌, ◌+◌, ◌<◌, ◌≤◌, ◌↔◌, IsTrue, ◌++◌, ◌∷◌, [], List, length, take, drop, max, IfOk, IfErr, OnOk, OnErr};
 ghost use Rattle.std.specs.List.{All, sum_by};
 ghost use Rattle.std.specs.Bool.{OnTrue};
 ghost use mathlib.Core.List.{IsPrefix};
@@ -15,9 +15,9 @@ ghost use Rattle.board.specs.CoreSteps.{IsReportStep, ArePostSteps};
 use crate::ended::{Ended, FinishRefused};
 use crate::refusal::ReportError;
 use crate::reporter::ReporterPass;
-use crate::workshop::Workshop;
 use board_log::{Bases, Beginning, Roll, WholeLog};
 use board_pair::{Ack, FinalAck, News, Pair, Poster, Profile};
+use board_workshop::Workshop;
 use bwe_specs::{MAX_REPORTS, OutOfMemory, Report};
 use demand_book::{Maker, Posted};
 use std::alloc::Global;
@@ -83,10 +83,8 @@ pub fn post<M: Maker, N: Profile<M::Table>, B: Bases, R: Wait>(
 {
     state.publish(rt)?;
     state.lay(alloc, table)?;
-    if state.posted() < state.pending {
-        state.publish(rt)?;
-    }
-    Ok(state.pending)
+    let prefix = state.publish_laid(rt)?;
+    Ok(prefix)
 }
 
 impl<M: Maker, N: Profile<M::Table>, B: Bases> LogState<M, N, B> {
@@ -299,7 +297,9 @@ impl<M: Maker, N: Profile<M::Table>, B: Bases> LogState<M, N, B> {
             pending: _,
             laid: _,
         } = self;
-        drop((log, whole, roll));
+        drop(log);
+        drop(whole);
+        drop(roll);
         poster.take(rt);
     }
 
@@ -325,6 +325,20 @@ impl<M: Maker, N: Profile<M::Table>, B: Bases> LogState<M, N, B> {
         self.poster.publish(rt)
     }
 
+    // Publishes what waits, if anything does, and answers how many reports the posted table covers.
+    fn publish_laid<R: Wait>(&mut self, rt: &R) -> Result<u64, OutOfMemory>
+        ensures log { self.new.log ≡ self.old.log }
+        ensures pending { self.new.pending ≡ self.old.pending }
+        ensures answer { IfOk result (λ prefix. prefix ≡ self.old.pending) }
+        ensures ok { OnOk result (self.new.posted ≡ self.old.pending) }
+        ensures refused { OnErr result (self.new.posted ≡ self.old.posted) }
+    {
+        if self.posted() < self.pending {
+            self.publish(rt)?;
+        }
+        Ok(self.pending)
+    }
+
     // Lays a table beside the log as it stands, to be published next, unless a later one is posted
     // or waits. Only what was not laid before is copied.
     fn lay(&mut self, alloc: Global, table: M::Table) -> Result<(), OutOfMemory>
@@ -341,9 +355,7 @@ impl<M: Maker, N: Profile<M::Table>, B: Bases> LogState<M, N, B> {
             return Ok(());
         }
         let news = self.news_of(alloc, table)?;
-        if self.poster.append(news).is_err() {
-            return Err(OutOfMemory);
-        }
+        let_wait(&mut self.poster, news)?;
         self.pending = pending;
         self.laid = self.log.len() as u64;
         Ok(())
@@ -414,6 +426,21 @@ impl<M: Maker, N: Profile<M::Table>, B: Bases> LogState<M, N, B> {
             Ok(log) => Ok(FinalAck::new(ack, log)),
             Err(_) => Err(OutOfMemory),
         }
+    }
+}
+
+// Lets news wait for the next publish.
+fn let_wait<T: Posted, N: Profile<T>, B: Bases>(
+    poster: &mut Desk<T, N, B>,
+    news: News<T, N, B>,
+) -> Result<(), OutOfMemory>
+    ensures shown { poster.new.shown ≡ poster.old.shown }
+    ensures ok { OnOk result (poster.new.waiting ≡ poster.old.waiting ++ news ∷ []) }
+    ensures refused { OnErr result (poster.new.waiting ≡ poster.old.waiting) }
+{
+    match poster.append(news) {
+        Ok(()) => Ok(()),
+        Err(_) => Err(OutOfMemory),
     }
 }
 

@@ -11,7 +11,8 @@ pub record Core (M : Type 0) : Type 0 where
 
 -- the core with another floor of a reader
 abbrev pub with_floor : {M : Type 0} → Core M → ℕ → ℕ → Core M
-with_floor core reader floor = record core { state = record core.state { floors = slice_set core.state.floors reader floor } }
+with_floor core reader floor =
+    record core { state = record core.state { floors = slice_set core.state.floors reader floor } }
 
 -- the report is of a reporter of the board, and fits
 abbrev pub IsAllowed : ℕ → (Report → Type 0) → Report → Type 0
@@ -24,8 +25,10 @@ pub record IsInOrder (state : State) : Type 0 where
   pub taken : state.taken ≤ length state.log
   pub room : length state.log ≤ 200_000
 
--- the maker has taken in the first reports, the table belongs to the posted ones, and each report is allowed
-pub record IsKept {T : Type 0} (has_absorbed : List Report → Type 0) (table_of : List Report → T) (is_allowed : Report → Type 0) (posted : T) (state : State) : Type 0 where
+-- the maker has taken in the first reports, the table belongs to the posted ones, and each report
+-- is allowed
+pub record IsKept {T : Type 0} (has_absorbed : List Report → Type 0) (table_of : List Report → T)
+    (is_allowed : Report → Type 0) (posted : T) (state : State) : Type 0 where
   pub order : IsInOrder state
   pub absorbed : has_absorbed (take state.taken state.log)
   pub table : posted ≡ table_of (take state.posted state.log)

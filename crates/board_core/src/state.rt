@@ -36,15 +36,26 @@ impl<M: Maker> Model for CoreState<M> {
     ghost view = { λ core. record {
       maker = core.maker;
       reporters = core.reporters;
-      state = record { log = core.log.items; posted = M.Table.covers core.table; taken = core.taken; floors = core.floors.items };
+      state = record {
+        log = core.log.items;
+        posted = M.Table.covers core.table;
+        taken = core.taken;
+        floors = core.floors.items;
+      };
     } };
 
     ghost invariant = { λ core. IsKept
         (M.absorbed core.maker)
         (M.table_of (M.plan core.maker))
-        (IsAllowed core.reporters (IsFit (M.plan_tasks (M.plan core.maker)) (M.plan_links (M.plan core.maker))))
+        (IsAllowed core.reporters
+        (IsFit (M.plan_tasks (M.plan core.maker)) (M.plan_links (M.plan core.maker))))
         core.table
-        (record { log = core.log.items; posted = M.Table.covers core.table; taken = core.taken; floors = core.floors.items }) };
+        (record {
+          log = core.log.items;
+          posted = M.Table.covers core.table;
+          taken = core.taken;
+          floors = core.floors.items;
+        }) };
 }
 
 impl<M: Maker> CoreState<M> {
@@ -77,9 +88,11 @@ impl<M: Maker> CoreState<M> {
     /// posted table covers, which a later post then covers too.
     pub fn step(&mut self, alloc: Global, event: CoreEvent) -> Result<CoreAnswer, CoreError>
         requires meant { IsMeant self.old.reporters (length self.old.state.floors)
-            (IsFit (M.plan_tasks (M.plan self.old.maker)) (M.plan_links (M.plan self.old.maker))) event }
+            (IsFit (M.plan_tasks (M.plan self.old.maker)) (M.plan_links (M.plan self.old.maker)))
+            event }
         ensures run { Steps
-            (λ reports. M.Table.total_of (M.table_of (M.plan self.old.maker) reports)) self.old.state event result self.new.state }
+            (λ reports. M.Table.total_of (M.table_of (M.plan self.old.maker) reports))
+            self.old.state event result self.new.state }
         ensures full { (result ≡ Err (CoreError.Full (length self.old.state.log))) ↔ IsOverfull
             self.old.state event }
         ensures plan { M.plan self.new.maker ≡ M.plan self.old.maker }
@@ -98,7 +111,8 @@ impl<M: Maker> CoreState<M> {
     fn report(&mut self, reporter: u32, piece: &Piece) -> Result<CoreAnswer, CoreError>
         requires reporter { reporter < self.old.reporters }
         requires fit { All (λ report. (report.reporter ≡ reporter) × IsFit
-            (M.plan_tasks (M.plan self.old.maker)) (M.plan_links (M.plan self.old.maker)) report) piece.now }
+            (M.plan_tasks (M.plan self.old.maker)) (M.plan_links (M.plan self.old.maker)) report)
+            piece.now }
         ensures run { Steps (λ reports. M.Table.total_of
             (M.table_of (M.plan self.old.maker) reports))
             self.old.state (CoreEvent.Report reporter piece.now) result self.new.state }
@@ -155,7 +169,9 @@ impl<M: Maker> CoreState<M> {
     fn read(&mut self, reader: u32) -> CoreAnswer
         requires reader { reader < length self.old.state.floors }
         ensures answer { result ≡ CoreAnswer.Seen self.old.state.posted
-            (M.Table.total_of (M.table_of (M.plan self.old.maker) (take self.old.state.posted self.old.state.log))) }
+            (M.Table.total_of
+            (M.table_of (M.plan self.old.maker)
+            (take self.old.state.posted self.old.state.log))) }
         ensures core { self.new ≡ with_floor self.old reader self.old.state.posted }
     {
         let prefix = self.table.prefix();

@@ -22,7 +22,8 @@ abbrev pub EndsOnce : List (List Report) → Type 0
 EndsOnce [] = Unit {0}
 EndsOnce (piece ∷ pieces) = ((0 < length piece) ⊎ (pieces ≡ [])) × EndsOnce pieces
 
--- the first word counts the pieces, and none stands behind the mark of the end. A book has two words, of which this one leaves the second at 0
+-- the first word counts the pieces, and none stands behind the mark of the end. A book has two
+-- words, of which this one leaves the second at 0
 abbrev pub CountsPieces : List Cell → List (List Report) → Type 0
 CountsPieces cells pieces = (cells ≡ (length pieces, true) ∷ (0, true) ∷ []) × EndsOnce pieces
 
@@ -34,19 +35,25 @@ word_of book = record { tracked = true; key = 0; book = book }
 abbrev pub GoOn : ℕ → List (List Report) → Type 0
 GoOn count pieces = (count < length (log_of pieces)) ⊎ HasEnded pieces
 
--- the piece was added to all that had been seen; or the log was longer or had ended, and is now seen to
+-- the piece was added to all that had been seen; or the log was longer or had ended, and is now
+-- seen to
 abbrev pub AddsPiece : Step (List Report) → View (List Report) ℕ → ℕ → View (List Report) ℕ → Type 0
-AddsPiece step before found after = MatchBool (found == step.old) (after.0 ≡ before.0 ++ step.ask ∷ []) (GoOn (length (log_of before.0)) after.0)
+AddsPiece step before found after =
+    MatchBool (found == step.old) (after.0 ≡ before.0 ++ step.ask ∷ [])
+    (GoOn (length (log_of before.0)) after.0)
 
--- who holds the whole log has the word of the named book, and counts the pieces, of which none is empty until it has ended the log
-pub record IsCounted (named : Book) (word : Named) (count : ℕ) (has_ended : Bool) (book : Book) (pieces : List (List Report)) : Type 0 where
+-- who holds the whole log has the word of the named book, and counts the pieces, of which none is
+-- empty until it has ended the log
+pub record IsCounted (named : Book) (word : Named) (count : ℕ) (has_ended : Bool) (book : Book)
+    (pieces : List (List Report)) : Type 0 where
   pub counted : count ≡ length pieces
   pub filled : MatchBool has_ended (HasEnded pieces) (AreFilled pieces)
   pub named_so : book ≡ named
   pub word_is : word ≡ word_of named
 
 -- so many reports stand in a log that the named book has reached
-pub record IsReached (named : Book) (len : ℕ) (book : Book) (pieces : List (List Report)) : Type 0 where
+pub record IsReached (named : Book) (len : ℕ) (book : Book) (pieces : List (List Report))
+    : Type 0 where
   pub within : len ≤ length (log_of pieces)
   pub named_so : book ≡ named
 
@@ -60,4 +67,12 @@ abbrev pub no_book : Book
 no_book = record { number = 0; log_name = 0; cells_name = 0 }
 
 abbrev pub no_table : TableId
-no_table = record { words = 0; slots = 0; views_name = 0; atom = 0; block = 0; offset = 0; slot_names = [] }
+no_table = record {
+  words = 0;
+  slots = 0;
+  views_name = 0;
+  atom = 0;
+  block = 0;
+  offset = 0;
+  slot_names = [];
+}

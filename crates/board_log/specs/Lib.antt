@@ -1,3 +1,4 @@
 pub mod History
 pub mod Roll
+pub mod Plan
 pub mod Laws

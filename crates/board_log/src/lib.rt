@@ -7,17 +7,20 @@
 //! all reports of its number in the log, and `check` shows it. No call waits, and only
 //! `OpenedRoll::new` takes memory. A call costs by the piece and never by the log. The history
 //! exists in the proofs alone: what threads share of it are tokens of no bytes, and the roll is one
-//! word. Nothing is promised of the reports themselves: this crate knows no tables and no makers.
+//! word. Nothing is promised of the reports themselves, nor of the tables of a `Profile`, which
+//! names a plan for the crates above.
 #![tactic(auto)]
 
 ghost use Rattle.board_log.specs.Laws.{OwnListsAreTheReports, OwnListsGrowByPieces, OwnListsStandInTheLog, OwnListsAddUp, PlacedPiecesAreThePieces};
 
 mod bases;
 mod history;
+mod profile;
 mod roll;
 
 pub use bases::Bases;
 pub use history::{Beginning, EndedLog, LongerLog, OpenedLog, WholeLog};
+pub use profile::Profile;
 pub use roll::{Member, OpenedRoll, PlacedReport, Roll};
 
 /// A reporter's own list without the places is its reports in the log, in their order.

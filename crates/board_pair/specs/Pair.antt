@@ -4,10 +4,12 @@ use Rattle.std.specs.List.{All}
 use Rattle.bwe_specs.specs.declared.report.Report.{Report}
 use Rattle.demand_book.specs.Fit.{IsFit}
 use Rattle.board_core.specs.Core.{IsAllowed}
-use Rattle.board_pair.specs.Plan.{AreOfOnePlan}
+use Rattle.board_log.specs.Plan.{AreOfOnePlan}
 
--- the log is the one that is known, the table belongs to its first reports, and each report is allowed
-pub record IsPair {T F : Type 0} (covers : T → ℕ) (frame : T → F) (tasks_of : F → ℕ) (belongs : List Report → T → Type 0) (reporters tasks links : ℕ)
+-- the log is the one that is known, the table belongs to its first reports, and each report is
+-- allowed
+pub record IsPair {T F : Type 0} (covers : T → ℕ) (frame : T → F) (tasks_of : F → ℕ)
+    (belongs : List Report → T → Type 0) (reporters tasks links : ℕ)
     (known log : List Report) (table : T) : Type 0 where
   pub known_so : known ≡ log
   pub within : covers table ≤ length log
@@ -15,8 +17,10 @@ pub record IsPair {T F : Type 0} (covers : T → ℕ) (frame : T → F) (tasks_o
   pub allowed : All (IsAllowed reporters (IsFit tasks links)) log
   pub one_plan : AreOfOnePlan frame tasks_of belongs tasks
 
--- the reports are what the known log has from a place on, and the table belongs to its first reports
-pub record IsNews {T : Type 0} (covers : T → ℕ) (belongs : List Report → T → Type 0) (reporters tasks links : ℕ)
+-- the reports are what the known log has from a place on, and the table belongs to its first
+-- reports
+pub record IsNews {T : Type 0} (covers : T → ℕ) (belongs : List Report → T → Type 0)
+    (reporters tasks links : ℕ)
     (from : ℕ) (more known : List Report) (table : T) : Type 0 where
   pub from_within : from ≤ length known
   pub more_so : more ≡ drop from known

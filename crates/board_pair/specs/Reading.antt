@@ -9,7 +9,8 @@ pub record Reading (T : Type 0) : Type 0 where
   pub reads : ℕ
 
 -- it has seen the empty log and has its table, and has read nothing
-pub record IsNewReader {T : Type 0} (covers : T → ℕ) (belongs : List Report → T → Type 0) (pass : Reading T) : Type 0 where
+pub record IsNewReader {T : Type 0} (covers : T → ℕ) (belongs : List Report → T → Type 0)
+    (pass : Reading T) : Type 0 where
   pub log : pass.log ≡ []
   pub floor : covers pass.table ≡ 0
   pub table : belongs [] pass.table

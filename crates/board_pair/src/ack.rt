@@ -5,8 +5,7 @@ ghost use mathlib.Core.List.{IsPrefix};
 
 use crate::pair::{News, Pair};
 use crate::poster::Poster;
-use crate::profile::Profile;
-use board_log::{Bases, Beginning, EndedLog};
+use board_log::{Bases, Beginning, EndedLog, Profile};
 use demand_book::Posted;
 use std::marker::Model;
 

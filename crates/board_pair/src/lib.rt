@@ -26,13 +26,12 @@
 mod ack;
 mod pair;
 mod poster;
-mod profile;
 mod reader;
 mod seats;
 
 pub use ack::{Ack, FinalAck};
+pub use board_log::Profile;
 pub use pair::{News, Pair, Posting};
 pub use poster::Poster;
-pub use profile::Profile;
 pub use reader::{ReaderPass, View};
 pub use seats::seat_all;

@@ -6,11 +6,10 @@ ghost use Rattle.std.specs.List.{All};
 ghost use mathlib.Core.List.{IsPrefix};
 ghost use Rattle.demand_book.specs.Fit.{IsFit};
 ghost use Rattle.board_core.specs.Core.{IsAllowed};
-ghost use Rattle.board_pair.specs.Plan.{AreOfOnePlan};
+ghost use Rattle.board_log.specs.Plan.{AreOfOnePlan};
 
 use crate::ack::{Ack, FinalAck};
-use crate::profile::Profile;
-use board_log::{Bases, Beginning};
+use board_log::{Bases, Beginning, Profile};
 use bwe_specs::{OutOfMemory, Report};
 use demand_book::Posted;
 use left_right::Absorb;
@@ -185,8 +184,7 @@ impl<T: Posted, N: Profile<T>, B: Bases> Pair<T, N, B> {
         ensures refused { OnErr result (self.new ≡ self.old) }
         ensures log { IsPrefix self.old.log self.new.log }
     {
-        let change = self.table.change_to(alloc, table)?;
-        self.table.apply(alloc, &change)?;
+        bring_to(alloc, &mut self.table, table)?;
         self.log = log;
         self.known = known.copy();
         Ok(())
@@ -273,6 +271,16 @@ impl<T: Posted, N: Profile<T>, B: Bases> Absorb<News<T, N, B>> for Pair<T, N, B>
             Err(_) => Err(AllocError),
         }
     }
+}
+
+// Brings a table up to another one of its plan by their change, or leaves it as it was.
+fn bring_to<T: Posted>(alloc: Global, table: &mut T, later: &T) -> Result<(), OutOfMemory>
+    requires one_plan { T.frame table.old ≡ T.frame later.now }
+    ensures ok { OnOk result (table.new ≡ later.now) }
+    ensures refused { OnErr result (table.new ≡ table.old) }
+{
+    let change = table.change_to(alloc, later)?;
+    table.apply(alloc, &change)
 }
 
 // The reports of both, one after the other, to be shared.

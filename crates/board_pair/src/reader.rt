@@ -7,8 +7,7 @@ ghost use Rattle.board_core.specs.Core.{IsAllowed};
 
 use crate::ack::{Ack, FinalAck};
 use crate::pair::Pair;
-use crate::profile::Profile;
-use board_log::Bases;
+use board_log::{Bases, Profile};
 use bwe_specs::{OutOfMemory, Report};
 use crossbeam_utils::rule::Unruled;
 use demand_book::Posted;
@@ -39,8 +38,7 @@ impl<T: Posted, N: Profile<T>, B: Bases> Model for ReaderPass<T, N, B> {
     ghost view = { λ pass. record {
       log = pass.copy.log;
       table = pass.copy.table;
-      reads =
-          pass.reads;
+      reads = pass.reads;
     } };
 
     ghost invariant = { λ pass. IsSome pass.home };
@@ -101,7 +99,8 @@ impl<T: Posted, N: Profile<T>, B: Bases> ReaderPass<T, N, B> {
     /// the table.
     pub fn read(&mut self, alloc: Global) -> View<'_, T, N, B>
         // The pass has the log and the table that are shown, and one read more.
-        ensures* after { sem 𝓛 (follows_so (the_row T.row N.row B.row T.Frame.row T.Change.row T.Posted
+        ensures* after { sem 𝓛
+            (follows_so (the_row T.row N.row B.row T.Frame.row T.Change.row T.Posted
             N.Profile B.Bases) (the_row T.row N.row B.row T.Frame.row T.Change.row T.Posted
             N.Profile B.Bases) self.entry.ghost_name none (λ _ _. ⊤)
             (λ pass. (pass.log ≡ result.copy.now.log) × (pass.table ≡ result.copy.now.table)

@@ -1,14 +1,13 @@
 //! How the readers of a published pair are seated.
 ghost use Rattle.std.specs.Prelude.{◌≡◌, [], length, IfOk};
 ghost use Rattle.std.specs.List.{All};
-ghost use Rattle.board_pair.specs.Plan.{AreOfOnePlan};
+ghost use Rattle.board_log.specs.Plan.{AreOfOnePlan};
 ghost use Rattle.board_pair.specs.Reading.{IsNewReader};
 
 use crate::pair::{News, Pair};
 use crate::poster::Poster;
-use crate::profile::Profile;
 use crate::reader::ReaderPass;
-use board_log::{Bases, Beginning};
+use board_log::{Bases, Beginning, Profile};
 use bwe_specs::OutOfMemory;
 use demand_book::Posted;
 use std::alloc::Global;

@@ -1,11 +1,13 @@
 //! The check of a list of closings: whether they are those of the filling.
 //!
-//! `check` finds the next closing by the dues of links, as the solver does, and compares it with the one that is named;
-//! only where they differ is each link tested. So its cost goes by the list and not by the top share, and a closing moves
-//! only the groups of its link. The top call's `check` line prints its verdict. The closings that a table or a document
-//! names are a certificate of the whole allocation: where the verdict is `Right`, nothing but the filling has them
-//! ("Certificate law", docs/DEFINITIONS.md). Looks at links are counted as the solver's are, and their bound is hardly
-//! more than that of a filling: that is the clause of `check_by_looks`. Nothing is promised of time.
+//! `check` finds the next closing by the dues of links, as the solver does, and compares it with
+//! the one that is named; only where they differ is each link tested. So its cost goes by the list
+//! and not by the top share, and a closing moves only the groups of its link. The top call's
+//! `check` line prints its verdict. The closings that a table or a document names are a certificate
+//! of the whole allocation: where the verdict is `Right`, nothing but the filling has them
+//! ("Certificate law", docs/DEFINITIONS.md). Looks at links are counted as the solver's are, and
+//! their bound is hardly more than that of a filling: that is the clause of `check_by_looks`.
+//! Nothing is promised of time.
 #![tactic(auto)]
 
 ghost use Rattle.std.specs.Prelude.{◌≡◌, ◌↔◌, ◌==◌, ℕ, ◌+◌, ◌*◌, ◌<◌, ◌≤◌, [], length, reverse, IfOk, OnOk, Some, None, true, false};
@@ -33,8 +35,8 @@ use wan_topology::Topology;
 
 /// The verdict on a list of closings, in their order ("Right closings", docs/DEFINITIONS.md).
 ///
-/// The first closing at fault is named, with the first of its causes in the order of `Cause`; after all closings
-/// `OverAtTop`. Link numbers and shares in the list may be any.
+/// The first closing at fault is named, with the first of its causes in the order of `Cause`; after
+/// all closings `OverAtTop`. Link numbers and shares in the list may be any.
 pub fn check<V: GroupValues>(
     alloc: Global,
     values: &V,
@@ -45,11 +47,13 @@ pub fn check<V: GroupValues>(
     requires built_on { IsBuiltOn topology.now plan.now }
     requires groups { (V.meaning values.now).groups ≡ length plan.now }
     ensures verdict { IfOk result (λ verdict. verdict
-        ≡ verdict_of (wan_of (V.meaning values.now) plan.now topology.now.capacities) closings.now) }
+        ≡ verdict_of (wan_of (V.meaning values.now) plan.now topology.now.capacities)
+        closings.now) }
 
     // Certificate law
     ensures right { IfOk result (λ verdict. (verdict ≡ Right) ↔ (closings.now
-        ≡ reverse (filling (wan_of (V.meaning values.now) plan.now topology.now.capacities)).closings)) }
+        ≡ reverse (filling
+        (wan_of (V.meaning values.now) plan.now topology.now.capacities)).closings)) }
 {
     counted_check::<V, Brand>(alloc, values, topology, plan, closings, Blank::new(1))
 }
@@ -69,18 +73,21 @@ fn counted_check<V: GroupValues, L: Ledger>(
     requires parts { blank.parts ≡ L.parts }
     requires some { 0 < L.parts }
     ensures verdict { IfOk result (λ verdict. verdict
-        ≡ verdict_of (wan_of (V.meaning values.now) plan.now topology.now.capacities) closings.now) }
+        ≡ verdict_of (wan_of (V.meaning values.now) plan.now topology.now.capacities)
+        closings.now) }
     ensures right { IfOk result (λ verdict. (verdict ≡ Right) ↔ (closings.now
-        ≡ reverse (filling (wan_of (V.meaning values.now) plan.now topology.now.capacities)).closings)) }
+        ≡ reverse (filling
+        (wan_of (V.meaning values.now) plan.now topology.now.capacities)).closings)) }
 {
     let mut steps: Steps<L> = Steps::new(blank);
     check_by_looks(alloc, values, topology, plan, closings, &mut steps)
 }
 
-/// The same verdict, with each look at a link counted: a look asks for the load of one link at one share.
+/// The same verdict, with each look at a link counted: a look asks for the load of one link at one
+/// share.
 ///
-/// To the bound of a filling it adds two looks at each link and one more, for what is at fault or for what is over at the
-/// top. How long the list is does not matter.
+/// To the bound of a filling it adds two looks at each link and one more, for what is at fault or
+/// for what is over at the top. How long the list is does not matter.
 pub fn check_by_looks<V: GroupValues, L: Ledger>(
     alloc: Global,
     values: &V,
@@ -92,19 +99,46 @@ pub fn check_by_looks<V: GroupValues, L: Ledger>(
     requires built_on { IsBuiltOn topology.now plan.now }
     requires groups { (V.meaning values.now).groups ≡ length plan.now }
     ensures verdict { IfOk result (λ verdict. verdict
-        ≡ verdict_of (wan_of (V.meaning values.now) plan.now topology.now.capacities) closings.now) }
+        ≡ verdict_of (wan_of (V.meaning values.now) plan.now topology.now.capacities)
+        closings.now) }
 
     // Certificate law
     ensures right { IfOk result (λ verdict. (verdict ≡ Right) ↔ (closings.now
-        ≡ reverse (filling (wan_of (V.meaning values.now) plan.now topology.now.capacities)).closings)) }
+        ≡ reverse (filling
+        (wan_of (V.meaning values.now) plan.now topology.now.capacities)).closings)) }
 
     // Also where memory is wanting.
     ensures looks { let links = length topology.now.capacities in
         steps.new ≤ steps.old + 31 * (links + 2 * links_over_all links plan.now) + (2 * links + 1) }
 {
-    let top = values.top();
     let by_link = GroupsByLink::of(alloc, topology, plan)?;
-    let mut front = Front::open(alloc, values, topology, plan, &by_link)?;
+    check_listed(alloc, values, topology, plan, &by_link, closings, steps)
+}
+
+// The same, once the groups of each link are listed.
+fn check_listed<'a, V: GroupValues, L: Ledger>(
+    alloc: Global,
+    values: &'a V,
+    topology: &'a Topology,
+    plan: &'a PathPlan,
+    by_link: &'a GroupsByLink<'a>,
+    closings: &[Closing],
+    steps: &mut Steps<L>,
+) -> Result<Verdict, OutOfMemory>
+    requires built_on { IsBuiltOn topology.now plan.now }
+    requires listed { by_link.now ≡ plan.now }
+    requires groups { (V.meaning values.now).groups ≡ length plan.now }
+    ensures verdict { IfOk result (λ verdict. verdict
+        ≡ verdict_of (wan_of (V.meaning values.now) plan.now topology.now.capacities)
+        closings.now) }
+    ensures right { IfOk result (λ verdict. (verdict ≡ Right) ↔ (closings.now
+        ≡ reverse (filling
+        (wan_of (V.meaning values.now) plan.now topology.now.capacities)).closings)) }
+    ensures looks { let links = length topology.now.capacities in
+        steps.new ≤ steps.old + 31 * (links + 2 * links_over_all links plan.now) + (2 * links + 1) }
+{
+    let top = values.top();
+    let mut front = Front::open(alloc, values, topology, plan, by_link)?;
     let mut dues = first_dues(alloc, &front, top)?;
     Ok(verdict_on(alloc, &mut front, &mut dues, top, closings, steps)?)
 }
@@ -122,8 +156,10 @@ fn verdict_on<V: GroupValues, L: Ledger>(
     requires dues { AreDues (wan_in V.meaning front.old) (closings_in front.old) dues.old }
     requires none { closings_in front.old ≡ [] }
     requires top { top ≡ (V.meaning front.old.values.now).top }
-    ensures verdict { IfOk result (λ verdict. verdict ≡ verdict_of (wan_in V.meaning front.old) closings.now) }
-    ensures ticks { steps.new ≤ steps.old + looks_ahead (wan_in V.meaning front.old) (closings_in front.old) dues.old
+    ensures verdict { IfOk result
+        (λ verdict. verdict ≡ verdict_of (wan_in V.meaning front.old) closings.now) }
+    ensures ticks { steps.new
+        ≤ steps.old + looks_ahead (wan_in V.meaning front.old) (closings_in front.old) dues.old
         + (2 * length front.old.topology.now.capacities + 1) }
 {
     for place in 0..closings.len() {
@@ -154,10 +190,12 @@ fn cause_of<V: GroupValues, L: Ledger>(
     requires top { top ≡ (V.meaning front.now.values.now).top }
     ensures cause { IfOk result (λ cause. cause
         ≡ cause_after (wan_in V.meaning front.now) (closings_in front.now) closing) }
-    ensures dues { OnOk result (AreDues (wan_in V.meaning front.now) (closings_in front.now) dues.new) }
+    ensures dues { OnOk result
+        (AreDues (wan_in V.meaning front.now) (closings_in front.now) dues.new) }
     ensures least { IfOk result (λ cause. cause ≡ None
         → (link : ℕ) → link < length dues.new → closing.share ≤ (due_at dues.new link).share) }
-    ensures ticks { steps.new + looks_ahead (wan_in V.meaning front.now) (closings_in front.now) dues.new
+    ensures ticks { steps.new
+        + looks_ahead (wan_in V.meaning front.now) (closings_in front.now) dues.new
         ≤ steps.old + looks_ahead (wan_in V.meaning front.now) (closings_in front.now) dues.old
         + (2 * length front.now.topology.now.capacities + 1) }
     ensures ticks_none { IfOk result (λ cause. cause ≡ None
@@ -206,8 +244,11 @@ fn share_cause<V: GroupValues, L: Ledger>(
     requires last { last_share (closings_in front.now) ≤ closing.share }
     requires below { closing.share < (V.meaning front.now.values.now).top }
     ensures cause { IfOk result (λ cause. cause
-        ≡ share_cause_of (over_at (wan_in V.meaning front.now) (closings_in front.now) closing.share)
-        (next_cause_of closing.link (is_over_at (wan_in V.meaning front.now) (closings_in front.now) (closing.share + 1) closing.link)
+        ≡ share_cause_of
+        (over_at (wan_in V.meaning front.now) (closings_in front.now) closing.share)
+        (next_cause_of closing.link
+        (is_over_at (wan_in V.meaning front.now) (closings_in front.now) (closing.share + 1)
+        closing.link)
         (over_at (wan_in V.meaning front.now) (closings_in front.now) (closing.share + 1)))) }
     ensures ticks { steps.new ≤ steps.old + (2 * length front.now.topology.now.capacities + 1) }
 {

@@ -21,7 +21,8 @@ fault_or None later = later
 -- the first fault of the points that come after another, from a place on
 unfoldable pub later_fault : ℕ × ℕ → List (ℕ × ℕ) → ℕ → ℕ → Option FunctionFault
 later_fault before [] top place = None
-later_fault before (point ∷ later) top place = fault_or (point_fault before point top place) (later_fault point later top (place + 1))
+later_fault before (point ∷ later) top place =
+    fault_or (point_fault before point top place) (later_fault point later top (place + 1))
 
 -- the first fault of a list of points under a top share
 abbrev pub function_fault : List (ℕ × ℕ) → ℕ → Option FunctionFault

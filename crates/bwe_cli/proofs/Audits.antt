@@ -7,7 +7,8 @@ use Rattle.bwe_specs.specs.Allocation.{Plan, Table, allocation}
 use Rattle.allocator.specs.Frames.{task_count}
 use Rattle.doc_names.specs.declared.Names.{Names}
 use Rattle.audit_law.specs.DocumentRun.{IsDocumentRun, document_verdict, script_verdict}
-use Rattle.document_scripts.specs.Scripts.{AreOfReporters, items_of, reports_in, scripts_of}
+use Rattle.crew_log.specs.Scripts.{AreOfReporters, reports_in}
+use Rattle.document_scripts.specs.Scripts.{items_of, scripts_of}
 use Rattle.limit_table.specs.Tables as tables
 use Rattle.one_run.specs.Endings.{Reply}
 use Rattle.plan_doc.specs.declared.document.Document.{Document}

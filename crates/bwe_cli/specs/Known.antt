@@ -5,4 +5,6 @@ use Rattle.bwe_cli.specs.declared.known.Known.{Known}
 
 -- the table is that of the plan under the demands and capacities that are kept
 abbrev pub IsKnown : Plan → Known → Type 0
-IsKnown plan known = known.table ≡ table_under plan known.table.prefix (λ task. slice_index known.demands.items task) known.capacities.items
+IsKnown plan known =
+    known.table ≡ table_under plan known.table.prefix (λ task. slice_index known.demands.items task)
+    known.capacities.items

@@ -28,21 +28,27 @@ pub record HasGot {S K : Type 0} (served : Served S K) (input text : List ℕ) :
   pub first : served.written served.sink ≡ Some before
   pub last : served.written served.sink_after ≡ Some (before ++ text)
 
--- how a call may end that finds a text legal: its source or its sink may fail, or memory be wanting, but it says nothing else
+-- how a call may end that finds a text legal: its source or its sink may fail, or memory be
+-- wanting, but it says nothing else
 pub data IsFoundLegal {S K : Type 0} (served : Served S K) : ℕ → Type 0 where
-  legal : Appends (served.written served.sink) (served.written served.sink_after) (codes "legal\n") → IsFoundLegal served 0
+  legal : Appends (served.written served.sink) (served.written served.sink_after) (codes "legal\n")
+      → IsFoundLegal served 0
   read_fault : HasRisen (served.read_faults served.source) (served.read_faults served.source_after)
-      → Keeps (served.written served.sink) (served.written served.sink_after) → IsFoundLegal served 4
+      → Keeps (served.written served.sink) (served.written served.sink_after)
+      → IsFoundLegal served 4
   write_fault : HasRisen (served.write_faults served.sink) (served.write_faults served.sink_after)
-      → AppendsPrefix (served.written served.sink) (served.written served.sink_after) (codes "legal\n") → IsFoundLegal served 5
-  out_of_memory : Keeps (served.written served.sink) (served.written served.sink_after) → IsFoundLegal served 6
+      → AppendsPrefix (served.written served.sink) (served.written served.sink_after)
+      (codes "legal\n") → IsFoundLegal served 5
+  out_of_memory : Keeps (served.written served.sink) (served.written served.sink_after)
+      → IsFoundLegal served 6
 
--- Where a call for `run` ended with status 0, a call for `audit` on its document and what it wrote, no more together than
--- an input may have, finds that legal.
+-- Where a call for `run` ended with status 0, a call for `audit` on its document and what it wrote,
+-- no more together than an input may have, finds that legal.
 abbrev pub WhatRanIsFoundLegal : Type 0 → Type 0 → Type 0 → Type 0 → Type 0
 WhatRanIsFoundLegal S K T L =
     (words : List Text) (readers reads : ℕ) (ran : Served S K) (document text : List ℕ)
-    → command_line_of words ≡ Some (Run readers reads) → IsServed (command_line_of words) ran 0 → HasGot ran document text
+    → command_line_of words ≡ Some (Run readers reads) → IsServed (command_line_of words) ran 0
+    → HasGot ran document text
     → (digits input : List ℕ) (audited : Served T L) (status : ℕ)
     → IsTwoPart input digits document text → length input ≤ max_input
     → audited.left audited.source ≡ Some input → IsServed (Some Audit) audited status

@@ -11,10 +11,13 @@ use Rattle.document_run.specs.Runs.{IsRunOf}
 use Rattle.plan_doc.specs.Plans.{plan_of}
 use Rattle.line_answers.specs.Replies.{refused_reply}
 
--- `run`: the text of a closed run of the script, whose table is that of `solve`; or the line of the refusal
+-- `run`: the text of a closed run of the script, whose table is that of `solve`; or the line of the
+-- refusal
 abbrev pub IsRunReply : ℕ → ℕ → Result Accepted Refusal → Reply → Type 0
 IsRunReply readers reads (Ok accepted) given =
-    (log : CrewLog Table) × IsRunOf (plan_of accepted) accepted.script (length accepted.names.reporters) readers reads log
+    (log : CrewLog Table)
+    × IsRunOf (plan_of accepted) accepted.script (length accepted.names.reporters) readers reads
+    log
     × IsClosed log
     × (given ≡ record { status = 0; text = run_text_of accepted.names log })
 IsRunReply readers reads (Err refusal) given = given ≡ refused_reply refusal

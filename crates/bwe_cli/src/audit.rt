@@ -67,7 +67,8 @@ fn solved_and_rewound(
 ) -> Result<KnowingAllocator, OutOfMemory>
     requires first { ⟦<Allocator as Maker>⟧.absorbed allocator [] }
     requires few { length script.now ≤ MAX_REPORTS }
-    requires fit { All (IsFit (⟦<Allocator as Maker>⟧.plan_tasks (⟦<Allocator as Maker>⟧.plan allocator))
+    requires fit { All
+        (IsFit (⟦<Allocator as Maker>⟧.plan_tasks (⟦<Allocator as Maker>⟧.plan allocator))
         (⟦<Allocator as Maker>⟧.plan_links (⟦<Allocator as Maker>⟧.plan allocator))) script.now }
     requires given { given.now ≡ (⟦<Allocator as Maker>⟧.plan allocator).capacities }
     requires range { All (λ capacity. capacity ≤ MAX_AMOUNT) given.now }

@@ -28,7 +28,8 @@ pub(crate) fn known_of(alloc: Global, allocator: &mut Allocator) -> Result<Known
     requires after { (reports : List Report) × IsAfter allocator.old.reported reports }
     ensures plan { plan_in allocator.new ≡ plan_in allocator.old }
     ensures known { IfOk result (IsKnown (plan_in allocator.old)) }
-    ensures table { IfOk result (λ known. (reports : List Report) → IsAfter allocator.old.reported reports
+    ensures table { IfOk result
+        (λ known. (reports : List Report) → IsAfter allocator.old.reported reports
         → known.table ≡ ⟦<Allocator as Maker>⟧.table_of (plan_in allocator.old) reports) }
 {
     let demands = demands_of(alloc, allocator.values().tree)?;
@@ -100,8 +101,10 @@ impl Maker for KnowingAllocator {
 // Whether the known table is that of what now stands.
 fn stands(known: &Known, allocator: &Allocator) -> bool
     ensures prefix { result ≡ true → known.now.table.prefix ≡ allocator.now.reported.prefix }
-    ensures demands { result ≡ true → known.now.demands.items ≡ allocator.now.reported.tree.demands }
-    ensures capacities { result ≡ true → known.now.capacities.items ≡ allocator.now.reported.network.capacities }
+    ensures demands { result ≡ true
+        → known.now.demands.items ≡ allocator.now.reported.tree.demands }
+    ensures capacities { result ≡ true
+        → known.now.capacities.items ≡ allocator.now.reported.network.capacities }
 {
     known.table.prefix == allocator.prefix()
         && are_demands(&known.demands, allocator.values().tree)

@@ -1,12 +1,14 @@
-//! What a status tells of a call, and what joins two lines, each law the contract of a function that does nothing.
+//! What a status tells of a call, and what joins two lines, each law the contract of a function
+//! that does nothing.
 
 ghost use Rattle.bwe_cli.specs.Laws.{RunsAreLegal, WhatRanIsFoundLegal};
 ghost use Rattle.bwe_cli.specs.Statuses.{AcceptedIsAnswered, AnAnswerIsWhole, NothingIsWritten};
 
 use bwe_io::{Sink, Source};
 
-/// An answer is whole: the status is 0, 1 or 3 exactly where the words are a line, its whole input was taken in, and what
-/// the line may get for it with that status was written whole ("Statuses", docs/DEFINITIONS.md).
+/// An answer is whole: the status is 0, 1 or 3 exactly where the words are a line, its whole input
+/// was taken in, and what the line may get for it with that status was written whole ("Statuses",
+/// docs/DEFINITIONS.md).
 pub fn an_answer_is_whole<S: Source, K: Sink>()
     ensures { AnAnswerIsWhole S K }
 {}
@@ -16,8 +18,9 @@ pub fn nothing_is_written<S: Source, K: Sink>()
     ensures { NothingIsWritten S K }
 {}
 
-/// What is accepted is answered: where neither source nor sink fails, the input is not too long, and nothing that the line
-/// may get for it is a refusal, the status is 0 or 1, or 6 where memory is wanting.
+/// What is accepted is answered: where neither source nor sink fails, the input is not too long,
+/// and nothing that the line may get for it is a refusal, the status is 0 or 1, or 6 where memory
+/// is wanting.
 pub fn accepted_is_answered<S: Source, K: Sink>()
     ensures { AcceptedIsAnswered S K }
 {}

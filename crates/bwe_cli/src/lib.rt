@@ -1,9 +1,11 @@
-//! The top call: one command line, from its words and the bytes of its input to the bytes of its answer and a status.
+//! The top call: one command line, from its words and the bytes of its input to the bytes of its
+//! answer and a status.
 //!
-//! The program calls `bwe` with the standard streams; `bwe_once` is the same for every line that needs no threads. The
-//! words are read once. The contract of each is one sentence: for the line that the words are, source and sink went from
-//! here to there as an ending with this status allows. `specs/TopCall.antt` has what each line may get for its input, and
-//! `Ending` of `one_run` how a call may end. Nothing is promised of time, nor that memory is there.
+//! The program calls `bwe` with the standard streams; `bwe_once` is the same for every line that
+//! needs no threads. The words are read once. The contract of each is one sentence: for the line
+//! that the words are, source and sink went from here to there as an ending with this status
+//! allows. `specs/TopCall.antt` has what each line may get for its input, and `Ending` of `one_run`
+//! how a call may end. Nothing is promised of time, nor that memory is there.
 #![tactic(auto)]
 
 ghost use Rattle.std.specs.Prelude.{◌≡◌, false, IfSome};
@@ -36,10 +38,10 @@ use std::thread::Threads;
 
 /// Serves one command line of the program, and answers the status ("Statuses", docs/FORMAT.md).
 ///
-/// `words` are those after the program's name. `run` puts a reporter for each of the document's reporters, the allocator
-/// and the readers on threads; `gate` is called round each of their calls. `levels` works its values out on threads. The
-/// whole text is made before its first byte is written. Where the line is not `run`, it returns provided that the source
-/// and the sink return.
+/// `words` are those after the program's name. `run` puts a reporter for each of the document's
+/// reporters, the allocator and the readers on threads; `gate` is called round each of their calls.
+/// `levels` works its values out on threads. The whole text is made before its first byte is
+/// written. Where the line is not `run`, it returns provided that the source and the sink return.
 pub fn bwe<S: Source, K: Sink, G: Gate + Sync, R: Threads + Wait + Sync>(
     rt: &R,
     alloc: Global,
@@ -72,7 +74,8 @@ pub fn bwe<S: Source, K: Sink, G: Gate + Sync, R: Threads + Wait + Sync>(
     }
 }
 
-/// Serves one command line that needs no threads, and answers the status. The line `run` is none here.
+/// Serves one command line that needs no threads, and answers the status. The line `run` is none
+/// here.
 ///
 /// It waits for nobody, and returns provided that the source and the sink return.
 pub fn bwe_once<S: Source, K: Sink>(

@@ -12,4 +12,5 @@ TakesAtMost limit old new = (bytes : List ℕ) × Consumes old new bytes × (len
 
 -- known bytes grew by the first of these, all of them or fewer
 abbrev pub AppendsPrefix : Option (List ℕ) → Option (List ℕ) → List ℕ → Type 0
-AppendsPrefix old new bytes = (count : ℕ) × (count ≤ length bytes) × Appends old new (take count bytes)
+AppendsPrefix old new bytes = (count : ℕ) × (count ≤ length bytes)
+    × Appends old new (take count bytes)

@@ -1,9 +1,9 @@
 //! Bytes in and out: sources and sinks whose faults are counted.
 //!
-//! The top call reads its input by `read_all` and writes its text by `write_all`, over any `Source` and any
-//! `Sink`. A fault is told only where the count of the object that was handed in rose, so a body that gives up
-//! by itself has no fault to tell. Streams of the system come in by `StdSource` and `StdSink`: what such a
-//! stream gives or takes, no contract says.
+//! The top call reads its input by `read_all` and writes its text by `write_all`, over any `Source`
+//! and any `Sink`. A fault is told only where the count of the object that was handed in rose, so a
+//! body that gives up by itself has no fault to tell. Streams of the system come in by `StdSource`
+//! and `StdSink`: what such a stream gives or takes, no contract says.
 #![tactic(auto)]
 
 mod held;

@@ -39,7 +39,8 @@ impl Model for MemorySource {
 }
 
 impl MemorySource {
-    /// Gives at most `chunk` bytes a call, and fails at the calls whose numbers, from 0, are listed.
+    /// Gives at most `chunk` bytes a call, and fails at the calls whose numbers, from 0, are
+    /// listed.
     pub fn new(bytes: Vec<u8>, chunk: usize, failing: Vec<u64>) -> MemorySource
         requires moves { 1 ≤ chunk }
         requires failing { All (λ call. call < last_count) failing.items }
@@ -124,8 +125,9 @@ impl Model for MemorySink {
 }
 
 impl MemorySink {
-    /// Takes at most `chunk` bytes a call and `room` bytes in all. It fails at the calls whose numbers, from 0, are
-    /// listed, and where there is no room. The room is reserved here, so a write takes no memory.
+    /// Takes at most `chunk` bytes a call and `room` bytes in all. It fails at the calls whose
+    /// numbers, from 0, are listed, and where there is no room. The room is reserved here, so a
+    /// write takes no memory.
     pub fn new(
         alloc: Global,
         room: usize,
@@ -169,16 +171,19 @@ impl Sink for MemorySink {
     fn write(&mut self, bytes: &[u8]) -> Result<usize, Failed>
         ensures fits { IfOk result (λ count. count ≤ length bytes.now) }
         ensures some { IfOk result (λ count. 0 < length bytes.now → 0 < count) }
-        ensures bytes { WriteAppends (Some self.old.written) (Some self.new.written) result bytes.now }
+        ensures bytes { WriteAppends (Some self.old.written) (Some self.new.written) result
+            bytes.now }
         ensures counted { self.old.faults ≤ self.new.faults }
         ensures failed { OnErr result (HasRisen self.old.faults self.new.faults) }
 
-        // It fails exactly at the listed calls and where it is full, and else takes as much as one call may.
+        // It fails exactly at the listed calls and where it is full, and else takes as much as one
+        // call may.
         ensures fails { IsErr result
             ↔ (Contains self.old.failing self.old.calls ⊎ IsFull self.old.room bytes.now) }
         ensures moved { IfOk result (λ count.
             count ≡ min self.old.room (min self.old.chunk (length bytes.now))) }
-        ensures room { self.new.room + length self.new.written ≡ self.old.room + length self.old.written }
+        ensures room { self.new.room + length self.new.written
+            ≡ self.old.room + length self.old.written }
         ensures rises { OnErr result (self.new.faults ≡ min (self.old.faults + 1) last_count) }
         ensures stays { OnOk result (self.new.faults ≡ self.old.faults) }
         ensures calls { self.new ≡ record self.old {

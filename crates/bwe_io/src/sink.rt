@@ -15,7 +15,8 @@ pub trait Sink {
     /// How often a write failed.
     ghost faults: { Self → ℕ };
 
-    /// Appends bytes from the front of the piece, and says how many: at least one where there is one.
+    /// Appends bytes from the front of the piece, and says how many: at least one where there is
+    /// one.
     fn write(&mut self, bytes: &[u8]) -> Result<usize, Failed>
         ensures fits { IfOk result (λ count. count ≤ length bytes.now) }
         ensures some { IfOk result (λ count. 0 < length bytes.now → 0 < count) }
@@ -34,7 +35,8 @@ pub struct WriteFault;
 /// It takes no memory of its own, and returns provided that the sink's writes return.
 pub fn write_all<K: Sink>(sink: &mut K, bytes: &[u8]) -> Result<(), WriteFault>
     ensures whole { OnOk result (Appends (K.written sink.old) (K.written sink.new) bytes.now) }
-    ensures prefix { OnErr result (AppendsPrefix (K.written sink.old) (K.written sink.new) bytes.now) }
+    ensures prefix { OnErr result
+        (AppendsPrefix (K.written sink.old) (K.written sink.new) bytes.now) }
     ensures counted { K.faults sink.old ≤ K.faults sink.new }
     ensures fault { OnErr result (HasRisen (K.faults sink.old) (K.faults sink.new)) }
 {

@@ -24,7 +24,8 @@ pub trait Source {
     /// None into a buffer that isn't empty is the end of input.
     fn read(&mut self, buffer: &mut [u8]) -> Result<usize, Failed>
         ensures fits { IfOk result (λ count. count ≤ length buffer.new) }
-        // On Ok these bytes are taken, all of them where there are none; a failed read takes nothing.
+        // On Ok these bytes are taken, all of them where there are none; a failed read takes
+        // nothing.
         ensures bytes { ReadConsumes (left self.old) (left self.new) result buffer.new }
         ensures counted { faults self.old ≤ faults self.new }
         ensures failed { OnErr result (HasRisen (faults self.old) (faults self.new)) };
@@ -59,8 +60,9 @@ impl From<Failed> for ReadError {
 
 /// All bytes to the end of input, of which there may be `limit`.
 ///
-/// It stops at the first byte above the limit. The bytes that were taken before a refusal are gone from the
-/// source. It returns provided that the source's reads return: each gives a byte, or ends the loop.
+/// It stops at the first byte above the limit. The bytes that were taken before a refusal are gone
+/// from the source. It returns provided that the source's reads return: each gives a byte, or ends
+/// the loop.
 pub fn read_all<S: Source>(alloc: Global, source: &mut S, limit: u64) -> Result<Vec<u8>, ReadError>
     requires { limit < 18_446_744_073_709_551_615 }
 

@@ -49,7 +49,8 @@ impl<R: Read> Source for StdSource<R> {
     }
 }
 
-/// Writes to a writer of std. It counts each error as a fault, and a write that takes nothing of a piece.
+/// Writes to a writer of std. It counts each error as a fault, and a write that takes nothing of a
+/// piece.
 ///
 /// It tells the bytes written so far where the writer does. A standard stream tells none.
 #[derive(Drop)]

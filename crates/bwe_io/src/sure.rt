@@ -97,14 +97,16 @@ impl Sink for SureSink {
     fn write(&mut self, bytes: &[u8]) -> Result<usize, Failed>
         ensures fits { IfOk result (λ count. count ≤ length bytes.now) }
         ensures some { IfOk result (λ count. 0 < length bytes.now → 0 < count) }
-        ensures bytes { WriteAppends (Some self.old.written) (Some self.new.written) result bytes.now }
+        ensures bytes { WriteAppends (Some self.old.written) (Some self.new.written) result
+            bytes.now }
         ensures counted { self.old.faults ≤ self.new.faults }
         ensures failed { OnErr result (HasRisen self.old.faults self.new.faults) }
 
         // It fails exactly where it is full, and else takes as much as there is room for.
         ensures full { IsErr result ↔ IsFull self.old.room bytes.now }
         ensures moved { IfOk result (λ count. count ≡ min self.old.room (length bytes.now)) }
-        ensures room { self.new.room + length self.new.written ≡ self.old.room + length self.old.written }
+        ensures room { self.new.room + length self.new.written
+            ≡ self.old.room + length self.old.written }
         ensures rises { OnErr result (self.new.faults ≡ min (self.old.faults + 1) last_count) }
         ensures stays { OnOk result (self.new.faults ≡ self.old.faults) }
     {

@@ -7,7 +7,8 @@ pub struct Closing {
     pub share: u64,
 }
 
-/// Why a list of closings is not right, in the order in which the causes are looked at ("Right closings", docs/DEFINITIONS.md).
+/// Why a list of closings is not right, in the order in which the causes are looked at ("Right
+/// closings", docs/DEFINITIONS.md).
 ///
 /// All but the last speak of one closing, with the earlier ones in force.
 #[derive(Clone, Copy, Debug, PartialEq, Eq, Drop)]
@@ -30,7 +31,8 @@ pub enum Cause {
     OverAtTop { link: u32 },
 }
 
-/// What is said of a list of closings: right, or the place of the first closing at fault, from 0, with its first cause.
+/// What is said of a list of closings: right, or the place of the first closing at fault, from 0,
+/// with its first cause.
 ///
 /// With the cause `OverAtTop` the place is the number of closings.
 #[derive(Clone, Copy, Debug, PartialEq, Eq, Drop)]

@@ -14,7 +14,8 @@ pub record Tasks : Type 0 where
 
 -- the sum of the tasks' values at a share
 abbrev pub tasks_value : Tasks → ℕ → ℕ
-tasks_value sum share = sum_by (λ task. task_value sum.function.points task.weight task.demand share) sum.tasks
+tasks_value sum share =
+    sum_by (λ task. task_value sum.function.points task.weight task.demand share) sum.tasks
 
 -- a task by its number
 abbrev pub task_at : List Task → ℕ → Task
@@ -22,14 +23,18 @@ task_at tasks number = slice_index_or tasks number (record { weight = 0; demand 
 
 -- one demand changes
 abbrev pub with_demand : Tasks → ℕ → ℕ → Tasks
-with_demand sum number demand = record sum { tasks = slice_set sum.tasks number (record { weight = (task_at sum.tasks number).weight; demand = demand }) }
+with_demand sum number demand =
+    record sum {
+      tasks = slice_set sum.tasks number (record { weight = (task_at sum.tasks number).weight; demand = demand });
+    }
 
 -- a task of the weight, which asks for nothing
 abbrev pub without_demand : ℕ → Task
 without_demand weight = record { weight = weight; demand = 0 }
 
 -- the tasks are in range, and the index is theirs unless it is stale
-pub record IsCappedSum (tasks : List Task) (ranked : List RankedTask) (before : List SumsBefore) (full : List ℕ) (is_fresh : Bool) : Type 0 where
+pub record IsCappedSum (tasks : List Task) (ranked : List RankedTask) (before : List SumsBefore)
+    (full : List ℕ) (is_fresh : Bool) : Type 0 where
   pub in_range : AreInRange tasks
   pub ranks : length ranked ≡ length tasks
   pub sums : length before ≡ length tasks + 1

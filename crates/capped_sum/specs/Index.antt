@@ -24,7 +24,12 @@ pub record AreInRange (tasks : List Task) : Type 0 where
 
 -- a task with the least amount per weight at which it has its whole demand
 abbrev pub ranked_of : Task → RankedTask
-ranked_of task = record { full_at = div_ceil task.demand task.weight; weight = task.weight; demand = task.demand }
+ranked_of task =
+    record {
+      full_at = div_ceil task.demand task.weight;
+      weight = task.weight;
+      demand = task.demand;
+    }
 
 -- the sums over all tasks fit
 pub record SumsFit (ranked : List RankedTask) : Type 0 where
@@ -45,15 +50,18 @@ pub record AreSummed (ranked : List RankedTask) (before : List SumsBefore) : Typ
       → (slice_index_or before place d).demands ≡ sum_by (λ task. task.demand) (take place ranked)
 
 -- the index is that of these tasks
-pub record IsIndexOf (tasks : List Task) (ranked : List RankedTask) (before : List SumsBefore) : Type 0 where
+pub record IsIndexOf (tasks : List Task) (ranked : List RankedTask) (before : List SumsBefore)
+    : Type 0 where
   pub ranks : AreRanked tasks ranked
   pub sums : AreSummed ranked before
 
 -- the sum at the amount per weight at which the task of each place is full
-pub record AreSumsWhenFull (tasks : List Task) (ranked : List RankedTask) (when_full : List ℕ) : Type 0 where
+pub record AreSumsWhenFull (tasks : List Task) (ranked : List RankedTask) (when_full : List ℕ)
+    : Type 0 where
   pub size : length when_full ≡ length ranked
   pub sums : (place : ℕ) (d : ℕ) (e : RankedTask) → place < length ranked
-      → slice_index_or when_full place d ≡ sum_by (capped (slice_index_or ranked place e).full_at) tasks
+      → slice_index_or when_full place d
+      ≡ sum_by (capped (slice_index_or ranked place e).full_at) tasks
 
 -- the greatest amount per weight at which the sum is at most an amount
 pub record IsMost (tasks : List Task) (amount most : ℕ) : Type 0 where

@@ -11,7 +11,6 @@ use Rattle.std.proofs.lemmas.List.{get_or_past}
 use Rattle.std.proofs.lemmas.List.Splits.{slice_split_at, slice_split_none}
 use Rattle.std.proofs.lemmas.List.Sums.{AllPass-from_list_all}
 use Rattle.std.proofs.lemmas.Str.{IsAscii-append, IsUtf8-from_ascii, is_utf8-from_IsUtf8}
-use Rattle.std.proofs.lemmas.Str.Parse.{IsNumeralModel, numerals_by_value, tells_all_ascii_digits}
 use Rattle.bwe_specs.specs.declared.limits.TheConstants.{MAX_AMOUNT}
 use Rattle.bwe_specs.specs.declared.report.Report.{Report}
 use Rattle.bwe_specs.specs.declared.report.Target.{Target}
@@ -20,6 +19,7 @@ use Rattle.demand_book.specs.Fit.{IsInRange}
 use Rattle.text_scan.specs.Names.{number_of_name}
 use Rattle.text_scan.specs.Numbers.{is_number, number_of}
 use Rattle.text_scan.specs.Words.{words_of}
+use Rattle.text_scan.proofs.NumberFacts.{ascii_numerals}
 use Rattle.table_text.specs.TableText.{name_at}
 use Rattle.live_lines.specs.declared.line.LineMeaning.TheVariants.{NewReport}
 use Rattle.live_lines.specs.Known.{Known, owner_of}
@@ -67,12 +67,9 @@ plain_digits (digit ∷ text) e =
 
 -- ---- amounts
 
-own : IsNumeralModel (λ ds. all_ascii_digits ds ≡ true) (digits_value 10)
-own = numerals_by_value (λ ds. all_ascii_digits ds ≡ true) tells_all_ascii_digits
-
 pub printed_is_number : (amount : ℕ) → amount < 2 ^ 64 → is_number (decimal amount) ≡ true
 printed_is_number amount small = rw (
-  digits_decimal own amount small,
+  digits_decimal ascii_numerals amount small,
   le-leb 1 (length (decimal amount)) (decimal_nonempty amount small),
   le-leb (length (decimal amount)) 20 (length-decimal-le 20 amount (omega arith) (omega (arith, small)) small),
 ) refl
@@ -83,7 +80,7 @@ printed_amount amount few =
     let small : amount < 2 ^ 64 = omega (arith, few) in
     rw (
       printed_is_number amount small,
-      digits_value-decimal own amount small,
+      digits_value-decimal ascii_numerals amount small,
       lt-ltb amount 18446744073709551616 (omega (arith, small)),
       le-leb amount MAX_AMOUNT few,
     ) refl
@@ -162,7 +159,7 @@ by_target known reporter amount (Task task) names there in_range few owned =
     let small : amount < 2 ^ 64 = omega (arith, few) in
     let r = names.reporters reporter there in
     let t = names.tasks task in_range in
-    let digits = plain_digits (decimal amount) (digits_decimal own amount small) in
+    let digits = plain_digits (decimal amount) (digits_decimal ascii_numerals amount small) in
     subst (λ (line : Text). IsRead known (record { reporter = reporter; target = Task task; amount = amount }) line)
     (sym (shape (codes "demand") (name_at known.names.reporters reporter) (name_at known.names.tasks task) (decimal amount))) (
       short (codes "demand") (name_at known.names.reporters reporter) (name_at known.names.tasks task) (decimal amount) (omega arith) r.0.few t.0.few (length-decimal-le 20 amount (omega arith) (omega (arith, small)) small),
@@ -173,7 +170,7 @@ by_target known reporter amount (Link link) names there in_range few owned =
     let small : amount < 2 ^ 64 = omega (arith, few) in
     let r = names.reporters reporter there in
     let t = names.links link in_range in
-    let digits = plain_digits (decimal amount) (digits_decimal own amount small) in
+    let digits = plain_digits (decimal amount) (digits_decimal ascii_numerals amount small) in
     subst (λ (line : Text). IsRead known (record { reporter = reporter; target = Link link; amount = amount }) line)
     (sym (shape (codes "capacity") (name_at known.names.reporters reporter) (name_at known.names.links link) (decimal amount))) (
       short (codes "capacity") (name_at known.names.reporters reporter) (name_at known.names.links link) (decimal amount) (omega arith) r.0.few t.0.few (length-decimal-le 20 amount (omega arith) (omega (arith, small)) small),

@@ -7,7 +7,8 @@ use Rattle.bwe_specs.specs.Reports.{numbers}
 use Rattle.doc_names.specs.NameTexts.{NameTexts}
 use Rattle.table_text.specs.TableText.{closing_line, link_line, group_lines, task_line}
 
--- what a number has in the later table, exactly where it is printed otherwise than in the earlier one
+-- what a number has in the later table, exactly where it is printed otherwise than in the earlier
+-- one
 unfoldable pub changed : (ℕ → List ℕ) → (ℕ → List ℕ) → ℕ → List ℕ
 changed earlier later number = if bytes_eq (earlier number) (later number) then [] else later number
 
@@ -25,7 +26,10 @@ unfoldable pub change_text_of : NameTexts → Table → Table → List ℕ
 change_text_of names earlier later =
     codes "change " ++ decimal later.prefix ++ codes "\n"
     ++ changed_closings names earlier.closings later.closings
-    ++ flat_map (changed (link_line names earlier.loads) (link_line names later.loads)) (numbers (length later.loads))
-    ++ flat_map (changed (group_lines names earlier.groups) (group_lines names later.groups)) (numbers (length later.groups))
-    ++ flat_map (changed (task_line names earlier.limits) (task_line names later.limits)) (numbers (length later.limits))
+    ++ flat_map (changed (link_line names earlier.loads) (link_line names later.loads))
+    (numbers (length later.loads))
+    ++ flat_map (changed (group_lines names earlier.groups) (group_lines names later.groups))
+    (numbers (length later.groups))
+    ++ flat_map (changed (task_line names earlier.limits) (task_line names later.limits))
+    (numbers (length later.limits))
     ++ codes "total " ++ decimal (sum_by (λ line. line.amount) later.groups) ++ codes "\n"

@@ -1,4 +1,5 @@
--- A table that is kept by its changes: what the change has of a number, and the earlier lines where it has nothing.
+-- A table that is kept by its changes: what the change has of a number, and the earlier lines where
+-- it has nothing.
 use Rattle.std.specs.Prelude.{◌≡◌, ◌≢◌, ℕ, ◌++◌, Bool, ◌==◌, List, [], length, flat_map, sum_by, codes, decimal, if◌then◌else◌}
 use Rattle.bwe_specs.specs.declared.network.Closing.{Closing}
 use Rattle.bwe_specs.specs.Allocation.{Table}
@@ -18,24 +19,33 @@ kept earlier change number = if is_nothing (change number) then earlier number e
 -- the lines of the closings, without the line that says how many there are
 abbrev pub kept_closings : NameTexts → List Closing → List Closing → List ℕ
 kept_closings names earlier later =
-    if is_nothing (changed_closings names earlier later) then closing_lines names earlier else closing_lines names later
+    if is_nothing (changed_closings names earlier later) then closing_lines names earlier
+    else closing_lines names later
 
 -- the text of the earlier table with the change made to it
 unfoldable pub kept_text : NameTexts → Table → Table → List ℕ
 kept_text names earlier later =
     codes "table " ++ decimal later.prefix ++ codes "\n"
     ++ kept_closings names earlier.closings later.closings
-    ++ flat_map (kept (link_line names earlier.loads) (changed (link_line names earlier.loads) (link_line names later.loads))) (numbers (length earlier.loads))
-    ++ flat_map (kept (group_lines names earlier.groups) (changed (group_lines names earlier.groups) (group_lines names later.groups))) (numbers (length earlier.groups))
-    ++ flat_map (kept (task_line names earlier.limits) (changed (task_line names earlier.limits) (task_line names later.limits))) (numbers (length earlier.limits))
+    ++ flat_map (kept (link_line names earlier.loads)
+    (changed (link_line names earlier.loads) (link_line names later.loads)))
+    (numbers (length earlier.loads))
+    ++ flat_map (kept (group_lines names earlier.groups)
+    (changed (group_lines names earlier.groups) (group_lines names later.groups)))
+    (numbers (length earlier.groups))
+    ++ flat_map (kept (task_line names earlier.limits)
+    (changed (task_line names earlier.limits) (task_line names later.limits)))
+    (numbers (length earlier.limits))
     ++ codes "total " ++ decimal (sum_by (λ line. line.amount) later.groups) ++ codes "\n"
 
 -- the text of the earlier table with the change made to it is the text of the later one
 abbrev pub KeptTablesAreMadeTables : Type 0
-KeptTablesAreMadeTables = (names : NameTexts) (earlier later : Table) → frame_of earlier ≡ frame_of later
+KeptTablesAreMadeTables = (names : NameTexts) (earlier later : Table)
+    → frame_of earlier ≡ frame_of later
     → kept_text names earlier later ≡ text_of names later
 
 -- a number has lines in the change exactly where the two tables print other lines of it
 abbrev pub ChangesStandWhereLinesDiffer : Type 0
-ChangesStandWhereLinesDiffer = (earlier later : ℕ → List ℕ) (number : ℕ) → (earlier number ≡ later number → changed earlier later number ≡ [])
+ChangesStandWhereLinesDiffer = (earlier later : ℕ → List ℕ) (number : ℕ)
+    → (earlier number ≡ later number → changed earlier later number ≡ [])
     × (earlier number ≢ later number → changed earlier later number ≡ later number)

@@ -11,4 +11,6 @@ cause_number AmountOutOfRange = 3
 cause_number NotOwner = 4
 
 unfoldable pub refused_text_of : ℕ → LineCause → List ℕ
-refused_text_of line cause = codes "refused line " ++ decimal line ++ codes " cause " ++ decimal (cause_number cause) ++ codes "\n"
+refused_text_of line cause =
+    codes "refused line " ++ decimal line ++ codes " cause " ++ decimal (cause_number cause)
+    ++ codes "\n"

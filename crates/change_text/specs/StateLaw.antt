@@ -23,7 +23,8 @@ pub record IsName (text : List ℕ) : Type 0 where
 
 -- each is a name, and stands first at its own number
 abbrev pub AreNames : List (List ℕ) → Type 0
-AreNames names = (number : ℕ) → number < length names → IsName (name_at names number) × (number_of_name names (name_at names number) ≡ Some number)
+AreNames names = (number : ℕ) → number < length names
+    → IsName (name_at names number) × (number_of_name names (name_at names number) ≡ Some number)
 
 pub record AreReadable (known : Known) : Type 0 where
   pub reporters : AreNames known.names.reporters
@@ -32,7 +33,8 @@ pub record AreReadable (known : Known) : Type 0 where
 
 -- the line of a report by the owner is no longer than a line may be, and means that report
 abbrev pub StateLinesAreRead : Type 0
-StateLinesAreRead = (known : Known) (report : Report) → AreReadable known → report.reporter < length known.names.reporters
+StateLinesAreRead = (known : Known) (report : Report) → AreReadable known
+    → report.reporter < length known.names.reporters
     → IsFit (length known.names.tasks) (length known.names.links) report → IsByOwner known report
     → (within (report_text known.names report) ≡ Some (report_text known.names report))
     × (meaning_of known (Some (report_text known.names report)) ≡ NewReport report)

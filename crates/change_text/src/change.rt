@@ -25,7 +25,8 @@ pub fn change_text(
     names: &Names,
 ) -> Result<Vec<u8>, OutOfMemory>
     requires one_plan { frame_of earlier.now ≡ frame_of later.now }
-    ensures { IfOk result (λ text. text.items ≡ change_text_of (texts_of names.now) earlier.now later.now) }
+    ensures { IfOk result
+        (λ text. text.items ≡ change_text_of (texts_of names.now) earlier.now later.now) }
 {
     let mut text = String::new(alloc);
     end_with_number(&mut text, "change ", later.prefix)?;
@@ -60,7 +61,9 @@ fn push_changed_closings(
     later: &[Closing],
 ) -> Result<(), AllocError>
     ensures { OnOk result
-        (string_bytes text.new ≡ string_bytes text.old ++ changed_closings (texts_of names.now) earlier.now later.now) }
+        (string_bytes text.new
+        ≡ string_bytes text.old
+        ++ changed_closings (texts_of names.now) earlier.now later.now) }
 {
     let earlier_lines = closings_text(alloc, names, earlier)?;
     let later_lines = closings_text(alloc, names, later)?;
@@ -72,7 +75,8 @@ fn push_changed_closings(
 }
 
 fn closings_text(alloc: Global, names: &Names, closings: &[Closing]) -> Result<String, AllocError>
-    ensures { IfOk result (λ text. string_bytes text ≡ closing_lines (texts_of names.now) closings.now) }
+    ensures { IfOk result
+        (λ text. string_bytes text ≡ closing_lines (texts_of names.now) closings.now) }
 {
     let mut text = String::new(alloc);
     push_closings(&mut text, names, closings)?;
@@ -114,8 +118,10 @@ fn push_changed_values(
     requires same_length { length earlier.now ≡ length later.now }
     requires few { length later.now < 2 ^ 32 }
     ensures { OnOk result (string_bytes text.new ≡ string_bytes text.old
-        ++ flat_map (changed (value_line word.now between.now (map string_bytes names.now) earlier.now)
-        (value_line word.now between.now (map string_bytes names.now) later.now)) (numbers (length later.now))) }
+        ++ flat_map (changed
+        (value_line word.now between.now (map string_bytes names.now) earlier.now)
+        (value_line word.now between.now (map string_bytes names.now) later.now))
+        (numbers (length later.now))) }
 {
     for number in 0..later.len() {
         push_changed_value(text, word, names, between, earlier, later, number)?;
@@ -131,7 +137,8 @@ fn group_text(
 ) -> Result<String, AllocError>
     requires group { group < length lines.now }
     requires few { length lines.now < 2 ^ 32 }
-    ensures { IfOk result (λ text. string_bytes text ≡ group_lines (texts_of names.now) lines.now group) }
+    ensures { IfOk result
+        (λ text. string_bytes text ≡ group_lines (texts_of names.now) lines.now group) }
 {
     let mut text = String::new(alloc);
     push_group(&mut text, names, lines, group)?;
@@ -151,7 +158,8 @@ fn push_changed_group(
     requires same_length { length earlier.now ≡ length later.now }
     requires few { length later.now < 2 ^ 32 }
     ensures { OnOk result (string_bytes text.new ≡ string_bytes text.old
-        ++ changed (group_lines (texts_of names.now) earlier.now) (group_lines (texts_of names.now) later.now) group) }
+        ++ changed (group_lines (texts_of names.now) earlier.now)
+        (group_lines (texts_of names.now) later.now) group) }
 {
     if earlier[group].is_equal(&later[group]) {
         return Ok(());
@@ -175,7 +183,8 @@ fn push_changed_groups(
     requires same_length { length earlier.now ≡ length later.now }
     requires few { length later.now < 2 ^ 32 }
     ensures { OnOk result (string_bytes text.new ≡ string_bytes text.old
-        ++ flat_map (changed (group_lines (texts_of names.now) earlier.now) (group_lines (texts_of names.now) later.now)) (numbers (length later.now))) }
+        ++ flat_map (changed (group_lines (texts_of names.now) earlier.now)
+        (group_lines (texts_of names.now) later.now)) (numbers (length later.now))) }
 {
     for group in 0..later.len() {
         push_changed_group(alloc, text, names, earlier, later, group)?;

@@ -3,7 +3,8 @@
 ghost use Rattle.change_text.specs.Laws.{ChangesStandWhereLinesDiffer, KeptTablesAreMadeTables};
 ghost use Rattle.change_text.specs.StateLaw.{StateLinesAreRead};
 
-/// Kept tables: the text of the earlier table with the change made to it is the text of the later one.
+/// Kept tables: the text of the earlier table with the change made to it is the text of the later
+/// one.
 pub fn kept_tables_are_made_tables()
     ensures { KeptTablesAreMadeTables }
 {}
@@ -13,8 +14,8 @@ pub fn changes_stand_where_lines_differ()
     ensures { ChangesStandWhereLinesDiffer }
 {}
 
-/// The lines of a state are lines of the input that mean the reports that count: with names as documents have them, each line
-/// is short enough and means its report.
+/// The lines of a state are lines of the input that mean the reports that count: with names as
+/// documents have them, each line is short enough and means its report.
 pub fn state_lines_are_read()
     ensures { StateLinesAreRead }
 {}

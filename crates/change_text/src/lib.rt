@@ -1,10 +1,12 @@
-//! The texts that `bwe-live` answers with: what a post has changed, the reports that count, and a refused line.
+//! The texts that `bwe-live` answers with: what a post has changed, the reports that count, and a
+//! refused line.
 //!
-//! The session uses `change_text`, `state_text` and `refused_text`, whose clauses are the whole texts ("What it writes",
-//! docs/FORMAT.md). The lines of a change are those of the table text, put by the same calls.
-//! `kept_tables_are_made_tables` is the law of changes: who makes each change to the table text has the text of the later table.
-//! `state_lines_are_read` says that the lines of a state, read as input, mean the reports that they were made from.
-//! Texts are made whole before anything is written. Nothing is promised here of which tables and reports there are.
+//! The session uses `change_text`, `state_text` and `refused_text`, whose clauses are the whole
+//! texts ("What it writes", docs/FORMAT.md). The lines of a change are those of the table text, put
+//! by the same calls. `kept_tables_are_made_tables` is the law of changes: who makes each change to
+//! the table text has the text of the later table. `state_lines_are_read` says that the lines of a
+//! state, read as input, mean the reports that they were made from. Texts are made whole before
+//! anything is written. Nothing is promised here of which tables and reports there are.
 #![tactic(auto)]
 
 mod change;

@@ -9,7 +9,8 @@ use doc_names::Names;
 use std::alloc::{AllocError, Global};
 use table_text::{end_with_number, name_of};
 
-/// A line for each report, in the form of a line of the input, and a last line with the number of reports accepted.
+/// A line for each report, in the form of a line of the input, and a last line with the number of
+/// reports accepted.
 ///
 /// A number that has no name is printed as an empty text; the names of a document have one for each
 /// number of its reports.
@@ -20,7 +21,8 @@ pub fn state_text(
     count: u64,
     names: &Names,
 ) -> Result<Vec<u8>, OutOfMemory>
-    ensures { IfOk result (λ text. text.items ≡ state_text_of (texts_of names.now) reports.now count) }
+    ensures { IfOk result
+        (λ text. text.items ≡ state_text_of (texts_of names.now) reports.now count) }
 {
     let mut text = String::new(alloc);
     push_reports(&mut text, names, reports)?;
@@ -30,7 +32,8 @@ pub fn state_text(
 
 fn push_reports(text: &mut String, names: &Names, reports: &[Report]) -> Result<(), AllocError>
     ensures { OnOk result
-        (string_bytes text.new ≡ string_bytes text.old ++ flat_map (report_line (texts_of names.now)) reports.now) }
+        (string_bytes text.new
+        ≡ string_bytes text.old ++ flat_map (report_line (texts_of names.now)) reports.now) }
 {
     for report in reports {
         push_report(text, names, *report)?;
@@ -54,7 +57,8 @@ fn push_report_words(
     target: Target,
 ) -> Result<(), AllocError>
     ensures { OnOk result
-        (string_bytes text.new ≡ string_bytes text.old ++ report_words (texts_of names.now) reporter target) }
+        (string_bytes text.new
+        ≡ string_bytes text.old ++ report_words (texts_of names.now) reporter target) }
 {
     let reporter = name_of(&names.reporters, reporter);
     match target {

@@ -47,7 +47,9 @@ after_hyphens (byte ∷ (next ∷ more)) = if (byte == 45) && (next == 45) then 
 
 -- what stands after the first `=` (61), where there is one
 abbrev pub after_equals : Text → Option Text
-after_equals text = if list_any (λ byte. byte == 61) text then Some (after_first (λ byte. byte == 61) text) else None
+after_equals text =
+    if list_any (λ byte. byte == 61) text then Some (after_first (λ byte. byte == 61) text)
+    else None
 
 -- the option that a word `--NAME` or `--NAME=TEXT` names, and the text
 abbrev pub option_of : Text → Option (Name × Option Text)
@@ -68,17 +70,20 @@ with_text readers text given = record given { readers = given.readers ++ text �
 with_text reads text given = record given { reads = given.reads ++ text ∷ [] }
 
 -- a word where an option may stand: `--NAME` waits for its text in the next word
-abbrev pub option_word : (Given → Option Name → Option Given) → Given → Option (Name × Option Text) → Option Given
+abbrev pub option_word : (Given → Option Name → Option Given) → Given → Option (Name × Option Text)
+    → Option Given
 option_word next given None = None
 option_word next given (Some (name, None)) = next given (Some name)
 option_word next given (Some (name, Some text)) = next (with_text name text given) None
 
--- what the words give beside what stood before them, where the option that waits has its text in the first
+-- what the words give beside what stood before them, where the option that waits has its text in
+-- the first
 unfoldable pub options_of : Given → Option Name → List Text → Option Given
 options_of given None [] = Some given
 options_of given (Some name) [] = None
 options_of given (Some name) (word ∷ rest) = options_of (with_text name word given) None rest
-options_of given None (word ∷ rest) = option_word (λ given' waiting. options_of given' waiting rest) given (option_of word)
+options_of given None (word ∷ rest) =
+    option_word (λ given' waiting. options_of given' waiting rest) given (option_of word)
 
 -- an option is given at most once
 abbrev pub number_given : ℕ → ℕ → ℕ → List Text → Option ℕ
@@ -88,7 +93,8 @@ number_given default least most (text ∷ (other ∷ more)) = None
 
 abbrev pub run_line : Given → Option CommandLine
 run_line given =
-    option_and_then (λ readers. option_map (λ reads. Run readers reads) (number_given 4 0 1000 given.reads))
+    option_and_then
+    (λ readers. option_map (λ reads. Run readers reads) (number_given 4 0 1000 given.reads))
     (number_given 2 1 64 given.readers)
 
 -- ---- `make` and `bulk`
@@ -96,7 +102,8 @@ run_line given =
 -- SEED, GROUPS and TASKS
 abbrev pub size_in : Text → Text → Text → Option Size
 size_in seed groups tasks =
-    option_and_then (λ s. option_and_then (λ g. option_map (λ t. record { seed = s; groups = g; tasks = t })
+    option_and_then
+    (λ s. option_and_then (λ g. option_map (λ t. record { seed = s; groups = g; tasks = t })
     (number_in g 20000 tasks)) (number_in 1 1024 groups)) (number_in 0 18446744073709551615 seed)
 
 abbrev pub size_of : List Text → Option Size
@@ -108,7 +115,8 @@ size_of _ = None
 -- WINDOW and HEADROOM
 abbrev pub estimate_in : Text → Text → Option CommandLine
 estimate_in window headroom =
-    option_and_then (λ w. option_map (λ h. Estimate w h) (number_in 100 1000 headroom)) (number_in 1 1000 window)
+    option_and_then (λ w. option_map (λ h. Estimate w h) (number_in 100 1000 headroom))
+    (number_in 1 1000 window)
 
 abbrev pub estimate_of : List Text → Option CommandLine
 estimate_of (window ∷ (headroom ∷ [])) = estimate_in window headroom
@@ -133,9 +141,12 @@ abbrev pub line_named : Text → List Text → Option CommandLine
 line_named word rest =
     if bytes_eq (codes "solve") word then alone Solve rest
     else if bytes_eq (codes "check") word then alone Check rest
-    else if bytes_eq (codes "run") word then option_and_then run_line (options_of nothing_given None rest)
-    else if bytes_eq (codes "make") word then option_map (λ size. Make size.seed size.groups size.tasks) (size_of rest)
-    else if bytes_eq (codes "bulk") word then option_map (λ size. Bulk size.seed size.groups size.tasks) (size_of rest)
+    else if bytes_eq (codes "run") word
+    then option_and_then run_line (options_of nothing_given None rest)
+    else if bytes_eq (codes "make") word
+    then option_map (λ size. Make size.seed size.groups size.tasks) (size_of rest)
+    else if bytes_eq (codes "bulk") word
+    then option_map (λ size. Bulk size.seed size.groups size.tasks) (size_of rest)
     else if bytes_eq (codes "audit") word then alone Audit rest
     else if bytes_eq (codes "tiers") word then alone Tiers rest
     else if bytes_eq (codes "enforce") word then alone Enforce rest

@@ -18,16 +18,19 @@ abbrev pub place_rule : Text → Rule
 place_rule name = record (new_rule name) { required = true; action = Some Set }
 
 abbrev pub run_app : App
-run_app = with_rule (with_rule (new_app (codes "run")) (option_rule (codes "readers"))) (option_rule (codes "reads"))
-
-abbrev pub first_places_app : Text → App
-first_places_app name = with_rule (with_rule (new_app name) (place_rule (codes "seed"))) (place_rule (codes "groups"))
+run_app = with_rule (with_rule (new_app (codes "run")) (option_rule (codes "readers")))
+    (option_rule (codes "reads"))
 
 abbrev pub sized_app : Text → App
-sized_app name = with_rule (first_places_app name) (place_rule (codes "tasks"))
+sized_app name =
+    with_rule (with_rule (with_rule (new_app name) (place_rule (codes "seed")))
+    (place_rule (codes "groups")))
+    (place_rule (codes "tasks"))
 
 abbrev pub estimate_app : App
-estimate_app = with_rule (with_rule (new_app (codes "estimate")) (place_rule (codes "window"))) (place_rule (codes "headroom"))
+estimate_app =
+    with_rule (with_rule (new_app (codes "estimate")) (place_rule (codes "window")))
+    (place_rule (codes "headroom"))
 
 abbrev pub levels_app : App
 levels_app = with_rule (new_app (codes "levels")) (place_rule (codes "share"))
@@ -44,32 +47,32 @@ bare_app = record {
 }
 
 -- a subcommand for each line, in the order of the usage line
-abbrev pub app_to_check : App
-app_to_check = with_subcommand (with_subcommand bare_app (new_shape (codes "solve"))) (new_shape (codes "check"))
-
-abbrev pub app_to_make : App
-app_to_make = with_subcommand (with_subcommand app_to_check run_app.top) (sized_app (codes "make")).top
-
-abbrev pub app_to_audit : App
-app_to_audit = with_subcommand (with_subcommand app_to_make (sized_app (codes "bulk")).top) (new_shape (codes "audit"))
-
-abbrev pub app_to_enforce : App
-app_to_enforce = with_subcommand (with_subcommand app_to_audit (new_shape (codes "tiers"))) (new_shape (codes "enforce"))
+abbrev pub app_to_bulk : App
+app_to_bulk =
+    with_subcommand (with_subcommand (with_subcommand (with_subcommand (with_subcommand bare_app
+    (new_shape (codes "solve"))) (new_shape (codes "check"))) run_app.top)
+    (sized_app (codes "make")).top) (sized_app (codes "bulk")).top
 
 abbrev pub bwe_app : App
-bwe_app = with_subcommand (with_subcommand app_to_enforce estimate_app.top) levels_app.top
+bwe_app =
+    with_subcommand (with_subcommand (with_subcommand (with_subcommand (with_subcommand app_to_bulk
+    (new_shape (codes "audit"))) (new_shape (codes "tiers"))) (new_shape (codes "enforce")))
+    estimate_app.top) levels_app.top
 
 -- the texts that an option was given
 abbrev pub texts_in : Text → List Row → List Text
 texts_in id rows = unwrap_or (all_of id rows) []
 
 abbrev pub given_in : List Row → Given
-given_in rows = record { readers = texts_in (codes "readers") rows; reads = texts_in (codes "reads") rows }
+given_in rows =
+    record { readers = texts_in (codes "readers") rows; reads = texts_in (codes "reads") rows }
 
 abbrev pub size_given : List Row → Option Size
 size_given rows =
-    option_and_then (λ seed. option_and_then (λ groups. option_and_then (λ tasks. size_in seed groups tasks)
-    (first_of (codes "tasks") rows)) (first_of (codes "groups") rows)) (first_of (codes "seed") rows)
+    option_and_then
+    (λ seed. option_and_then (λ groups. option_and_then (λ tasks. size_in seed groups tasks)
+    (first_of (codes "tasks") rows)) (first_of (codes "groups") rows))
+    (first_of (codes "seed") rows)
 
 abbrev pub estimate_given : List Row → Option CommandLine
 estimate_given rows =
@@ -84,8 +87,10 @@ line_entered name rows =
     if bytes_eq name (codes "solve") then Some Solve
     else if bytes_eq name (codes "check") then Some Check
     else if bytes_eq name (codes "run") then run_line (given_in rows)
-    else if bytes_eq name (codes "make") then option_map (λ size. Make size.seed size.groups size.tasks) (size_given rows)
-    else if bytes_eq name (codes "bulk") then option_map (λ size. Bulk size.seed size.groups size.tasks) (size_given rows)
+    else if bytes_eq name (codes "make")
+    then option_map (λ size. Make size.seed size.groups size.tasks) (size_given rows)
+    else if bytes_eq name (codes "bulk")
+    then option_map (λ size. Bulk size.seed size.groups size.tasks) (size_given rows)
     else if bytes_eq name (codes "audit") then Some Audit
     else if bytes_eq name (codes "tiers") then Some Tiers
     else if bytes_eq name (codes "enforce") then Some Enforce

@@ -8,10 +8,13 @@ abbrev pub IsInRange : CommandLine → Type 0
 IsInRange Solve = Unit {0}
 IsInRange Check = Unit {0}
 IsInRange (Run readers reads) = (1 ≤ readers) × (readers ≤ 64) × (reads ≤ 1000)
-IsInRange (Make seed groups tasks) = (1 ≤ groups) × (groups ≤ 1024) × (groups ≤ tasks) × (tasks ≤ 20000)
-IsInRange (Bulk seed groups tasks) = (1 ≤ groups) × (groups ≤ 1024) × (groups ≤ tasks) × (tasks ≤ 20000)
+IsInRange (Make seed groups tasks) = (1 ≤ groups) × (groups ≤ 1024) × (groups ≤ tasks)
+    × (tasks ≤ 20000)
+IsInRange (Bulk seed groups tasks) = (1 ≤ groups) × (groups ≤ 1024) × (groups ≤ tasks)
+    × (tasks ≤ 20000)
 IsInRange Audit = Unit {0}
 IsInRange Tiers = Unit {0}
 IsInRange Enforce = Unit {0}
-IsInRange (Estimate window headroom) = (1 ≤ window) × (window ≤ 1000) × (100 ≤ headroom) × (headroom ≤ 1000)
+IsInRange (Estimate window headroom) = (1 ≤ window) × (window ≤ 1000) × (100 ≤ headroom)
+    × (headroom ≤ 1000)
 IsInRange (Levels share) = share ≤ 1000000000

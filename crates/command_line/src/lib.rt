@@ -1,8 +1,9 @@
 //! The words of a command line: which line they are, or the usage line.
 //!
-//! The top call asks `command_line_of_words` once, before it reads anything, and serves the line that it answers, whose
-//! numbers are in their ranges. Words that are no line get `USAGE`. The definition Command line (`specs/Lines.antt`) alone
-//! decides: `clap` splits the words, and each text is read here.
+//! The top call asks `command_line_of_words` once, before it reads anything, and serves the line
+//! that it answers, whose numbers are in their ranges. Words that are no line get `USAGE`. The
+//! definition Command line (`specs/Lines.antt`) alone decides: `clap` splits the words, and each
+//! text is read here.
 #![tactic(auto)]
 
 ghost use Rattle.std.specs.Prelude.{◌≡◌, IfOk, IfSome};

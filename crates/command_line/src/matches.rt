@@ -1,10 +1,12 @@
 //! The words by `clap`: what it is told of the lines, and what is read of its matches.
 ghost use Rattle.std.specs.Prelude.{◌≡◌, IfOk, [], false, map, option_map, unwrap_or};
 ghost use Rattle.std.specs.List.{list_any};
+ghost use Rattle.clap.specs.Simple.{App, with_rule, with_subcommand};
+ghost use Rattle.clap.specs.Walk.{Rule};
 ghost use Rattle.clap.specs.Words.{app_of, found_of, rows_of, rule_of, shape_of, subcommand_rows_of};
 ghost use Rattle.clap.specs.declared.builder.command.Command.TheViews.{out-Command};
 ghost use Rattle.command_line.specs.Lines.{estimate_in as estimate_in_texts, is_hyphens, levels_in as levels_in_text, line_of_texts, number_given as number_of_option, run_line as line_of_given, size_in as size_in_texts, texts_of};
-ghost use Rattle.command_line.specs.Matches.{app_to_audit, app_to_check, app_to_enforce, app_to_make, bare_app, bwe_app, estimate_app, estimate_given, first_places_app, given_in, levels_app, levels_given, line_entered, line_met, option_rule, place_rule, run_app, size_given, sized_app, texts_in};
+ghost use Rattle.command_line.specs.Matches.{app_to_bulk, bare_app, bwe_app, estimate_app, estimate_given, given_in, levels_app, levels_given, line_entered, line_met, option_rule, place_rule, run_app, size_given, sized_app, texts_in};
 
 use crate::CommandLine;
 use crate::number::{any_number, number_in};
@@ -30,49 +32,42 @@ pub(crate) fn line_split(
     }
 }
 
-// All lines: a subcommand for each. Each step below adds two.
+// All lines: a subcommand for each, in the order of the usage line.
 fn command<'a>(alloc: Global) -> Result<Command<'a>, AllocError>
     ensures { IfOk result (λ command. app_of command ≡ bwe_app) }
 {
-    lines_to_enforce(alloc)?
-        .subcommand(estimate_command(alloc)?)?
-        .subcommand(levels_command(alloc)?)
+    let lines = with_line(lines_to_bulk(alloc), Ok(Command::new(alloc, "audit")));
+    let lines = with_line(lines, Ok(Command::new(alloc, "tiers")));
+    let lines = with_line(lines, Ok(Command::new(alloc, "enforce")));
+    let lines = with_line(lines, estimate_command(alloc));
+    with_line(lines, levels_command(alloc))
 }
 
-// The lines up to `enforce`.
-fn lines_to_enforce<'a>(alloc: Global) -> Result<Command<'a>, AllocError>
-    ensures { IfOk result (λ command. app_of command ≡ app_to_enforce) }
+// The lines up to `bulk`.
+fn lines_to_bulk<'a>(alloc: Global) -> Result<Command<'a>, AllocError>
+    ensures { IfOk result (λ command. app_of command ≡ app_to_bulk) }
 {
-    lines_to_audit(alloc)?
-        .subcommand(Command::new(alloc, "tiers"))?
-        .subcommand(Command::new(alloc, "enforce"))
+    let lines = with_line(Ok(bare_command(alloc)), Ok(Command::new(alloc, "solve")));
+    let lines = with_line(lines, Ok(Command::new(alloc, "check")));
+    let lines = with_line(lines, run_command(alloc));
+    let lines = with_line(lines, sized_command(alloc, "make"));
+    with_line(lines, sized_command(alloc, "bulk"))
 }
 
-// The lines up to `audit`.
-fn lines_to_audit<'a>(alloc: Global) -> Result<Command<'a>, AllocError>
-    ensures { IfOk result (λ command. app_of command ≡ app_to_audit) }
+// The lines with one more. It takes what may have failed, so that its callers have no command to
+// let go.
+fn with_line<'a>(
+    lines: Result<Command<'a>, AllocError>,
+    line: Result<Command<'a>, AllocError>,
+) -> Result<Command<'a>, AllocError>
+    ensures { (app line_app : App) → IfOk lines.entry (λ command. app_of command ≡ app)
+        → IfOk line.entry (λ command. app_of command ≡ line_app)
+        → IfOk line.entry (λ command. (out-Command command).has_globals ≡ false)
+        → IfOk result (λ command. app_of command ≡ with_subcommand app line_app.top) }
 {
-    lines_to_make(alloc)?
-        .subcommand(sized_command(alloc, "bulk")?)?
-        .subcommand(Command::new(alloc, "audit"))
-}
-
-// The lines up to `make`.
-fn lines_to_make<'a>(alloc: Global) -> Result<Command<'a>, AllocError>
-    ensures { IfOk result (λ command. app_of command ≡ app_to_make) }
-{
-    lines_to_check(alloc)?
-        .subcommand(run_command(alloc)?)?
-        .subcommand(sized_command(alloc, "make")?)
-}
-
-// `solve` and `check`.
-fn lines_to_check<'a>(alloc: Global) -> Result<Command<'a>, AllocError>
-    ensures { IfOk result (λ command. app_of command ≡ app_to_check) }
-{
-    bare_command(alloc)
-        .subcommand(Command::new(alloc, "solve"))?
-        .subcommand(Command::new(alloc, "check"))
+    let lines = lines?;
+    let line = line?;
+    lines.subcommand(line)
 }
 
 // The program without a line.
@@ -91,9 +86,8 @@ fn run_command<'a>(alloc: Global) -> Result<Command<'a>, AllocError>
     ensures app { IfOk result (λ command. app_of command ≡ run_app) }
     ensures local { IfOk result (λ command. (out-Command command).has_globals ≡ false) }
 {
-    Command::new(alloc, "run")
-        .arg(option(alloc, "readers"))?
-        .arg(option(alloc, "reads"))
+    let command = with_arg(Ok(Command::new(alloc, "run")), option(alloc, "readers"));
+    with_arg(command, option(alloc, "reads"))
 }
 
 // `make` or `bulk`, with its three places.
@@ -101,17 +95,9 @@ fn sized_command<'a>(alloc: Global, name: &'a str) -> Result<Command<'a>, AllocE
     ensures app { IfOk result (λ command. app_of command ≡ sized_app name.entry.now) }
     ensures local { IfOk result (λ command. (out-Command command).has_globals ≡ false) }
 {
-    first_places(alloc, name)?.arg(place(alloc, "tasks"))
-}
-
-// The first two of the places.
-fn first_places<'a>(alloc: Global, name: &'a str) -> Result<Command<'a>, AllocError>
-    ensures app { IfOk result (λ command. app_of command ≡ first_places_app name.entry.now) }
-    ensures local { IfOk result (λ command. (out-Command command).has_globals ≡ false) }
-{
-    Command::new(alloc, name)
-        .arg(place(alloc, "seed"))?
-        .arg(place(alloc, "groups"))
+    let command = with_arg(Ok(Command::new(alloc, name)), place(alloc, "seed"));
+    let command = with_arg(command, place(alloc, "groups"));
+    with_arg(command, place(alloc, "tasks"))
 }
 
 // `estimate`, with its two places.
@@ -119,9 +105,8 @@ fn estimate_command<'a>(alloc: Global) -> Result<Command<'a>, AllocError>
     ensures app { IfOk result (λ command. app_of command ≡ estimate_app) }
     ensures local { IfOk result (λ command. (out-Command command).has_globals ≡ false) }
 {
-    Command::new(alloc, "estimate")
-        .arg(place(alloc, "window"))?
-        .arg(place(alloc, "headroom"))
+    let command = with_arg(Ok(Command::new(alloc, "estimate")), place(alloc, "window"));
+    with_arg(command, place(alloc, "headroom"))
 }
 
 // `levels`, with its one place.
@@ -129,7 +114,22 @@ fn levels_command<'a>(alloc: Global) -> Result<Command<'a>, AllocError>
     ensures app { IfOk result (λ command. app_of command ≡ levels_app) }
     ensures local { IfOk result (λ command. (out-Command command).has_globals ≡ false) }
 {
-    Command::new(alloc, "levels").arg(place(alloc, "share"))
+    with_arg(Ok(Command::new(alloc, "levels")), place(alloc, "share"))
+}
+
+// The command with one argument more, as `with_line`.
+fn with_arg<'a>(
+    command: Result<Command<'a>, AllocError>,
+    arg: Arg<'a>,
+) -> Result<Command<'a>, AllocError>
+    requires local_arg { arg.global ≡ false }
+    ensures app { (app : App) (rule : Rule) → IfOk command.entry (λ command. app_of command ≡ app)
+        → rule_of arg.entry ≡ rule → IfOk result (λ command. app_of command ≡ with_rule app rule) }
+    ensures local { IfOk command.entry (λ command. (out-Command command).has_globals ≡ false)
+        → IfOk result (λ command. (out-Command command).has_globals ≡ false) }
+{
+    let command = command?;
+    command.arg(arg)
 }
 
 // An option, which may be given again.

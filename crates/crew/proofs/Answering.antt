@@ -11,7 +11,7 @@ use Rattle.board.specs.declared.refusal.ReportError.{ReportError}
 use Rattle.crew_log.specs.declared.log.ReadLine.{ReadLine}
 use Rattle.crew.specs.Allocators.{HasMade}
 use Rattle.crew.specs.Reporters.{HasReported}
-use Rattle.crew.specs.Readers.{HasLines}
+use Rattle.crew_readers.specs.Readers.{HasLines}
 
 pub reported_at : (scripts : List (Vec Report Global)) (number : ℕ) (script : Vec Report Global) (lent old : Reporting) (answer : Result (Unit {0}) ReportError) (left new : Reporting)
     → lent ≡ old → left ≡ new → HasReported (get_or scripts (0 + number) script).items lent answer left → HasReported (get_or scripts number script).items old answer new

@@ -20,13 +20,13 @@ use Rattle.board.specs.declared.refusal.ReportError.TheVariants.{Full, OutOfMemo
 use Rattle.crew_log.specs.declared.log.ReaderLog.{ReaderLog}
 use Rattle.crew_log.specs.declared.log.CrewLog.{CrewLog}
 use Rattle.crew_log.specs.LegalCrewLog.{IsReaderOf, IsLegalCrewLog}
+use Rattle.crew_log.specs.Scripts.{AreOfReporters, reports_in}
 use Rattle.crew_actors.specs.Reporters.{IsCutShort}
-use Rattle.crew.specs.Starting.{AreScripts}
-use Rattle.crew.specs.Reporters.{IsReady, AreReady, HasReported, HaveReported, scripted, sent_by}
+use Rattle.crew.specs.Reporters.{IsReady, AreReady, HasReported, HaveReported, sent_by}
 
 -- the passes as they are handed out are ready for the scripts
 pub all_ready : (reporters tasks links : ℕ) (scripts : List (Vec Report Global)) (passes : List Reporting) → length scripts ≡ reporters → length passes ≡ reporters → AreFresh passes
-    → AreScripts tasks links scripts → AreReady reporters tasks links scripts passes
+    → AreOfReporters tasks links scripts → AreReady reporters tasks links scripts passes
 all_ready reporters tasks links scripts passes count seats fresh are = record {
   count = count ∙ sym seats;
   each = λ number script pass lt.
@@ -79,7 +79,7 @@ not_full script pass (Err OutOfMemory) cut none = refl
 
 -- no reporter met a full log: it would hold more than all scripts
 pub never_full : (scripts : List (Vec Report Global)) (old : List Reporting) (reported : List (Result (Unit {0}) ReportError)) (new : List Reporting) (history : List Report)
-    → length scripts ≡ length old → HaveReported scripts old reported new → scripted scripts ≤ MAX_REPORTS → length history ≡ sent_by new → All (λ pass. IsPrefix pass.seen history) new
+    → length scripts ≡ length old → HaveReported scripts old reported new → reports_in scripts ≤ MAX_REPORTS → length history ≡ sent_by new → All (λ pass. IsPrefix pass.seen history) new
     → All (λ answer. IfErr answer (λ error. error ≡ OutOfMemory)) reported
 never_full scripts old reported new history count have room whole seen k d lt =
     let inside : k < length old = omega (arith, have.answered) in
@@ -90,7 +90,7 @@ never_full scripts old reported new history count have room whole seen k d lt =
     (λ cut.
     let begins = seen k pass (omega (arith, have.count)) in
     let held : length (get_or new k pass).seen ≤ length history = omega (arith, ap (λ (xs : List Report). length xs) begins.1, length-append (get_or new k pass).seen begins.0) in
-    let fewer : sent_by new < scripted scripts =
+    let fewer : sent_by new < reports_in scripts =
     sums_below (λ (p : Reporting). length p.own) (λ (s : Vec Report Global). length s.items) new scripts (omega (arith, count, have.count))
     (λ j a b h. (have.each j b a (Ok tt) a (omega (arith, have.count, h))).sent) k pass script (omega (arith, have.count)) cut.1 in
     omega (arith, cut.0, held, fewer, whole, room))

@@ -1,4 +1,2 @@
-pub mod Calling
-pub mod Placing
 pub mod Legal
 pub mod Answering

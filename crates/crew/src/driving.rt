@@ -4,24 +4,20 @@ ghost use Rattle.std.specs.List.{All};
 ghost use Rattle.board.specs.declared.refusal.ReportError.TheVariants as refusal;
 ghost use Rattle.board.specs.Reading.{IsNewReader};
 ghost use Rattle.board.specs.Reporting.{AreFresh};
-ghost use Rattle.crew_log.specs.LegalCrewLog.{IsClosed, IsLegalCrewLog, IsReaderOf};
-ghost use Rattle.crew.specs.Reporters.{IsReady, AreReady, HasReported, HaveReported, scripted};
+ghost use Rattle.crew_log.specs.LegalCrewLog.{IsClosed, IsLegalCrewLog};
+ghost use Rattle.crew_log.specs.Scripts.{AreOfReporters, reports_in};
+ghost use Rattle.crew.specs.Reporters.{IsReady, AreReady, HasReported, HaveReported};
 ghost use Rattle.crew.specs.Allocators.{HasMade};
-ghost use Rattle.crew.specs.Readers.{HasLines, HaveLines, HaveEnded};
-ghost use Rattle.crew.specs.Starting.{AreScripts};
-ghost use Rattle.board_core.specs.Core.{IsAllowed};
-ghost use Rattle.demand_book.specs.Fit.{IsFit};
+ghost use Rattle.crew_readers.specs.Readers.{HasLines, HaveLines, HaveEnded};
 
-use crate::at_once::all_at_once;
-use board::{
-    AllocatorPass, Bases, Board, FinalAck, Profile, ReaderPass, ReportError, ReporterPass,
-};
+use at_once::all_at_once;
+use board::{AllocatorPass, Bases, Board, Profile, ReaderPass, ReportError, ReporterPass};
 use bwe_specs::{OutOfMemory, Report};
-use crew_actors::{Gate, NewestAck, make_rounds, read_lines, read_to_the_end, report_and_settle};
-use crew_log::{CrewLog, ReadLine, ReaderLog};
+use crew_actors::{Gate, make_rounds, report_and_settle};
+use crew_log::{CrewLog, ReadLine};
+use crew_readers::{NewestAck, end_all, read_lines};
 use demand_book::{Maker, Posted};
 use std::alloc::Global;
-use std::mem;
 use std::sync::{Mutex, Wait};
 use std::thread::Threads;
 
@@ -60,8 +56,8 @@ where
     requires fresh { AreFresh reporters.items }
     requires few_readers { length readers.old < 2 ^ 32 }
     requires readers { All (IsNewReader M.Table.covers N.belongs) readers.old }
-    requires scripts { AreScripts N.tasks N.links scripts.now }
-    requires room { scripted scripts.now ≤ 200_000 }
+    requires scripts { AreOfReporters N.tasks N.links scripts.now }
+    requires room { reports_in scripts.now ≤ 200_000 }
     requires reads { reads ≤ 1_000 }
     ensures legal { IfOk result (IsLegalCrewLog N.belongs M.Table.total_of N.tasks N.links
         scripts.now (length readers.old) reads) }
@@ -214,36 +210,4 @@ fn is_reported(answer: Result<(), ReportError>) -> Result<(), OutOfMemory>
         Err(ReportError::OutOfMemory) => Err(OutOfMemory),
         Err(ReportError::Full { .. }) => unreachable!(),
     }
-}
-
-// Each reader learns the acknowledgement of the end and reads once more. A reader's log is made of
-// that and of its lines before.
-fn end_all<T: Posted, N: Profile<T>, B: Bases, G: Gate>(
-    alloc: Global,
-    gate: &G,
-    end: &FinalAck<B>,
-    reads: u64,
-    lines: Vec<Result<Vec<ReadLine>, OutOfMemory>>,
-    passes: &mut [ReaderPass<T, N, B>],
-) -> Result<Vec<ReaderLog>, OutOfMemory>
-    requires numbers { length passes.old < 2 ^ 32 }
-    requires few_reads { reads ≤ 1_000 }
-    requires lines { HaveLines T.covers N.belongs T.total_of reads lines.items passes.old }
-    ensures readers { IfOk result (λ readers. All
-        (IsReaderOf N.belongs T.total_of (IsAllowed N.reporters (IsFit N.tasks N.links)) reads
-        end.now) readers.items) }
-    ensures closed { IfOk result (λ readers. All (λ reader. reader.length ≡ length end.now)
-        readers.items) }
-    ensures passes { IfOk result (λ readers. HaveEnded T.covers reads end.now readers.items
-        passes.new) }
-    ensures count { length passes.new ≡ length passes.old }
-{
-    let mut lines = lines;
-    let mut readers = Vec::new(alloc);
-    for number in 0..passes.len() {
-        let read = mem::replace(&mut lines[number], Err(OutOfMemory))?;
-        let reader = read_to_the_end(alloc, gate, number as u32, end, read, &mut passes[number])?;
-        readers.push(reader)?;
-    }
-    Ok(readers)
 }

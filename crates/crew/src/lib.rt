@@ -12,11 +12,10 @@
 //!
 //! Some bodies meet every clause and are wrong: a reporter that keeps its acknowledgement or makes
 //! no settle, a reader that learns none before a read, a call that the gate is not told of. Each
-//! was tried by hand, and the test `a_held_reader_is_told_what_was_settled` of `board_cases` refuses
-//! it.
+//! was tried by hand, and the test `a_held_reader_is_told_what_was_settled` of `board_cases`
+//! refuses it.
 #![tactic(auto)]
 
-mod at_once;
 mod driving;
 mod running;
 

@@ -2,8 +2,7 @@
 ghost use Rattle.std.specs.Prelude.{◌≡◌, ◌≤◌, [], length, IfOk};
 ghost use Rattle.board.specs.Plan.{NamesTables};
 ghost use Rattle.crew_log.specs.LegalCrewLog.{IsClosed, IsLegalCrewLog};
-ghost use Rattle.crew.specs.Reporters.{scripted};
-ghost use Rattle.crew.specs.Starting.{AreScripts};
+ghost use Rattle.crew_log.specs.Scripts.{AreOfReporters, reports_in};
 
 use crate::driving::drive;
 use board::{Bases, Opened, Profile};
@@ -38,9 +37,9 @@ where
     <M::Table as Posted>::Change: Send + Sync,
     requires absorbed { M.absorbed maker [] }
     requires few_scripts { length scripts.now ≤ 64 }
-    requires scripts { AreScripts (M.plan_tasks (M.plan maker)) (M.plan_links (M.plan maker))
+    requires scripts { AreOfReporters (M.plan_tasks (M.plan maker)) (M.plan_links (M.plan maker))
         scripts.now }
-    requires room { scripted scripts.now ≤ 200_000 }
+    requires room { reports_in scripts.now ≤ 200_000 }
     requires some_readers { 1 ≤ readers }
     requires few_readers { readers ≤ 64 }
     requires few_reads { reads ≤ 1_000 }
@@ -78,8 +77,8 @@ where
     requires links { M.plan_links (M.plan maker) ≡ N.links }
     requires reporters { length scripts.now ≡ N.reporters }
     requires few_scripts { length scripts.now ≤ 64 }
-    requires scripts { AreScripts N.tasks N.links scripts.now }
-    requires room { scripted scripts.now ≤ 200_000 }
+    requires scripts { AreOfReporters N.tasks N.links scripts.now }
+    requires room { reports_in scripts.now ≤ 200_000 }
     requires some_readers { 1 ≤ readers }
     requires few_readers { readers ≤ 64 }
     requires few_reads { reads ≤ 1_000 }
@@ -115,8 +114,8 @@ where
     requires book { opened.book ≡ B.book }
     requires table { opened.table ≡ B.table }
     requires reporters { length scripts.now ≡ N.reporters }
-    requires scripts { AreScripts N.tasks N.links scripts.now }
-    requires room { scripted scripts.now ≤ 200_000 }
+    requires scripts { AreOfReporters N.tasks N.links scripts.now }
+    requires room { reports_in scripts.now ≤ 200_000 }
     requires few_readers { opened.readers ≤ 64 }
     requires few_reads { reads ≤ 1_000 }
     ensures legal { IfOk result (IsLegalCrewLog N.belongs M.Table.total_of N.tasks N.links

@@ -1,2 +1,1 @@
 pub mod Reporters
-pub mod Reads

@@ -5,7 +5,9 @@ use Rattle.board.specs.Reporting.{Reporting}
 use Rattle.board.specs.declared.refusal.ReportError.{ReportError}
 use Rattle.board.specs.declared.refusal.ReportError.TheVariants.{Full, OutOfMemory}
 
--- full where the pass has seen a full log and has not sent its whole script; else memory was wanting
+-- full where the pass has seen a full log and has not sent its whole script; else memory was
+-- wanting
 abbrev pub IsCutShort : List Report → Reporting → ReportError → Type 0
-IsCutShort script pass (Full held) = (200_000 ≤ length pass.seen) × (length pass.own < length script)
+IsCutShort script pass (Full held) = (200_000 ≤ length pass.seen)
+    × (length pass.own < length script)
 IsCutShort script pass OutOfMemory = Unit {0}

@@ -2,9 +2,9 @@
 ghost use Rattle.std.specs.Prelude.{◌≡◌, ◌+◌, ◌-◌, ◌^◌, min, OnOk};
 ghost use mathlib.Core.List.{IsPrefix};
 
-use crate::actor::{Actor, Gate};
 use board::{AllocatorPass, Bases, Board, Profile};
 use bwe_specs::OutOfMemory;
+use crew_readers::{Actor, Gate};
 use demand_book::Maker;
 use std::alloc::Global;
 use std::sync::Wait;

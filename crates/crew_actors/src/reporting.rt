@@ -9,10 +9,9 @@ ghost use Rattle.demand_book.specs.Fit.{IsFit};
 ghost use Rattle.board.specs.Refusals.{IsRefusalAt};
 ghost use Rattle.crew_actors.specs.Reporters.{IsCutShort};
 
-use crate::actor::{Actor, Gate};
-use crate::reading::NewestAck;
 use board::{Ack, Bases, Board, Profile, ReportError, ReporterPass};
 use bwe_specs::{OutOfMemory, Report};
+use crew_readers::{Actor, Gate, NewestAck};
 use demand_book::Maker;
 use std::alloc::Global;
 use std::sync::Wait;
@@ -69,7 +68,7 @@ fn report_script<M: Maker, N: Profile<M::Table>, B: Bases, G: Gate, R: Wait>(
 }
 
 // The later of two acks, which holds both.
-#[tactic(auto, using(crate::proofs::Lines::prefix_same))]
+#[tactic(auto, using(crew_readers::proofs::Lines::prefix_same))]
 fn later_of<B: Bases>(left: Option<Ack<B>>, ack: Ack<B>) -> Ack<B>
     ensures new { IsPrefix ack result }
     ensures left { IfSome left (λ before. IsPrefix before result) }

@@ -15,8 +15,11 @@ use Rattle.crew_log.specs.Lines.{IsLineOf, NeverGoBack}
 abbrev pub lines_of : ReaderLog → List ReadLine
 lines_of reader = reader.reads.items ++ reader.last ∷ []
 
--- the reader has so many lines, its final log begins with the history, and its last line covers that
-pub record IsReaderOf {T : Type 0} (belongs : List Report → T → Type 0) (total_of : T → ℕ) (allowed : Report → Type 0) (reads : ℕ) (history : List Report) (reader : ReaderLog) : Type 0 where
+-- the reader has so many lines, its final log begins with the history, and its last line covers
+-- that
+pub record IsReaderOf {T : Type 0} (belongs : List Report → T → Type 0) (total_of : T → ℕ)
+    (allowed : Report → Type 0) (reads : ℕ) (history : List Report) (reader : ReaderLog)
+    : Type 0 where
   pub reads_so : length reader.reads.items ≡ reads
   pub length_so : reader.length ≡ length (history ++ reader.beyond.items)
   pub allowed_so : All allowed reader.beyond.items
@@ -24,13 +27,19 @@ pub record IsReaderOf {T : Type 0} (belongs : List Report → T → Type 0) (tot
   pub never_back : NeverGoBack 0 (lines_of reader) reader.length
   pub covers : length history ≤ reader.last.prefix
 
--- the history has each reporter's script once and in its order and no other report, each reader is one of it, and the table is its table
-pub record IsLegalCrewLog {T : Type 0} (belongs : List Report → T → Type 0) (total_of : T → ℕ) (tasks links : ℕ) (scripts : List (Vec Report Global)) (readers reads : ℕ) (log : CrewLog T) : Type 0 where
-  pub scripts_so : (number : ℕ) (other : Vec Report Global) → number < length scripts → reports_of number log.history.items ≡ (slice_index_or scripts number other).items
+-- the history has each reporter's script once and in its order and no other report, each reader is
+-- one of it, and the table is its table
+pub record IsLegalCrewLog {T : Type 0} (belongs : List Report → T → Type 0) (total_of : T → ℕ)
+    (tasks links : ℕ) (scripts : List (Vec Report Global)) (readers reads : ℕ) (log : CrewLog T)
+    : Type 0 where
+  pub scripts_so : (number : ℕ) (other : Vec Report Global) → number < length scripts
+      → reports_of number log.history.items ≡ (slice_index_or scripts number other).items
   pub no_other : All (IsAllowed (length scripts) (IsFit tasks links)) log.history.items
   pub sent : log.sent.items ≡ map (λ script. length script.items) scripts
   pub readers_so : length log.readers.items ≡ readers
-  pub each_reader : All (IsReaderOf belongs total_of (IsAllowed (length scripts) (IsFit tasks links)) reads log.history.items) log.readers.items
+  pub each_reader : All
+      (IsReaderOf belongs total_of (IsAllowed (length scripts) (IsFit tasks links)) reads
+      log.history.items) log.readers.items
   pub table_so : belongs log.history.items log.table
 
 -- no report came beyond the history: each reader's final log is as long as it

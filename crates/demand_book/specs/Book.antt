@@ -47,6 +47,8 @@ pub record AreKept (book : Book) (tasks links : List (List Told)) : Type 0 where
   pub room : length book.reports ≤ MAX_REPORTS
   pub task_rows : length tasks ≡ book.tasks
   pub link_rows : length links ≡ length book.capacities
-  pub demands : (task : ℕ) → task < book.tasks → Tells 0 (λ reports. demand_after reports task) book.reports (row_at tasks task)
+  pub demands : (task : ℕ) → task < book.tasks
+      → Tells 0 (λ reports. demand_after reports task) book.reports (row_at tasks task)
   pub capacities : (link : ℕ) → link < length book.capacities
-      → Tells (slice_index book.capacities link) (λ reports. capacity_after book.capacities reports link) book.reports (row_at links link)
+      → Tells (slice_index book.capacities link)
+      (λ reports. capacity_after book.capacities reports link) book.reports (row_at links link)

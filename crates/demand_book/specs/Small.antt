@@ -22,8 +22,10 @@ total_demand reports = sum_by demand_of reports
 
 -- the maker has counted these reports and added up their demands
 abbrev pub HasSummed : SmallMaker → List Report → Type 0
-HasSummed maker reports = (length reports ≡ maker.prefix) × (total_demand reports ≡ maker.total) × (maker.total ≤ MAX_AMOUNT * maker.prefix)
+HasSummed maker reports = (length reports ≡ maker.prefix) × (total_demand reports ≡ maker.total)
+    × (maker.total ≤ MAX_AMOUNT * maker.prefix)
 
 -- the table of so many tasks that belongs to these reports
 abbrev pub small_table : ℕ → List Report → SmallTable
-small_table tasks reports = record { prefix = length reports; total = total_demand reports; tasks = tasks }
+small_table tasks reports =
+    record { prefix = length reports; total = total_demand reports; tasks = tasks }

@@ -7,10 +7,13 @@ use Rattle.demand_book.specs.declared.told.Told.{Told}
 -- the amount that was told last before the place, or else the first one
 abbrev pub amount_before : ℕ → List Told → ℕ → ℕ
 amount_before first [] place = first
-amount_before first (entry ∷ told) place = if nat_lt entry.place place then amount_before entry.amount told place else first
+amount_before first (entry ∷ told) place =
+    if nat_lt entry.place place then amount_before entry.amount told place else first
 
 -- at each prefix of the reports, the amount that was told last is what `after` says of that prefix
-pub record Tells (first : ℕ) (after : List Report → ℕ) (reports : List Report) (told : List Told) : Type 0 where
+pub record Tells (first : ℕ) (after : List Report → ℕ) (reports : List Report) (told : List Told)
+    : Type 0 where
   pub rising : IsNonDecreasingBy (λ entry. entry.place) told
   pub within : All (λ entry. entry.place < length reports) told
-  pub right : (prefix : ℕ) → prefix ≤ length reports → amount_before first told prefix ≡ after (take prefix reports)
+  pub right : (prefix : ℕ) → prefix ≤ length reports
+      → amount_before first told prefix ≡ after (take prefix reports)

@@ -26,7 +26,8 @@ impl<T: Drop> From<AllocFailed<T>> for BookError {
     }
 }
 
-/// Reports in their order, and the demand of each task and the capacity of each link after any prefix of them.
+/// Reports in their order, and the demand of each task and the capacity of each link after any
+/// prefix of them.
 ///
 /// What a task or link was told stands in a row of its own, in the order of the reports.
 #[derive(Drop)]
@@ -47,14 +48,19 @@ impl Model for DemandBook {
         record { tasks = length book.task_rows.items; capacities = book.capacities.items; reports = book.reports.items } };
 
     ghost invariant = { λ book. AreKept
-        (record { tasks = length book.task_rows.items; capacities = book.capacities.items; reports = book.reports.items })
+        (record {
+          tasks = length book.task_rows.items;
+          capacities = book.capacities.items;
+          reports = book.reports.items;
+        })
         (rows_of book.task_rows.items) (rows_of book.link_rows.items) };
 }
 
 impl DemandBook {
     /// An empty book of so many tasks, and of links with these capacities.
     pub fn new(alloc: Global, capacities: &[u64], tasks: u32) -> Result<DemandBook, OutOfMemory>
-        ensures { IfOk result (λ book. book ≡ record { tasks = tasks; capacities = capacities.now; reports = [] }) }
+        ensures { IfOk result
+            (λ book. book ≡ record { tasks = tasks; capacities = capacities.now; reports = [] }) }
     {
         Ok(DemandBook {
             capacities: Vec::from_slice(alloc, capacities)?,
@@ -71,7 +77,8 @@ impl DemandBook {
         ensures ok { OnOk result (self.new ≡ with_report self.old report) }
 
         // Full exactly at the limit.
-        ensures full { (result ≡ Err (BookError.Full MAX_REPORTS)) ↔ (length self.old.reports ≡ MAX_REPORTS) }
+        ensures full { (result ≡ Err (BookError.Full MAX_REPORTS))
+            ↔ (length self.old.reports ≡ MAX_REPORTS) }
         ensures refusal { IfErr result (IsRefusal (length self.old.reports)) }
         ensures refused { OnErr result (self.new ≡ self.old) }
     {
@@ -112,8 +119,9 @@ impl DemandBook {
         self.reports.get(place as usize).copied()
     }
 
-    /// The demand of a task after the first reports, in kilobits per second: that of its last report among them,
-    /// or 0 ("Demands and capacities"). It costs by the logarithm of the task's reports, and takes no memory.
+    /// The demand of a task after the first reports, in kilobits per second: that of its last
+    /// report among them, or 0 ("Demands and capacities"). It costs by the logarithm of the task's
+    /// reports, and takes no memory.
     pub fn demand_after(&self, task: u32, prefix: u64) -> u64
         requires task { task < self.now.tasks }
         requires prefix { prefix ≤ length self.now.reports }
@@ -122,8 +130,9 @@ impl DemandBook {
         last_before(0, self.task_rows[task as usize].as_slice(), prefix)
     }
 
-    /// The capacity of a link after the first reports, in kilobits per second: that of its last report among them,
-    /// or the one that the book was made with. It costs by the logarithm of the link's reports, and takes no memory.
+    /// The capacity of a link after the first reports, in kilobits per second: that of its last
+    /// report among them, or the one that the book was made with. It costs by the logarithm of the
+    /// link's reports, and takes no memory.
     pub fn capacity_after(&self, link: u32, prefix: u64) -> u64
         requires link { link < length self.now.capacities }
         requires prefix { prefix ≤ length self.now.reports }
@@ -158,8 +167,10 @@ fn tell(
         (rows_of task_rows.new.items ≡ task_rows_after target entry (rows_of task_rows.old.items)) }
     ensures links { OnOk result
         (rows_of link_rows.new.items ≡ link_rows_after target entry (rows_of link_rows.old.items)) }
-    ensures refused_tasks { OnErr result (rows_of task_rows.new.items ≡ rows_of task_rows.old.items) }
-    ensures refused_links { OnErr result (rows_of link_rows.new.items ≡ rows_of link_rows.old.items) }
+    ensures refused_tasks { OnErr result
+        (rows_of task_rows.new.items ≡ rows_of task_rows.old.items) }
+    ensures refused_links { OnErr result
+        (rows_of link_rows.new.items ≡ rows_of link_rows.old.items) }
 {
     match target {
         Target::Task { number } => write(task_rows, number, entry),
@@ -171,7 +182,8 @@ fn tell(
 fn write(rows: &mut Vec<Vec<Told>>, number: u32, entry: Told) -> Result<(), AllocError>
     requires row { number < length rows.old.items }
     ensures ok { OnOk result (rows_of rows.new.items
-        ≡ slice_set (rows_of rows.old.items) number (row_at (rows_of rows.old.items) number ++ entry ∷ [])) }
+        ≡ slice_set (rows_of rows.old.items) number
+        (row_at (rows_of rows.old.items) number ++ entry ∷ [])) }
     ensures refused { OnErr result (rows_of rows.new.items ≡ rows_of rows.old.items) }
 {
     let row = &mut rows[number as usize];

@@ -39,19 +39,23 @@ pub trait Maker: Drop {
     /// Takes in a report. After a refusal the maker has taken in what it had.
     fn absorb(&mut self, alloc: Global, report: Report) -> Result<(), OutOfMemory>
         requires fit { IsFit (plan_tasks (plan self.old)) (plan_links (plan self.old)) report }
-        requires room { (reports : List Report) × absorbed self.old reports × (length reports < MAX_REPORTS) }
+        requires room { (reports : List Report) × absorbed self.old reports
+            × (length reports < MAX_REPORTS) }
         ensures plan { plan self.new ≡ plan self.old }
         ensures ok { OnOk result
-            ((reports : List Report) → absorbed self.old reports → absorbed self.new (reports ++ report ∷ [])) }
+            ((reports : List Report) → absorbed self.old reports
+            → absorbed self.new (reports ++ report ∷ [])) }
         ensures refused { OnErr result
             ((reports : List Report) → absorbed self.old reports → absorbed self.new reports) };
 
     /// Makes the table of all that was taken in.
     fn table(&mut self, alloc: Global) -> Result<Self::Table, OutOfMemory>
         ensures plan { plan self.new ≡ plan self.old }
-        ensures absorbed { (reports : List Report) → absorbed self.old reports → absorbed self.new reports }
+        ensures absorbed { (reports : List Report) → absorbed self.old reports
+            → absorbed self.new reports }
         ensures table { IfOk result (λ table.
-            (reports : List Report) → absorbed self.old reports → table ≡ table_of (plan self.old) reports) };
+            (reports : List Report) → absorbed self.old reports
+            → table ≡ table_of (plan self.old) reports) };
 
     /// A table covers the reports that it belongs to.
     ghost covers_all: { (plan : Self.Plan) (reports : List Report)

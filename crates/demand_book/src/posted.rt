@@ -6,7 +6,8 @@ use std::alloc::Global;
 
 /// A table of limits, in kilobits per second, that belongs to the first reports of a log.
 ///
-/// Two tables are of one plan where their frames are equal. Then the one can be brought up to date by a change.
+/// Two tables are of one plan where their frames are equal. Then the one can be brought up to date
+/// by a change.
 pub trait Posted: Drop {
     /// What no call changes of a table.
     type Frame;
@@ -55,6 +56,7 @@ pub trait Posted: Drop {
     fn apply(&mut self, alloc: Global, change: &Self::Change) -> Result<(), OutOfMemory>
         requires leads { (later : Self) × leads self.old change.now later }
         ensures frame { frame self.new ≡ frame self.old }
-        ensures ok { OnOk result ((later : Self) → leads self.old change.now later → self.new ≡ later) }
+        ensures ok { OnOk result
+            ((later : Self) → leads self.old change.now later → self.new ≡ later) }
         ensures refused { OnErr result (self.new ≡ self.old) };
 }

@@ -8,7 +8,8 @@ use crate::posted::Posted;
 use bwe_specs::{OutOfMemory, Report, Target};
 use std::alloc::Global;
 
-/// The table of a `SmallMaker`: its total is the sum of all demands that were reported, and each limit is 0.
+/// The table of a `SmallMaker`: its total is the sum of all demands that were reported, and each
+/// limit is 0.
 #[derive(Clone, Copy, Debug, PartialEq, Eq)]
 pub struct SmallTable {
     pub prefix: u64,

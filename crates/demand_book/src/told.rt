@@ -10,7 +10,8 @@ pub struct Told {
     pub amount: u64,
 }
 
-/// The amount that was told last before the place, or else the first one. It costs by the logarithm of the list.
+/// The amount that was told last before the place, or else the first one. It costs by the logarithm
+/// of the list.
 pub(crate) fn last_before(first: u64, told: &[Told], place: u64) -> u64
     requires rising { IsNonDecreasingBy (λ entry. entry.place) told.now }
     ensures { result ≡ amount_before first told.now place }
@@ -26,7 +27,8 @@ fn count_before(told: &[Told], place: u64) -> usize
     requires rising { IsNonDecreasingBy (λ entry. entry.place) told.now }
     ensures within { result ≤ length told.now }
     ensures before { IsPartitionPoint
-        (λ entry. nat_lt entry.place place ≡ true) (λ entry. nat_lt entry.place place ≡ false) told.now result }
+        (λ entry. nat_lt entry.place place ≡ true) (λ entry. nat_lt entry.place place ≡ false)
+        told.now result }
 {
     told.partition_point(|entry| entry.place < place)
 }

@@ -1,8 +1,8 @@
 //! The estimate of a task's demand, by the samples of what it sent.
 //!
-//! The samples of `estimate` go through an `Estimator` of each task: `sample` is the Estimate of all samples so far,
-//! over every list of samples (`estimate`, `had`), while `window` samples at most are kept (`few`).
-//! Nothing is promised of how well an estimate foretells a demand.
+//! The samples of `estimate` go through an `Estimator` of each task: `sample` is the Estimate of
+//! all samples so far, over every list of samples (`estimate`, `had`), while `window` samples at
+//! most are kept (`few`). Nothing is promised of how well an estimate foretells a demand.
 #![tactic(auto)]
 
 ghost use Rattle.std.specs.Prelude.{◌≡◌, ◌≤◌, List, ℕ, [], ◌∷◌, ◌++◌, length, IfOk};
@@ -22,7 +22,8 @@ pub const MIN_HEADROOM: u32 = 100;
 /// The greatest headroom: ten times the greatest sample.
 pub const MAX_HEADROOM: u32 = 1_000;
 
-/// The last samples of one task. Samples and estimates are in kilobits per second, the headroom in hundredths.
+/// The last samples of one task. Samples and estimates are in kilobits per second, the headroom in
+/// hundredths.
 #[derive(Drop)]
 pub struct Estimator {
     kept: HeapCircularBuffer<u64>,
@@ -37,9 +38,15 @@ impl Model for Estimator {
 
     ghost Value = { Kept };
 
-    ghost view = { λ estimator. record { window = estimator.kept.capacity; headroom = estimator.headroom; samples = estimator.kept.items } };
+    ghost view = { λ estimator.
+        record {
+          window = estimator.kept.capacity;
+          headroom = estimator.headroom;
+          samples = estimator.kept.items;
+        } };
 
-    ghost invariant = { λ estimator. All (λ amount. amount ≤ MAX_AMOUNT) estimator.kept.items × (estimator.headroom ≤ 1000) };
+    ghost invariant = { λ estimator. All (λ amount. amount ≤ MAX_AMOUNT) estimator.kept.items
+        × (estimator.headroom ≤ 1000) };
 }
 
 impl Estimator {

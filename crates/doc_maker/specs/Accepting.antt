@@ -39,12 +39,18 @@ numbered_group size group = record {
   to = codes "b";
   path_groups =
       (numbered_path 1 (group / 2) ∷ [])
-      ∷ (numbered_path 1 ((group + 1) % size.groups) ∷ numbered_path 2 ((group + 2) % size.groups) ∷ []) ∷ [];
+      ∷ (numbered_path 1 ((group + 1) % size.groups) ∷ numbered_path 2 ((group + 2) % size.groups)
+      ∷ []) ∷ [];
 }
 
 -- the report of the task that has this number in its name
 abbrev pub numbered_report : Size → ℕ → Report
-numbered_report size task = record { reporter = task % 4; target = Task (place_of size task); amount = drawn size (size.groups + task) }
+numbered_report size task =
+    record {
+      reporter = task % 4;
+      target = Task (place_of size task);
+      amount = drawn size (size.groups + task);
+    }
 
 abbrev pub made_numbers : Size → Numbers
 made_numbers size = record {
@@ -63,7 +69,8 @@ made_accepted size = accepted (made size) (made_names size) (made_numbers size)
 
 -- each made document is accepted
 abbrev pub MadeDocumentsAreAccepted : Type 0
-MadeDocumentsAreAccepted = (size : Size) → IsSize size → document (made_document size) ≡ Ok (made_accepted size)
+MadeDocumentsAreAccepted = (size : Size) → IsSize size
+    → document (made_document size) ≡ Ok (made_accepted size)
 
 -- so many groups, links, tasks and reports as the size says
 pub record HasCounts (size : Size) (document : Accepted) : Type 0 where

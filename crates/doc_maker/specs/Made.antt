@@ -72,7 +72,8 @@ made_task task = record { name = task_name task; reporter = owner_name task; wei
 
 -- the function of a group's task
 abbrev pub made_function : Size → ℕ → List (ℕ × ℕ)
-made_function size group = (0, 0) ∷ (500_000, 100 + drawn size group) ∷ (1_000_000, 200 + 2 * drawn size group) ∷ []
+made_function size group =
+    (0, 0) ∷ (500_000, 100 + drawn size group) ∷ (1_000_000, 200 + 2 * drawn size group) ∷ []
 
 abbrev pub made_job : Size → ℕ → Job
 made_job size group = record {
@@ -87,7 +88,8 @@ abbrev pub user_function : ℕ → Option (List (ℕ × ℕ))
 user_function group = if group % 3 == 0 then Some ((0, 0) ∷ (1_000_000, 2_000) ∷ []) else None
 
 abbrev pub made_user : Size → ℕ → User
-made_user size group = record { name = codes "u0"; function = user_function group; jobs = made_job size group ∷ [] }
+made_user size group =
+    record { name = codes "u0"; function = user_function group; jobs = made_job size group ∷ [] }
 
 abbrev pub made_group : Size → ℕ → Group
 made_group size group = record {

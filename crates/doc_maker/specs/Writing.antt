@@ -26,7 +26,8 @@ function_tokens (Some points) = key (word keys.Function) ∷ tokens_of (function
 
 -- the path groups, the jobs and the users of a made group
 unfoldable pub paths_tokens : Size → ℕ → List Token
-paths_tokens size group = tokens_of (list_value (list_value path_value) (made_path_groups size group))
+paths_tokens size group =
+    tokens_of (list_value (list_value path_value) (made_path_groups size group))
 
 unfoldable pub jobs_tokens : Size → ℕ → List Token
 jobs_tokens size group = tokens_of (list_value job_value (made_job size group ∷ []))

@@ -7,7 +7,8 @@ pub fn made_documents_are_accepted()
     ensures { MadeDocumentsAreAccepted }
 {}
 
-/// A made document has a link and a group for each group of its size, and a task and a report for each task.
+/// A made document has a link and a group for each group of its size, and a task and a report for
+/// each task.
 pub fn made_documents_have_their_counts()
     ensures { MadeDocumentsHaveTheirCounts }
 {}

@@ -1,8 +1,9 @@
 //! Large valid documents from three numbers: the line `make`, and what the line `bulk` solves.
 //!
-//! The top call uses `make_document`, whose clause is the whole document ("The made document", docs/FORMAT.md).
-//! The text is written into one buffer, token by token, with no tree of values. It costs by the length of the text: the tasks of
-//! a group are met by steps, so nothing is looked at twice.
+//! The top call uses `make_document`, whose clause is the whole document ("The made document",
+//! docs/FORMAT.md). The text is written into one buffer, token by token, with no tree of values. It
+//! costs by the length of the text: the tasks of a group are met by steps, so nothing is looked at
+//! twice.
 #![tactic(auto)]
 
 mod document;

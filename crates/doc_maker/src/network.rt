@@ -46,7 +46,8 @@ fn write_link(
     out.end_object()
 }
 
-/// The path groups of a group: a path over the link that it has in common with its neighbour, then two over the next links.
+/// The path groups of a group: a path over the link that it has in common with its neighbour, then
+/// two over the next links.
 pub(crate) fn write_path_groups(
     alloc: Global,
     out: &mut Writer,

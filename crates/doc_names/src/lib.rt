@@ -1,8 +1,8 @@
 //! The names of a document, for the texts that are made of its tables.
 //!
 //! Reading a document makes them; the texts of tables and runs print them. A name's place in its
-//! list is the number of what it names. `texts_of` (`specs/NameTexts.antt`) is what contracts see of
-//! them. Nothing is promised here of names: a text says which lists have to be long enough.
+//! list is the number of what it names. `texts_of` (`specs/NameTexts.antt`) is what contracts see
+//! of them. Nothing is promised here of names: a text says which lists have to be long enough.
 #![tactic(auto)]
 
 /// The names of a document's links, groups, tasks and reporters, each list in the order of their

@@ -1,5 +1,5 @@
--- Counts above their limits, in the order of the list and not of the walk. The limits stand here as numbers, so that a
--- constant of the code cannot move them.
+-- Counts above their limits, in the order of the list and not of the walk. The limits stand here as
+-- numbers, so that a constant of the code cannot move them.
 use Rattle.std.specs.Prelude.{ℕ, ◌+◌, List, [], ◌∷◌, length, Option, Some, None, nat_lt, if◌then◌else◌}
 use Rattle.std.specs.Option.{option_or}
 use Rattle.doc_passes.specs.declared.limit.What.{What}
@@ -19,7 +19,8 @@ sum_of f (item ∷ items) = f item + sum_of f items
 
 -- a count that is above its limit
 abbrev pub overrun_of : What → ℕ → ℕ → Option Overrun
-overrun_of what limit count = if nat_lt limit count then Some (record { what = what; count = count }) else None
+overrun_of what limit count =
+    if nat_lt limit count then Some (record { what = what; count = count }) else None
 
 -- ---- the first function of more than 256 points, in the order of the walk
 
@@ -37,7 +38,8 @@ unfoldable pub user_overrun : User → Option Overrun
 user_overrun user = option_or (configured_overrun user.function) (first_some job_overrun user.jobs)
 
 unfoldable pub group_overrun : Group → Option Overrun
-group_overrun group = option_or (configured_overrun group.function) (first_some user_overrun group.users)
+group_overrun group =
+    option_or (configured_overrun group.function) (first_some user_overrun group.users)
 
 -- ---- hops: all entries of all lists of links of paths
 

@@ -25,7 +25,8 @@ abbrev pub fresh_name : List (List ℕ) → List ℕ → Result (List (List ℕ)
 fresh_name before name = under (Key keys.Name) (fresh before name)
 
 -- of a list that is a member
-abbrev pub fold_member : {S A : Type 0} → DocKey → (S → A → Result S (List PathStep)) → S → List A → Result S (List PathStep)
+abbrev pub fold_member : {S A : Type 0} → DocKey → (S → A → Result S (List PathStep)) → S → List A
+    → Result S (List PathStep)
 fold_member key step state items = under (Key key) (fold_each step 0 state items)
 
 abbrev pub add_link : List (List ℕ) → Link → Result (List (List ℕ)) (List PathStep)
@@ -35,21 +36,24 @@ abbrev pub add_task : List (List ℕ) → Task → Result (List (List ℕ)) (Lis
 add_task before task = fresh_name before task.name
 
 -- the names of the jobs of one user, and of all tasks
-unfoldable pub add_job : List (List ℕ) × List (List ℕ) → Job → Result (List (List ℕ) × List (List ℕ)) (List PathStep)
+unfoldable pub add_job : List (List ℕ) × List (List ℕ) → Job
+    → Result (List (List ℕ) × List (List ℕ)) (List PathStep)
 add_job before job = do
   names ← fresh_name before.0 job.name
   tasks ← fold_member keys.Tasks add_task before.1 job.tasks
   Ok (names, tasks)
 
 -- the names of the users of one group, and of all tasks
-unfoldable pub add_user : List (List ℕ) × List (List ℕ) → User → Result (List (List ℕ) × List (List ℕ)) (List PathStep)
+unfoldable pub add_user : List (List ℕ) × List (List ℕ) → User
+    → Result (List (List ℕ) × List (List ℕ)) (List PathStep)
 add_user before user = do
   names ← fresh_name before.0 user.name
   jobs ← fold_member keys.Jobs add_job ([], before.1) user.jobs
   Ok (names, jobs.1)
 
 -- the names of the groups, and of all tasks
-unfoldable pub add_group : List (List ℕ) × List (List ℕ) → Group → Result (List (List ℕ) × List (List ℕ)) (List PathStep)
+unfoldable pub add_group : List (List ℕ) × List (List ℕ) → Group
+    → Result (List (List ℕ) × List (List ℕ)) (List PathStep)
 add_group before group = do
   names ← fresh_name before.0 group.name
   users ← fold_member keys.Users add_user ([], before.1) group.users

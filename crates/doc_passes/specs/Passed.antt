@@ -39,7 +39,8 @@ abbrev pub IsClosing : ℕ → Closing → Type 0
 IsClosing links closing = (closing.link < links) × (closing.share ≤ MAX_SHARE)
 
 -- each number is below the number of links, tasks or reporters that there are
-pub record AreNumbersOf (links tasks reporters : ℕ) (document : Raw) (numbers : Numbers) : Type 0 where
+pub record AreNumbersOf (links tasks reporters : ℕ) (document : Raw) (numbers : Numbers)
+    : Type 0 where
   pub link_owners : length numbers.link_owners ≡ length document.links
   pub link_owners_below : All (HasOwnerBelow reporters) numbers.link_owners
   pub groups : length numbers.groups ≡ length document.groups
@@ -56,4 +57,5 @@ pub record HasPassed (raw : Raw) (names : NameTexts) (numbers : Numbers) : Type 
   pub few : AreFew raw
   pub range : IsInRange raw
   pub each_named : AreNamesOf raw names
-  pub each_numbered : AreNumbersOf (length raw.links) (task_count raw.groups) (length raw.reporters) raw numbers
+  pub each_numbered : AreNumbersOf (length raw.links) (task_count raw.groups) (length raw.reporters)
+      raw numbers

@@ -1,5 +1,5 @@
--- Numbers and names in their ranges, in the order of the walk. The ranges stand here as numbers, so that a constant of
--- the code cannot move them.
+-- Numbers and names in their ranges, in the order of the walk. The ranges stand here as numbers, so
+-- that a constant of the code cannot move them.
 use Rattle.std.specs.Prelude.{ℕ, ◌==◌, ◌&&◌, ◌||◌, Bool, List, length, Option, Some, None, Result, Ok, nat_le, ⊤}
 use Rattle.std.specs.List.{list_all}
 use Rattle.raw_document.specs.declared.key.DocKey.{DocKey}
@@ -12,7 +12,8 @@ use Rattle.raw_document.specs.Raw.{Link, Path, Task, Job, User, Group, Target, o
 -- a letter, a digit, `-`, `_` or `.`
 abbrev pub is_name_byte : ℕ → Bool
 is_name_byte byte =
-    (nat_le 97 byte && nat_le byte 122) || (nat_le 65 byte && nat_le byte 90) || (nat_le 48 byte && nat_le byte 57)
+    (nat_le 97 byte && nat_le byte 122) || (nat_le 65 byte && nat_le byte 90)
+    || (nat_le 48 byte && nat_le byte 57)
     || byte == 45 || byte == 95 || byte == 46
 
 -- 1 to 64 of them
@@ -36,7 +37,8 @@ owner_range None = Ok tt
 owner_range (Some name) = member_range keys.Owner (is_name name)
 
 -- a member that is a list
-abbrev pub items_range : {A : Type 0} → DocKey → (A → Result ⊤ (List PathStep)) → List A → Result ⊤ (List PathStep)
+abbrev pub items_range : {A : Type 0} → DocKey → (A → Result ⊤ (List PathStep)) → List A
+    → Result ⊤ (List PathStep)
 items_range key range items = under (Key key) (check_each range items)
 
 unfoldable pub link_range : Link → Result ⊤ (List PathStep)
@@ -74,11 +76,17 @@ group_range group = do
   items_range keys.Users user_range group.users
 
 abbrev pub target_range : Target → ℕ → Result ⊤ (List PathStep)
-target_range (of_task name) amount = member_range keys.Task (is_name name) >>= λ _. member_range keys.Demand (is_within 0 1_000_000_000_000 amount)
-target_range (of_link name) amount = member_range keys.Link (is_name name) >>= λ _. member_range keys.Capacity (is_within 0 1_000_000_000_000 amount)
+target_range (of_task name) amount =
+    member_range keys.Task (is_name name)
+    >>= λ _. member_range keys.Demand (is_within 0 1_000_000_000_000 amount)
+target_range (of_link name) amount =
+    member_range keys.Link (is_name name)
+    >>= λ _. member_range keys.Capacity (is_within 0 1_000_000_000_000 amount)
 
 unfoldable pub report_range : Report → Result ⊤ (List PathStep)
-report_range report = member_range keys.Reporter (is_name report.reporter) >>= λ _. target_range report.target report.amount
+report_range report =
+    member_range keys.Reporter (is_name report.reporter)
+    >>= λ _. target_range report.target report.amount
 
 unfoldable pub closing_range : Closing → Result ⊤ (List PathStep)
 closing_range closing = do

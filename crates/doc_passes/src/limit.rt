@@ -16,7 +16,8 @@ const MAX_ALL_HOPS: u64 = 1_000_000;
 /// The greatest number of closings.
 const MAX_CLOSINGS: u64 = 4096;
 
-/// What there are too many of. `Points` are those of one function, `Hops` all entries of all lists of links of paths.
+/// What there are too many of. `Points` are those of one function, `Hops` all entries of all lists
+/// of links of paths.
 #[derive(Clone, Copy)]
 pub enum What {
     Groups,

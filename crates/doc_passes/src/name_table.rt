@@ -10,7 +10,8 @@ use raw_document::Fault;
 use std::alloc::{AllocError, Global};
 use std::marker::Model;
 
-/// Names that differ, which contracts see as a list. A name's number is its place in the list. Names are lent by the document.
+/// Names that differ, which contracts see as a list. A name's number is its place in the list.
+/// Names are lent by the document.
 #[derive(Drop)]
 pub struct NameTable<'a> {
     names: IndexSet<&'a str>,
@@ -34,7 +35,8 @@ impl<'a> NameTable<'a> {
         }
     }
 
-    /// Adds a name at the end, or answers a fault here where it stood before. Takes about the time of one hash.
+    /// Adds a name at the end, or answers a fault here where it stood before. Takes about the time
+    /// of one hash.
     pub fn add(&mut self, alloc: Global, name: &'a str) -> Result<(), Fault>
         ensures { Gives (λ _. self.new) result (fresh self.old name.now) }
     {
@@ -48,14 +50,16 @@ impl<'a> NameTable<'a> {
         copies_of(alloc, self.names.as_slice())
     }
 
-    /// The number of a name, or a fault here where it does not stand. Takes about the time of one hash.
+    /// The number of a name, or a fault here where it does not stand. Takes about the time of one
+    /// hash.
     pub fn number(&self, alloc: Global, name: &str) -> Result<u32, Fault>
         ensures { Gives (λ number. number) result (number_in self.now name.now) }
     {
         number_of(alloc, &self.names, name)
     }
 
-    /// The same, where the name is guessed to have a number. Takes no hash where the guess is right.
+    /// The same, where the name is guessed to have a number. Takes no hash where the guess is
+    /// right.
     pub fn number_near(&self, alloc: Global, name: &str, guess: u32) -> Result<u32, Fault>
         ensures { Gives (λ number. number) result (number_in self.now name.now) }
     {

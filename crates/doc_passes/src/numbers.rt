@@ -2,6 +2,9 @@
 
 ghost use Rattle.std.specs.Prelude.{◌≡◌, map};
 ghost use Rattle.raw_document.specs.Reading.{Gives, each_view, under, each, fold_each};
+ghost use Rattle.raw_document.specs.Raw as raw;
+ghost use Rattle.bwe_specs.specs.Paths as paths;
+ghost use Rattle.bwe_specs.specs.declared.network.Closing.{Closing};
 ghost use Rattle.raw_document.specs.Raw.{name_view, link_view, path_view, path_group_view, task_view, job_view, user_view, group_view, target_view, report_view, closing_view, raw_view};
 ghost use Rattle.raw_document.specs.declared.key.DocKey.TheVariants as keys;
 ghost use Rattle.raw_document.specs.declared.doc_path.PathStep.TheVariants.{Key};
@@ -11,15 +14,17 @@ ghost use Rattle.doc_passes.specs.Numbers as spec;
 ghost use Rattle.doc_passes.specs.NumbersView.{numbers_view};
 
 use crate::name_table::NameTable;
+use crate::numbered::{Numbered, each_numbers};
 use bwe_specs::{Closing, Report, Target};
 use path_groups::{GroupSpec, PathSpec};
 use raw_document::{
     DocKey, Fault, PathStep, RawClosing, RawDocument, RawGroup, RawJob, RawLink, RawPath,
-    RawReport, RawTarget, RawTask, RawUser, each_of, under,
+    RawReport, RawTarget, RawTask, RawUser, under,
 };
 use std::alloc::Global;
 
-/// What the document says of numbers: the groups over the links, the script, the closings, and who owns what.
+/// What the document says of numbers: the groups over the links, the script, the closings, and who
+/// owns what.
 #[derive(Drop)]
 pub struct DocumentNumbers {
     pub link_owners: Vec<Option<u32>>,
@@ -37,7 +42,8 @@ fn number_in_member(alloc: Global, key: DocKey, table: &NameTable, name: &str) -
 
 // The same, where the name is guessed to have a number.
 fn reporter_near(alloc: Global, reporters: &NameTable, name: &str, guess: u32) -> Result<u32, Fault>
-    ensures { Gives (λ number. number) result (under (Key keys.Reporter) (number_in reporters.now name.now)) }
+    ensures { Gives (λ number. number) result
+        (under (Key keys.Reporter) (number_in reporters.now name.now)) }
 {
     under(
         PathStep::Key {
@@ -47,15 +53,76 @@ fn reporter_near(alloc: Global, reporters: &NameTable, name: &str, guess: u32) -
     )
 }
 
-fn link_owner(alloc: Global, link: &RawLink, reporters: &NameTable) -> Result<Option<u32>, Fault>
-    ensures { Gives (λ owner. owner) result (spec.link_owner reporters.now (link_view link.now)) }
-{
-    match link.owner {
-        Some(name) => {
-            let owner = number_in_member(alloc, DocKey::Owner, reporters, name)?;
-            Ok(Some(owner))
+impl<'a> Numbered for RawLink<'a> {
+    type Numbers = Option<u32>;
+
+    ghost use Rattle.std.specs.Prelude.{ℕ, Option};
+
+    ghost Shown = { raw.Link };
+
+    ghost shown = { link_view };
+
+    ghost Told = { Option ℕ };
+
+    ghost told = { λ owner. owner };
+
+    ghost in_numbers = { spec.link_owner };
+
+    // The number of its owner.
+    fn numbers(&self, alloc: Global, table: &NameTable) -> Result<Option<u32>, Fault> {
+        match self.owner {
+            Some(name) => {
+                let owner = number_in_member(alloc, DocKey::Owner, table, name)?;
+                Ok(Some(owner))
+            }
+            None => Ok(None),
         }
-        None => Ok(None),
+    }
+}
+
+impl<'a> Numbered for RawPath<'a> {
+    type Numbers = PathSpec;
+
+    ghost Shown = { raw.Path };
+
+    ghost shown = { path_view };
+
+    ghost Told = { paths.Path };
+
+    ghost told = { path_of };
+
+    ghost in_numbers = { spec.path_numbers };
+
+    #[tactic(auto, unfolding(crate::specs::Numbers::path_numbers))]
+    fn numbers(&self, alloc: Global, table: &NameTable) -> Result<PathSpec, Fault> {
+        let links = hop_numbers(alloc, &self.links, table)?;
+        Ok(PathSpec {
+            weight: self.weight,
+            links,
+        })
+    }
+}
+
+impl<'a> Numbered for RawClosing<'a> {
+    type Numbers = Closing;
+
+    ghost Shown = { raw.Closing };
+
+    ghost shown = { closing_view };
+
+    ghost Told = { Closing };
+
+    ghost told = { λ closing. closing };
+
+    ghost in_numbers = { spec.closing_numbers };
+
+    #[tactic(auto, unfolding(crate::specs::Numbers::closing_numbers))]
+    fn numbers(&self, alloc: Global, table: &NameTable) -> Result<Closing, Fault> {
+        let link = number_in_member(alloc, DocKey::Link, table, self.link)?;
+        Ok(Closing {
+            link,
+            share: self.share,
+        })
     }
 }
 
@@ -65,13 +132,14 @@ fn link_owners(
     reporters: &NameTable,
 ) -> Result<Vec<Option<u32>>, Fault>
     ensures { Gives (λ owners. owners.items) result
-        (under (Key keys.Links) (each (spec.link_owner reporters.now) 0 (map link_view links.now))) }
+        (under (Key keys.Links)
+        (each (spec.link_owner reporters.now) 0 (map link_view links.now))) }
 {
     under(
         PathStep::Key {
             name: DocKey::Links,
         },
-        each_of(alloc, links, |link| link_owner(alloc, link, reporters)),
+        each_numbers(alloc, links, reporters),
     )
 }
 
@@ -83,30 +151,8 @@ fn hop_numbers(alloc: Global, names: &[&str], links: &NameTable) -> Result<Vec<u
         PathStep::Key {
             name: DocKey::Links,
         },
-        each_of(alloc, names, |name| links.number(alloc, name)),
+        each_numbers(alloc, names, links),
     )
-}
-
-#[tactic(auto, unfolding(crate::specs::Numbers::path_numbers))]
-fn path_numbers(alloc: Global, path: &RawPath, links: &NameTable) -> Result<PathSpec, Fault>
-    ensures { Gives path_of result (spec.path_numbers links.now (path_view path.now)) }
-{
-    let numbers = hop_numbers(alloc, &path.links, links)?;
-    Ok(PathSpec {
-        weight: path.weight,
-        links: numbers,
-    })
-}
-
-fn path_group_numbers(
-    alloc: Global,
-    path_group: &[RawPath],
-    links: &NameTable,
-) -> Result<Vec<PathSpec>, Fault>
-    ensures { Gives path_group_of result
-        (each (spec.path_numbers links.now) 0 (map path_view path_group.now)) }
-{
-    each_of(alloc, path_group, |path| path_numbers(alloc, path, links))
 }
 
 fn path_groups_numbers(
@@ -121,11 +167,7 @@ fn path_groups_numbers(
         PathStep::Key {
             name: DocKey::Paths,
         },
-        each_of(
-            alloc,
-            path_groups,
-            |path_group| path_group_numbers(alloc, path_group, links),
-        ),
+        each_numbers(alloc, path_groups, links),
     )
 }
 
@@ -153,7 +195,8 @@ fn add_tasks_owners(
     owners: &mut Vec<u32>,
 ) -> Result<(), Fault>
     ensures { Gives (λ _. owners.new.items) result
-        (fold_each (spec.add_task_owner reporters.now) 0 owners.old.items (map task_view tasks.now)) }
+        (fold_each (spec.add_task_owner reporters.now) 0 owners.old.items
+        (map task_view tasks.now)) }
 {
     for (place, task) in tasks.iter().enumerate() {
         match add_task_owner(alloc, task, reporters, owners) {
@@ -229,7 +272,8 @@ fn add_users_owners(
     owners: &mut Vec<u32>,
 ) -> Result<(), Fault>
     ensures { Gives (λ _. owners.new.items) result
-        (fold_each (spec.add_user_owners reporters.now) 0 owners.old.items (map user_view users.now)) }
+        (fold_each (spec.add_user_owners reporters.now) 0 owners.old.items
+        (map user_view users.now)) }
 {
     for (place, user) in users.iter().enumerate() {
         match add_user_owners(alloc, user, reporters, owners) {
@@ -244,7 +288,8 @@ fn add_users_owners(
     Ok(())
 }
 
-/// Adds the group over the numbers of its links to the groups, and the owners of its tasks to the owners.
+/// Adds the group over the numbers of its links to the groups, and the owners of its tasks to the
+/// owners.
 #[tactic(auto, unfolding(crate::specs::Numbers::add_group_numbers))]
 fn add_group_numbers(
     alloc: Global,
@@ -321,7 +366,8 @@ fn target_number(
     }
 }
 
-// The owner of the target where it is a task, whose report should come from it. It is a guess, and no clause is needed.
+// The owner of the target where it is a task, whose report should come from it. It is a guess, and
+// no clause is needed.
 fn likely_reporter(target: &Result<Target, Fault>, task_owners: &[u32]) -> u32 {
     match target {
         Ok(Target::Task { number }) => task_owners.get(*number as usize).copied().unwrap_or(0),
@@ -352,6 +398,31 @@ fn report_numbers(
     })
 }
 
+// The numbers of each report, or the first fault, told from the list.
+fn each_report(
+    alloc: Global,
+    script: &[RawReport],
+    links: &NameTable,
+    tasks: &NameTable,
+    reporters: &NameTable,
+    task_owners: &[u32],
+) -> Result<Vec<Report>, Fault>
+    ensures { Gives (λ script. script.items) result
+        (each (spec.report_numbers links.now tasks.now reporters.now) 0
+        (map report_view script.now)) }
+{
+    let mut found = Vec::with_capacity(alloc, script.len())?;
+    for (place, report) in script.iter().enumerate() {
+        match report_numbers(alloc, report, links, tasks, reporters, task_owners) {
+            Ok(numbers) => found.push(numbers)?,
+            Err(fault) => return Err(fault.under(PathStep::Index {
+                place: place as u64,
+            })),
+        }
+    }
+    Ok(found)
+}
+
 fn script_numbers(
     alloc: Global,
     script: &[RawReport],
@@ -361,28 +432,15 @@ fn script_numbers(
     task_owners: &[u32],
 ) -> Result<Vec<Report>, Fault>
     ensures { Gives (λ script. script.items) result (under (Key keys.Script)
-        (each (spec.report_numbers links.now tasks.now reporters.now) 0 (map report_view script.now))) }
+        (each (spec.report_numbers links.now tasks.now reporters.now) 0
+        (map report_view script.now))) }
 {
     under(
         PathStep::Key {
             name: DocKey::Script,
         },
-        each_of(alloc, script, |report| {
-            report_numbers(alloc, report, links, tasks, reporters, task_owners)
-        }),
+        each_report(alloc, script, links, tasks, reporters, task_owners),
     )
-}
-
-#[tactic(auto, unfolding(crate::specs::Numbers::closing_numbers))]
-fn closing_numbers(alloc: Global, closing: &RawClosing, links: &NameTable) -> Result<Closing, Fault>
-    ensures { Gives (λ closing. closing) result
-        (spec.closing_numbers links.now (closing_view closing.now)) }
-{
-    let link = number_in_member(alloc, DocKey::Link, links, closing.link)?;
-    Ok(Closing {
-        link,
-        share: closing.share,
-    })
 }
 
 fn closings_numbers(
@@ -391,21 +449,19 @@ fn closings_numbers(
     links: &NameTable,
 ) -> Result<Vec<Closing>, Fault>
     ensures { Gives (λ closings. closings.items) result
-        (under (Key keys.Closings) (each (spec.closing_numbers links.now) 0 (map closing_view closings.now))) }
+        (under (Key keys.Closings)
+        (each (spec.closing_numbers links.now) 0 (map closing_view closings.now))) }
 {
     under(
         PathStep::Key {
             name: DocKey::Closings,
         },
-        each_of(
-            alloc,
-            closings,
-            |closing| closing_numbers(alloc, closing, links),
-        ),
+        each_numbers(alloc, closings, links),
     )
 }
 
-/// The document with each name that refers to another replaced by its number, or the path of the first unknown name.
+/// The document with each name that refers to another replaced by its number, or the path of the
+/// first unknown name.
 #[tactic(auto, unfolding(crate::specs::Numbers::numbers))]
 pub fn document_numbers(
     alloc: Global,

@@ -1,17 +1,17 @@
 //! Numbers and names in their ranges.
 
 ghost use Rattle.std.specs.Prelude.{◌≡◌, map, option_map, nat_le, ◌&&◌};
-ghost use Rattle.raw_document.specs.Reading.{Gives};
+ghost use Rattle.raw_document.specs.Reading.{Gives, each_view};
 ghost use Rattle.std.specs.List.{list_all};
 ghost use Rattle.raw_document.specs.Reading.{check_each};
-ghost use Rattle.raw_document.specs.Raw.{name_view, link_view, path_view, path_group_view, task_view, job_view, user_view, group_view, target_view, report_view, closing_view, raw_view};
+ghost use Rattle.raw_document.specs.Raw.{Link, Path, Task, Job, User, Group, Report, Closing};
+ghost use Rattle.raw_document.specs.Raw.{name_view, link_view, path_view, task_view, job_view, user_view, group_view, target_view, report_view, closing_view, raw_view};
 ghost use Rattle.doc_passes.specs.Ranges.{is_name, is_name_byte, is_within, name_range, member_range, owner_range, items_range, link_range, path_range, task_range, job_range, user_range, group_range, target_range, report_range, closing_range, ranges};
-ghost use Rattle.raw_document.specs.declared.key.DocKey.TheVariants as keys;
 
 use bwe_specs::{MAX_AMOUNT, MAX_SHARE, MAX_WEIGHT};
 use raw_document::{
     DocKey, Fault, PathStep, RawClosing, RawDocument, RawGroup, RawJob, RawLink, RawPath,
-    RawReport, RawTarget, RawTask, RawUser, check_each, under,
+    RawReport, RawTarget, RawTask, RawUser, under,
 };
 use std::alloc::Global;
 
@@ -72,14 +72,76 @@ fn check(alloc: Global, key: DocKey, passes: bool) -> Result<(), Fault>
     }
 }
 
-fn check_name(alloc: Global, name: &str) -> Result<(), Fault>
-    ensures { Gives (λ nothing. nothing) result (name_range name.now) }
-{
-    if is_right_name(name) {
-        Ok(())
-    } else {
-        Err(Fault::here(alloc))
+/// What has a range in the document.
+trait InRange {
+    ghost use Rattle.std.specs.Prelude.{List, Result, ⊤};
+    ghost use Rattle.raw_document.specs.declared.doc_path.PathStep.{PathStep};
+
+    // What contracts see of it.
+    ghost Shown: { Type 0 };
+
+    ghost shown: { Self → Shown };
+
+    // Nothing where it is in its range, or where it is not.
+    ghost range: { Shown → Result ⊤ (List PathStep) };
+
+    /// Whether it is in its range.
+    fn check_range(&self, alloc: Global) -> Result<(), Fault>
+        ensures { Gives (λ nothing. nothing) result (range (shown self.now)) };
+}
+
+impl<'a> InRange for &'a str {
+    ghost use Rattle.std.specs.Prelude.{ℕ, List};
+
+    ghost Shown = { List ℕ };
+
+    ghost shown = { name_view };
+
+    ghost range = { name_range };
+
+    fn check_range(&self, alloc: Global) -> Result<(), Fault> {
+        if is_right_name(*self) {
+            Ok(())
+        } else {
+            Err(Fault::here(alloc))
+        }
     }
+}
+
+impl<T: InRange> InRange for Vec<T> {
+    ghost use Rattle.std.specs.Prelude.{List};
+
+    ghost Shown = { List T.Shown };
+
+    ghost shown = { each_view T.shown };
+
+    ghost range = { check_each T.range };
+
+    fn check_range(&self, alloc: Global) -> Result<(), Fault> {
+        check_each(alloc, self.as_slice())
+    }
+}
+
+// Whether each item is in its range. The first fault is told from the list.
+fn check_each<T: InRange>(alloc: Global, items: &[T]) -> Result<(), Fault>
+    ensures { Gives (λ nothing. nothing) result (check_each T.range (map T.shown items.now)) }
+{
+    for (place, item) in items.iter().enumerate() {
+        match item.check_range(alloc) {
+            Ok(()) => (),
+            Err(fault) => return Err(fault.under(PathStep::Index {
+                place: place as u64,
+            })),
+        }
+    }
+    Ok(())
+}
+
+// The same of the list that is the member of a key.
+fn check_list<T: InRange>(alloc: Global, key: DocKey, items: &[T]) -> Result<(), Fault>
+    ensures { Gives (λ nothing. nothing) result (items_range key T.range (map T.shown items.now)) }
+{
+    under(PathStep::Key { name: key }, check_each(alloc, items))
 }
 
 fn check_owner(alloc: Global, owner: Option<&str>) -> Result<(), Fault>
@@ -91,118 +153,93 @@ fn check_owner(alloc: Global, owner: Option<&str>) -> Result<(), Fault>
     }
 }
 
-#[tactic(auto, unfolding(crate::specs::Ranges::link_range))]
-fn check_link(alloc: Global, link: &RawLink) -> Result<(), Fault>
-    ensures { Gives (λ nothing. nothing) result (link_range (link_view link.now)) }
-{
-    check(alloc, DocKey::Name, is_right_name(link.name))?;
-    check(alloc, DocKey::From, is_right_name(link.from))?;
-    check(alloc, DocKey::To, is_right_name(link.to))?;
-    check_owner(alloc, link.owner)
+impl<'a> InRange for RawLink<'a> {
+    ghost Shown = { Link };
+
+    ghost shown = { link_view };
+
+    ghost range = { link_range };
+
+    #[tactic(auto, unfolding(crate::specs::Ranges::link_range))]
+    fn check_range(&self, alloc: Global) -> Result<(), Fault> {
+        check(alloc, DocKey::Name, is_right_name(self.name))?;
+        check(alloc, DocKey::From, is_right_name(self.from))?;
+        check(alloc, DocKey::To, is_right_name(self.to))?;
+        check_owner(alloc, self.owner)
+    }
 }
 
-fn check_names(alloc: Global, key: DocKey, names: &[&str]) -> Result<(), Fault>
-    ensures { Gives (λ nothing. nothing) result (items_range key name_range (map name_view names.now)) }
-{
-    under(
-        PathStep::Key { name: key },
-        check_each(names, |name| check_name(alloc, name)),
-    )
+impl<'a> InRange for RawPath<'a> {
+    ghost Shown = { Path };
+
+    ghost shown = { path_view };
+
+    ghost range = { path_range };
+
+    #[tactic(auto, unfolding(crate::specs::Ranges::path_range))]
+    fn check_range(&self, alloc: Global) -> Result<(), Fault> {
+        check_list(alloc, DocKey::Links, &self.links)
+    }
 }
 
-#[tactic(auto, unfolding(crate::specs::Ranges::path_range))]
-fn check_path(alloc: Global, path: &RawPath) -> Result<(), Fault>
-    ensures { Gives (λ nothing. nothing) result (path_range (path_view path.now)) }
-{
-    check_names(alloc, DocKey::Links, &path.links)
+impl<'a> InRange for RawTask<'a> {
+    ghost Shown = { Task };
+
+    ghost shown = { task_view };
+
+    ghost range = { task_range };
+
+    #[tactic(auto, unfolding(crate::specs::Ranges::task_range))]
+    fn check_range(&self, alloc: Global) -> Result<(), Fault> {
+        check(alloc, DocKey::Name, is_right_name(self.name))?;
+        check(alloc, DocKey::Reporter, is_right_name(self.reporter))?;
+        check(alloc, DocKey::Weight, is_in(1, MAX_WEIGHT, self.weight))
+    }
 }
 
-fn check_path_group(alloc: Global, path_group: &[RawPath]) -> Result<(), Fault>
-    ensures { Gives (λ nothing. nothing) result (check_each path_range (map path_view path_group.now)) }
-{
-    check_each(path_group, |path| check_path(alloc, path))
+impl<'a> InRange for RawJob<'a> {
+    ghost Shown = { Job };
+
+    ghost shown = { job_view };
+
+    ghost range = { job_range };
+
+    #[tactic(auto, unfolding(crate::specs::Ranges::job_range))]
+    fn check_range(&self, alloc: Global) -> Result<(), Fault> {
+        check(alloc, DocKey::Name, is_right_name(self.name))?;
+        check_list(alloc, DocKey::Tasks, &self.tasks)
+    }
 }
 
-fn check_path_groups(alloc: Global, path_groups: &[Vec<RawPath>]) -> Result<(), Fault>
-    ensures { Gives (λ nothing. nothing) result
-        (items_range keys.Paths (check_each path_range) (map path_group_view path_groups.now)) }
-{
-    under(
-        PathStep::Key {
-            name: DocKey::Paths,
-        },
-        check_each(
-            path_groups,
-            |path_group| check_path_group(alloc, path_group),
-        ),
-    )
+impl<'a> InRange for RawUser<'a> {
+    ghost Shown = { User };
+
+    ghost shown = { user_view };
+
+    ghost range = { user_range };
+
+    #[tactic(auto, unfolding(crate::specs::Ranges::user_range))]
+    fn check_range(&self, alloc: Global) -> Result<(), Fault> {
+        check(alloc, DocKey::Name, is_right_name(self.name))?;
+        check_list(alloc, DocKey::Jobs, &self.jobs)
+    }
 }
 
-#[tactic(auto, unfolding(crate::specs::Ranges::task_range))]
-fn check_task(alloc: Global, task: &RawTask) -> Result<(), Fault>
-    ensures { Gives (λ nothing. nothing) result (task_range (task_view task.now)) }
-{
-    check(alloc, DocKey::Name, is_right_name(task.name))?;
-    check(alloc, DocKey::Reporter, is_right_name(task.reporter))?;
-    check(alloc, DocKey::Weight, is_in(1, MAX_WEIGHT, task.weight))
-}
+impl<'a> InRange for RawGroup<'a> {
+    ghost Shown = { Group };
 
-fn check_tasks(alloc: Global, tasks: &[RawTask]) -> Result<(), Fault>
-    ensures { Gives (λ nothing. nothing) result (items_range keys.Tasks task_range (map task_view tasks.now)) }
-{
-    under(
-        PathStep::Key {
-            name: DocKey::Tasks,
-        },
-        check_each(tasks, |task| check_task(alloc, task)),
-    )
-}
+    ghost shown = { group_view };
 
-#[tactic(auto, unfolding(crate::specs::Ranges::job_range))]
-fn check_job(alloc: Global, job: &RawJob) -> Result<(), Fault>
-    ensures { Gives (λ nothing. nothing) result (job_range (job_view job.now)) }
-{
-    check(alloc, DocKey::Name, is_right_name(job.name))?;
-    check_tasks(alloc, &job.tasks)
-}
+    ghost range = { group_range };
 
-fn check_jobs(alloc: Global, jobs: &[RawJob]) -> Result<(), Fault>
-    ensures { Gives (λ nothing. nothing) result (items_range keys.Jobs job_range (map job_view jobs.now)) }
-{
-    under(
-        PathStep::Key { name: DocKey::Jobs },
-        check_each(jobs, |job| check_job(alloc, job)),
-    )
-}
-
-#[tactic(auto, unfolding(crate::specs::Ranges::user_range))]
-fn check_user(alloc: Global, user: &RawUser) -> Result<(), Fault>
-    ensures { Gives (λ nothing. nothing) result (user_range (user_view user.now)) }
-{
-    check(alloc, DocKey::Name, is_right_name(user.name))?;
-    check_jobs(alloc, &user.jobs)
-}
-
-fn check_users(alloc: Global, users: &[RawUser]) -> Result<(), Fault>
-    ensures { Gives (λ nothing. nothing) result (items_range keys.Users user_range (map user_view users.now)) }
-{
-    under(
-        PathStep::Key {
-            name: DocKey::Users,
-        },
-        check_each(users, |user| check_user(alloc, user)),
-    )
-}
-
-#[tactic(auto, unfolding(crate::specs::Ranges::group_range))]
-fn check_group(alloc: Global, group: &RawGroup) -> Result<(), Fault>
-    ensures { Gives (λ nothing. nothing) result (group_range (group_view group.now)) }
-{
-    check(alloc, DocKey::Name, is_right_name(group.name))?;
-    check(alloc, DocKey::From, is_right_name(group.from))?;
-    check(alloc, DocKey::To, is_right_name(group.to))?;
-    check_path_groups(alloc, &group.path_groups)?;
-    check_users(alloc, &group.users)
+    #[tactic(auto, unfolding(crate::specs::Ranges::group_range))]
+    fn check_range(&self, alloc: Global) -> Result<(), Fault> {
+        check(alloc, DocKey::Name, is_right_name(self.name))?;
+        check(alloc, DocKey::From, is_right_name(self.from))?;
+        check(alloc, DocKey::To, is_right_name(self.to))?;
+        check_list(alloc, DocKey::Paths, &self.path_groups)?;
+        check_list(alloc, DocKey::Users, &self.users)
+    }
 }
 
 fn check_target(alloc: Global, target: &RawTarget, amount: u64) -> Result<(), Fault>
@@ -220,64 +257,32 @@ fn check_target(alloc: Global, target: &RawTarget, amount: u64) -> Result<(), Fa
     }
 }
 
-#[tactic(auto, unfolding(crate::specs::Ranges::report_range))]
-fn check_report(alloc: Global, report: &RawReport) -> Result<(), Fault>
-    ensures { Gives (λ nothing. nothing) result (report_range (report_view report.now)) }
-{
-    check(alloc, DocKey::Reporter, is_right_name(report.reporter))?;
-    check_target(alloc, &report.target, report.amount)
+impl<'a> InRange for RawReport<'a> {
+    ghost Shown = { Report };
+
+    ghost shown = { report_view };
+
+    ghost range = { report_range };
+
+    #[tactic(auto, unfolding(crate::specs::Ranges::report_range))]
+    fn check_range(&self, alloc: Global) -> Result<(), Fault> {
+        check(alloc, DocKey::Reporter, is_right_name(self.reporter))?;
+        check_target(alloc, &self.target, self.amount)
+    }
 }
 
-#[tactic(auto, unfolding(crate::specs::Ranges::closing_range))]
-fn check_closing(alloc: Global, closing: &RawClosing) -> Result<(), Fault>
-    ensures { Gives (λ nothing. nothing) result (closing_range (closing_view closing.now)) }
-{
-    check(alloc, DocKey::Link, is_right_name(closing.link))?;
-    check(alloc, DocKey::Share, is_in(0, MAX_SHARE, closing.share))
-}
+impl<'a> InRange for RawClosing<'a> {
+    ghost Shown = { Closing };
 
-fn check_links(alloc: Global, links: &[RawLink]) -> Result<(), Fault>
-    ensures { Gives (λ nothing. nothing) result (items_range keys.Links link_range (map link_view links.now)) }
-{
-    under(
-        PathStep::Key {
-            name: DocKey::Links,
-        },
-        check_each(links, |link| check_link(alloc, link)),
-    )
-}
+    ghost shown = { closing_view };
 
-fn check_groups(alloc: Global, groups: &[RawGroup]) -> Result<(), Fault>
-    ensures { Gives (λ nothing. nothing) result (items_range keys.Groups group_range (map group_view groups.now)) }
-{
-    under(
-        PathStep::Key {
-            name: DocKey::Groups,
-        },
-        check_each(groups, |group| check_group(alloc, group)),
-    )
-}
+    ghost range = { closing_range };
 
-fn check_script(alloc: Global, script: &[RawReport]) -> Result<(), Fault>
-    ensures { Gives (λ nothing. nothing) result (items_range keys.Script report_range (map report_view script.now)) }
-{
-    under(
-        PathStep::Key {
-            name: DocKey::Script,
-        },
-        check_each(script, |report| check_report(alloc, report)),
-    )
-}
-
-fn check_closings(alloc: Global, closings: &[RawClosing]) -> Result<(), Fault>
-    ensures { Gives (λ nothing. nothing) result (items_range keys.Closings closing_range (map closing_view closings.now)) }
-{
-    under(
-        PathStep::Key {
-            name: DocKey::Closings,
-        },
-        check_each(closings, |closing| check_closing(alloc, closing)),
-    )
+    #[tactic(auto, unfolding(crate::specs::Ranges::closing_range))]
+    fn check_range(&self, alloc: Global) -> Result<(), Fault> {
+        check(alloc, DocKey::Link, is_right_name(self.link))?;
+        check(alloc, DocKey::Share, is_in(0, MAX_SHARE, self.share))
+    }
 }
 
 /// Whether each number and each name of the document is in its range.
@@ -287,9 +292,9 @@ pub fn check_ranges(alloc: Global, raw: &RawDocument) -> Result<(), Fault>
 {
     check(alloc, DocKey::Version, is_in(1, 3, raw.version))?;
     check(alloc, DocKey::Top, is_in(1, MAX_SHARE, raw.top))?;
-    check_links(alloc, &raw.links)?;
-    check_groups(alloc, &raw.groups)?;
-    check_names(alloc, DocKey::Reporters, &raw.reporters)?;
-    check_script(alloc, &raw.script)?;
-    check_closings(alloc, &raw.closings)
+    check_list(alloc, DocKey::Links, &raw.links)?;
+    check_list(alloc, DocKey::Groups, &raw.groups)?;
+    check_list(alloc, DocKey::Reporters, &raw.reporters)?;
+    check_list(alloc, DocKey::Script, &raw.script)?;
+    check_list(alloc, DocKey::Closings, &raw.closings)
 }

@@ -68,7 +68,8 @@ fn add_tasks<'a>(
     Ok(())
 }
 
-/// Adds the name of a job to those of the user's jobs, and the names of its tasks to those of all tasks.
+/// Adds the name of a job to those of the user's jobs, and the names of its tasks to those of all
+/// tasks.
 #[tactic(auto, unfolding(crate::specs::Names::add_job))]
 fn add_job<'a>(
     alloc: Global,
@@ -228,7 +229,13 @@ pub fn fill_tables<'a>(
     requires no_groups { groups.old ≡ [] }
     requires no_tasks { tasks.old ≡ [] }
     requires no_reporters { reporters.old ≡ [] }
-    ensures { Gives (λ _. record { links = links.new; groups = groups.new; tasks = tasks.new; reporters = reporters.new })
+    ensures { Gives
+        (λ _. record {
+          links = links.new;
+          groups = groups.new;
+          tasks = tasks.new;
+          reporters = reporters.new;
+        })
         result (names.name_lists (raw_view raw.now)) }
 {
     under(

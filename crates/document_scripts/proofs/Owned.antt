@@ -1,20 +1,21 @@
 -- A history whose reporters' reports are those of a script has the script's table.
-use Rattle.std.proofs.Common.{◌≡◌, ◌==◌, ℕ, ◌<◌, ◌≤◌, true, false, cond, Bool, List, [], ◌∷◌, Vec, Global, length, filter, get_or, slice_index_or, Option, Some, unwrap_or, refl, sym, ap, ◌∙◌, subst, arith, inl, inr, All, le_trans, Result, Ok, Err, IfOk, vec_len}
-use Rattle.std.proofs.lemmas.Bool.{cases_lt, eqb-true, eq-eqb, ne_eqb}
+use Rattle.std.proofs.Common.{◌≡◌, ◌==◌, ℕ, ◌<◌, ◌≤◌, true, false, cond, Bool, List, [], ◌∷◌, Vec, Global, length, filter, get_or, slice_index_or, unwrap_or, refl, sym, ap, ◌∙◌, subst, arith, inl, inr, All, le_trans, Result, Ok, Err, IfOk, vec_len}
+use Rattle.std.proofs.lemmas.Bool.{cases_lt, eq-eqb, ne_eqb}
 use Rattle.std.specs.Prelude.{string_bytes}
 use Rattle.std.proofs.lemmas.List.{length-map}
 use Rattle.std.proofs.lemmas.List.Elements.{All-filter, All-head, All-tail, All-nil, All-cons, All-same}
 use Rattle.bwe_specs.specs.declared.report.Report.{Report}
 use Rattle.bwe_specs.specs.declared.report.Target.{Target}
 use Rattle.bwe_specs.specs.Reports.{reports_of, AreOwned}
-use Rattle.bwe_specs.specs.Allocation.{Plan, Table, allocation}
+use Rattle.bwe_specs.specs.Allocation.{Plan, allocation}
 use Rattle.bwe_specs.proofs.Plans.{allocation-interleaved}
 use Rattle.bwe_specs.specs.declared.limits.TheConstants.{MAX_REPORTERS, MAX_REPORTS}
 use Rattle.demand_book.specs.Fit.{IsFit}
 use Rattle.plan_doc.specs.declared.document.Document.{Document}
 use Rattle.plan_doc.specs.Conditions.{IsUsable, link_count, reporter_count, tasks_in}
 use Rattle.plan_doc.specs.Owners.{owner_of}
-use Rattle.document_scripts.specs.Scripts.{AreOfReporters, items_of, reports_in, scripts_of}
+use Rattle.crew_log.specs.Scripts.{AreOfReporters, reports_in}
+use Rattle.document_scripts.specs.Scripts.{items_of, scripts_of}
 use Rattle.document_scripts.proofs.Split.{split-at, split-count, split-scripts, split-within}
 
 -- what follows of an answer that is there

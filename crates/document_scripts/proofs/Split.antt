@@ -1,18 +1,19 @@
 -- A script that is split by reporter.
-use Rattle.std.proofs.Common.{◌≡◌, ◌==◌, ℕ, zero, suc, ◌+◌, ◌<◌, ◌≤◌, Bool, true, false, cond, List, [], ◌∷◌, Vec, Global, length, map, filter, get_or, slice_index_or, refl, sym, ap, ◌∙◌, subst, arith, inl, inr, zero-add, All}
+use Rattle.std.proofs.Common.{◌≡◌, ◌==◌, ℕ, zero, suc, ◌+◌, ◌<◌, ◌≤◌, Bool, true, false, cond, List, [], ◌∷◌, Vec, Global, length, get_or, slice_index_or, refl, sym, ap, ◌∙◌, arith, inl, inr, zero-add, All}
 use Rattle.std.specs.List.{sum_by}
 use Rattle.std.proofs.lemmas.Bool.{cases_eq, eqb-true, eq-eqb, ne_eqb}
 use Rattle.std.proofs.lemmas.List.{get_or-map, length-map}
-use Rattle.std.proofs.lemmas.List.Elements.{All-filter, filter_passes, All-head, All-tail, All-nil, All-cons, All-same}
+use Rattle.std.proofs.lemmas.List.Elements.{All-filter, filter_passes, All-same}
 use Rattle.std.proofs.lemmas.List.FromFn.{get_or-map-range_with_len, length-map-range_with_len}
 use Rattle.std.proofs.lemmas.List.Sums.{sum_by-cons}
 use Rattle.bwe_specs.specs.Bounded.{sum_below}
 use Rattle.bwe_specs.specs.declared.report.Report.{Report}
-use Rattle.bwe_specs.specs.Reports.{numbers, reports_of}
+use Rattle.bwe_specs.specs.Reports.{reports_of}
 use Rattle.bwe_specs.proofs.Bounds.{sum_below-add, sum_below-zero, sum_below-same}
 use Rattle.bwe_specs.proofs.Sums.{sum_by-numbers}
 use Rattle.demand_book.specs.Fit.{IsFit}
-use Rattle.document_scripts.specs.Scripts.{AreOfReporters, items_of, reports_in, scripts_of}
+use Rattle.crew_log.specs.Scripts.{AreOfReporters, reports_in}
+use Rattle.document_scripts.specs.Scripts.{items_of, scripts_of}
 
 -- 1 where the two numbers are the same, else 0
 one_if : ℕ → ℕ → ℕ

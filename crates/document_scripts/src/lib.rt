@@ -7,7 +7,8 @@
 ghost use Rattle.std.specs.Prelude.{◌≡◌, ◌≤◌, length, IfOk};
 ghost use Rattle.bwe_specs.specs.Reports.{reports_of};
 ghost use Rattle.plan_doc.specs.Conditions.{IsUsable, link_count, reporter_count, tasks_in};
-ghost use Rattle.document_scripts.specs.Scripts.{AreOfReporters, items_of, reports_in, scripts_of};
+ghost use Rattle.crew_log.specs.Scripts.{AreOfReporters, reports_in};
+ghost use Rattle.document_scripts.specs.Scripts.{items_of, scripts_of};
 
 use bwe_specs::{OutOfMemory, Report};
 use plan_doc::Document;

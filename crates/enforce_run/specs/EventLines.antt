@@ -50,7 +50,8 @@ IsThere regions before (Restart region) = region < regions
 -- each of the events, after those before it
 abbrev pub AreThere : ℕ → List EventLine → List EventLine → Type 0
 AreThere regions before [] = Unit {0}
-AreThere regions before (event ∷ events) = IsThere regions before event × AreThere regions (before ++ event ∷ []) events
+AreThere regions before (event ∷ events) = IsThere regions before event
+    × AreThere regions (before ++ event ∷ []) events
 
 -- ---- what a line says
 
@@ -62,13 +63,15 @@ unfoldable pub event_named : ℕ → List EventLine → Text → ℕ → Option 
 event_named regions before word number =
     if bytes_eq word (codes "post") then Some (Post number)
     else if bytes_eq word (codes "send") then when (nat_lt number regions) (Send number)
-    else if bytes_eq word (codes "deliver") then when (nat_lt number (downs_of before)) (Deliver number)
+    else if bytes_eq word (codes "deliver")
+    then when (nat_lt number (downs_of before)) (Deliver number)
     else if bytes_eq word (codes "reply") then when (nat_lt number (ups_of before)) (Reply number)
     else if bytes_eq word (codes "restart") then when (nat_lt number regions) (Restart number)
     else None
 
 abbrev pub event_of_cut : ℕ → List EventLine → Cut → Option EventLine
-event_of_cut regions before cut = option_and_then (event_named regions before cut.before) (printed_number_of cut.behind)
+event_of_cut regions before cut =
+    option_and_then (event_named regions before cut.before) (printed_number_of cut.behind)
 
 -- the event of a line: a word, a space (32) and a number as texts print it
 unfoldable pub event_of : ℕ → List EventLine → Text → Option EventLine
@@ -78,9 +81,11 @@ event_of regions before line = option_and_then (event_of_cut regions before) (cu
 
 -- the event of the next line, where there may be one more
 abbrev pub next_event : ℕ → List EventLine → Text → Option EventLine
-next_event regions before line = if nat_lt (length before) MAX_EVENTS then event_of regions before line else None
+next_event regions before line =
+    if nat_lt (length before) MAX_EVENTS then event_of regions before line else None
 
--- the events of a text, whose lines are ended by line feeds, or the number of the first line at fault
+-- the events of a text, whose lines are ended by line feeds, or the number of the first line at
+-- fault
 abbrev pub events_of : ℕ → Text → Result (List EventLine) ℕ
 events_of regions text = items_of (next_event regions) text
 

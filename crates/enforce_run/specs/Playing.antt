@@ -14,7 +14,8 @@ use Rattle.enforce_run.specs.declared.event.EventLine.TheVariants.{Post, Send, D
 
 -- the tasks below a number that a reporter owns; there is an owner for each task
 unfoldable pub owned_below : List ℕ → ℕ → ℕ → List ℕ
-owned_below owners reporter count = filter (λ task. slice_index owners task == reporter) (numbers count)
+owned_below owners reporter count =
+    filter (λ task. slice_index owners task == reporter) (numbers count)
 
 -- all tasks that a reporter owns, in order
 abbrev pub owned_by : List ℕ → ℕ → List ℕ
@@ -26,13 +27,16 @@ regions_of reporters owners = map (λ reporter. owned_by owners reporter) (numbe
 
 -- ---- events
 
--- how many reports the table of a post covers: as many as it asks for, or as are posted, but not more than there are
+-- how many reports the table of a post covers: as many as it asks for, or as are posted, but not
+-- more than there are
 abbrev pub prefix_of : ℕ → ℕ → ℕ → ℕ
 prefix_of reports posted upto = min (max upto posted) reports
 
 -- what a written event is in a world; tables are those of the first reports of a script
-abbrev pub event_in : {T : Type 0} → (T → ℕ) → (List Report → T) → List Report → World T → EventLine → WorldEvent T
-event_in covers table_of script world (Post upto) = event.Post (table_of (take (prefix_of (length script) (covers world.posted) upto) script))
+abbrev pub event_in : {T : Type 0} → (T → ℕ) → (List Report → T) → List Report → World T → EventLine
+    → WorldEvent T
+event_in covers table_of script world (Post upto) =
+    event.Post (table_of (take (prefix_of (length script) (covers world.posted) upto) script))
 event_in covers table_of script world (Send region) = event.Send region
 event_in covers table_of script world (Deliver message) = event.Deliver message
 event_in covers table_of script world (Reply message) = event.Reply message
@@ -44,7 +48,8 @@ pub record Played (T : Type 0) : Type 0 where
   pub world : World T
 
 -- one event more
-abbrev pub played_on : {T : Type 0} → (T → ℕ) → (T → ℕ → ℕ) → (List Report → T) → List Report → Played T → EventLine → Played T
+abbrev pub played_on : {T : Type 0} → (T → ℕ) → (T → ℕ → ℕ) → (List Report → T) → List Report
+    → Played T → EventLine → Played T
 played_on covers limit_at table_of script played line =
     let event = event_in covers table_of script played.world line in
     record {
@@ -53,23 +58,29 @@ played_on covers limit_at table_of script played line =
     }
 
 -- the events after those that were played
-unfoldable pub played_from : {T : Type 0} → (T → ℕ) → (T → ℕ → ℕ) → (List Report → T) → List Report → Played T → List EventLine → Played T
+unfoldable pub played_from : {T : Type 0} → (T → ℕ) → (T → ℕ → ℕ) → (List Report → T) → List Report
+    → Played T → List EventLine → Played T
 played_from covers limit_at table_of script played [] = played
 played_from covers limit_at table_of script played (line ∷ lines) =
-    played_from covers limit_at table_of script (played_on covers limit_at table_of script played line) lines
+    played_from covers limit_at table_of script
+    (played_on covers limit_at table_of script played line) lines
 
 -- the first world of some regions, in which the table of no report is posted
 abbrev pub nothing_played : {T : Type 0} → (List Report → T) → List (List ℕ) → Played T
 nothing_played table_of tasks = record { answers = []; world = first_world tasks (table_of []) }
 
 -- all events on that world
-abbrev pub played_of : {T : Type 0} → (T → ℕ) → (T → ℕ → ℕ) → (List Report → T) → List Report → List (List ℕ) → List EventLine → Played T
-played_of covers limit_at table_of script tasks lines = played_from covers limit_at table_of script (nothing_played table_of tasks) lines
+abbrev pub played_of : {T : Type 0} → (T → ℕ) → (T → ℕ → ℕ) → (List Report → T) → List Report
+    → List (List ℕ) → List EventLine → Played T
+played_of covers limit_at table_of script tasks lines =
+    played_from covers limit_at table_of script (nothing_played table_of tasks) lines
 
 -- ---- what holds on the way
 
--- the posted table is that of the first reports of the script, which are those that the maker has taken in
-pub record IsOnScript {T : Type 0} (covers : T → ℕ) (table_of : List Report → T) (has_absorbed : List Report → Type 0) (script : List Report) (posted : T) : Type 0 where
+-- the posted table is that of the first reports of the script, which are those that the maker has
+-- taken in
+pub record IsOnScript {T : Type 0} (covers : T → ℕ) (table_of : List Report → T)
+    (has_absorbed : List Report → Type 0) (script : List Report) (posted : T) : Type 0 where
   pub within : covers posted ≤ length script
   pub table : posted ≡ table_of (take (covers posted) script)
   pub absorbed : has_absorbed (take (covers posted) script)

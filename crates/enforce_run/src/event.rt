@@ -10,8 +10,8 @@ pub const MAX_EVENTS: u64 = 2_000;
 /// An event. Messages to the regions and messages to the centre are numbered apart, each from 0.
 #[derive(Clone, Copy, Debug, PartialEq, Eq)]
 pub enum EventLine {
-    /// The table of the first `upto` reports is posted: of as many as are posted where these are more,
-    /// and of all where there are fewer.
+    /// The table of the first `upto` reports is posted: of as many as are posted where these are
+    /// more, and of all where there are fewer.
     Post { upto: u64 },
     /// The posted limits of a region's tasks are sent to it.
     Send { region: u32 },
@@ -26,8 +26,8 @@ pub enum EventLine {
 /// Why there are no events.
 #[derive(Clone, Copy, Debug, PartialEq, Eq)]
 pub enum EventError {
-    /// The first line at fault, counted from 0: it is no line of an event, or names a region or message
-    /// that is not there at that point, or is one too many.
+    /// The first line at fault, counted from 0: it is no line of an event, or names a region or
+    /// message that is not there at that point, or is one too many.
     BadLine { line: u64 },
     OutOfMemory,
 }

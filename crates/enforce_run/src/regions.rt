@@ -7,7 +7,8 @@ ghost use Rattle.enforce_run.specs.Playing.{owned_by, regions_of as regions_of_o
 use bwe_specs::OutOfMemory;
 use std::alloc::Global;
 
-/// A region for each reporter, with the tasks that the reporter owns; `owners` has the owner of each task.
+/// A region for each reporter, with the tasks that the reporter owns; `owners` has the owner of
+/// each task.
 #[tactic(auto, using(crate::proofs::Owners::one_region_more))]
 pub(crate) fn regions_of(
     alloc: Global,
@@ -15,7 +16,8 @@ pub(crate) fn regions_of(
     owners: &[u32],
 ) -> Result<Vec<Vec<u32>>, OutOfMemory>
     requires few { length owners.now < 2 ^ 32 }
-    ensures { IfOk result (λ regions. rows_of regions.items ≡ regions_of_owners reporters owners.now) }
+    ensures { IfOk result
+        (λ regions. rows_of regions.items ≡ regions_of_owners reporters owners.now) }
 {
     let mut regions = Vec::with_capacity(alloc, reporters as usize)?;
     for reporter in 0..reporters {

@@ -16,10 +16,12 @@ use bwe_specs::{MAX_REPORTS, OutOfMemory, Report};
 use demand_book::Maker;
 use std::alloc::Global;
 
-/// The text of the events on a world with a region for each reporter ("Enforce text", docs/FORMAT.md).
+/// The text of the events on a world with a region for each reporter ("Enforce text",
+/// docs/FORMAT.md).
 ///
-/// Tables are the maker's, which has taken in nothing yet, of the first reports of the script. `owners` has the number of
-/// the reporter who owns each task, `names` the name of each task; one that has none is printed with an empty text.
+/// Tables are the maker's, which has taken in nothing yet, of the first reports of the script.
+/// `owners` has the number of the reporter who owns each task, `names` the name of each task; one
+/// that has none is printed with an empty text.
 #[tactic(auto, using(crate::proofs::Owners::regions_fit, crate::proofs::Owners::regions_few, crate::proofs::Owners::regions_counted), unfolding(crate::specs::EnforceText::enforced_text))]
 pub fn enforce<M: Maker>(
     alloc: Global,
@@ -32,15 +34,18 @@ pub fn enforce<M: Maker>(
 ) -> Result<Vec<u8>, OutOfMemory>
     requires empty { M.absorbed maker [] }
     requires few { length script.now ≤ MAX_REPORTS }
-    requires fit { All (IsFit (M.plan_tasks (M.plan maker)) (M.plan_links (M.plan maker))) script.now }
+    requires fit { All (IsFit (M.plan_tasks (M.plan maker)) (M.plan_links (M.plan maker)))
+        script.now }
     requires owners { length owners.now ≡ M.plan_tasks (M.plan maker) }
     requires tasks { length owners.now < 2 ^ 32 }
     requires there { AreThere reporters [] lines.now }
     ensures text { IfOk result (λ text. text.items ≡ enforced_text M.Table.covers M.Table.limit_at
-        (M.table_of (M.plan maker)) script.now (regions_of_owners reporters owners.now) (map string_bytes names.now)
+        (M.table_of (M.plan maker)) script.now (regions_of_owners reporters owners.now)
+        (map string_bytes names.now)
         lines.now) }
     // at every moment of the events that are printed, and for all that come later
-    ensures lawful { AreLawful M.Table.frame M.Table.covers M.Table.limit_at (M.table_of (M.plan maker))
+    ensures lawful { AreLawful M.Table.frame M.Table.covers M.Table.limit_at
+        (M.table_of (M.plan maker))
         script.now (regions_of_owners reporters owners.now) lines.now }
     ensures settles { DoSettle M.Table.covers M.Table.limit_at (M.table_of (M.plan maker))
         script.now (regions_of_owners reporters owners.now) lines.now }

@@ -15,7 +15,8 @@ use table_text::{end_with_number, name_of, push_number};
 /// The text of the answers to all events and of the world after them, with the names of tasks
 /// ("Enforce text", docs/FORMAT.md).
 ///
-/// A task that has no name is printed with an empty text; the names of a document have one for each of its tasks.
+/// A task that has no name is printed with an empty text; the names of a document have one for each
+/// of its tasks.
 #[tactic(auto, unfolding(crate::specs::EnforceText::enforce_text_of))]
 pub(crate) fn enforce_text<T: Posted>(
     alloc: Global,
@@ -77,7 +78,8 @@ fn push_regions<T: Posted>(
     requires regions { length world.now.tasks < 2 ^ 32 }
     requires tasks { All (λ tasks. length tasks < 2 ^ 32) world.now.tasks }
     ensures { OnOk result (string_bytes text.new ≡ string_bytes text.old
-        ++ flat_map (region_lines (map string_bytes names.now) world.now) (numbers (length world.now.tasks))) }
+        ++ flat_map (region_lines (map string_bytes names.now) world.now)
+        (numbers (length world.now.tasks))) }
 {
     for region in 0..world.regions() {
         push_region(text, names, world, region)?;
@@ -134,7 +136,8 @@ fn push_limits<T: Posted>(
     requires region { region < length world.now.tasks }
     requires tasks { length (tasks_at world.now region) < 2 ^ 32 }
     ensures { OnOk result (string_bytes text.new ≡ string_bytes text.old
-        ++ flat_map (limit_line (map string_bytes names.now) world.now region) (numbers (length (tasks_at world.now region)))) }
+        ++ flat_map (limit_line (map string_bytes names.now) world.now region)
+        (numbers (length (tasks_at world.now region)))) }
 {
     for place in 0..world.tasks(region).len() {
         push_limit_at(text, names, world, region, place)?;
@@ -161,7 +164,8 @@ fn push_limit_at<T: Posted>(
 
 #[tactic(auto, unfolding(crate::specs::EnforceText::limit_text))]
 fn push_limit(text: &mut String, name: &str, limit: Option<u64>) -> Result<(), AllocError>
-    ensures { OnOk result (string_bytes text.new ≡ string_bytes text.old ++ limit_text name.now limit) }
+    ensures { OnOk result
+        (string_bytes text.new ≡ string_bytes text.old ++ limit_text name.now limit) }
 {
     match limit {
         None => Ok(()),

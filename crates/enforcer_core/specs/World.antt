@@ -1,4 +1,5 @@
--- A centre that posts tables, and regions that keep to them over a network that may lose, repeat and reorder any message.
+-- A centre that posts tables, and regions that keep to them over a network that may lose, repeat
+-- and reorder any message.
 use Rattle.std.specs.Prelude.{◌≡◌, ℕ, ◌<◌, ◌≤◌, List, [], ◌∷◌, ◌++◌, Bool, Option, Some, None, Vec, length, map, replicate, slice_index, slice_index_or, slice_set, min, max, nat_lt, if◌then◌else◌, option_map}
 use Rattle.std.specs.List.{All, fold}
 use Rattle.std.specs.Option.{IfSome}
@@ -8,7 +9,8 @@ use Rattle.enforcer_core.specs.declared.event.WorldEvent.TheVariants as event
 use Rattle.enforcer_core.specs.declared.event.WorldAnswer.{WorldAnswer}
 use Rattle.enforcer_core.specs.declared.event.WorldAnswer.TheVariants.{Posted, Sent, Took, Older, Acked, Restarted}
 
--- the limits of a region's tasks, in the order of its tasks, and how many reports their table covers
+-- the limits of a region's tasks, in the order of its tasks, and how many reports their table
+-- covers
 pub record Limits : Type 0 where
   pub prefix : ℕ
   pub limits : List ℕ
@@ -33,7 +35,8 @@ pub record Centre (T : Type 0) : Type 0 where
   pub posted : T
   pub acked : List ℕ
 
--- the tasks of each region, the posted table, what each region acknowledged, the regions, and all messages that were ever sent
+-- the tasks of each region, the posted table, what each region acknowledged, the regions, and all
+-- messages that were ever sent
 pub record World (T : Type 0) : Type 0 where
   pub tasks : List (List ℕ)
   pub posted : T
@@ -68,22 +71,28 @@ abbrev pub region_at : {T : Type 0} → World T → ℕ → Region
 region_at world region = slice_index_or world.regions region (record { floor = 0; in_force = None })
 
 abbrev pub down_at : {T : Type 0} → World T → ℕ → Down
-down_at world message = slice_index_or world.downs message (record { region = 0; limits = record { prefix = 0; limits = [] } })
+down_at world message =
+    slice_index_or world.downs message
+    (record { region = 0; limits = record { prefix = 0; limits = [] } })
 
 abbrev pub up_at : {T : Type 0} → World T → ℕ → Up
 up_at world message = slice_index_or world.ups message (record { region = 0; floor = 0 })
 
 -- how many reports the table covers whose limits are in force in a region
 abbrev pub prefix_in_force : {T : Type 0} → World T → ℕ → Option ℕ
-prefix_in_force world region = option_map (λ limits. limits.prefix) (region_at world region).in_force
+prefix_in_force world region =
+    option_map (λ limits. limits.prefix) (region_at world region).in_force
 
 -- the limit in force for the task at a place of a region's tasks
 abbrev pub limit_in_force : {T : Type 0} → World T → ℕ → ℕ → Option ℕ
-limit_in_force world region place = option_map (λ limits. slice_index limits.limits place) (region_at world region).in_force
+limit_in_force world region place =
+    option_map (λ limits. slice_index limits.limits place) (region_at world region).in_force
 
--- the limits that a table has for some tasks; a table covers so many reports and has a limit for each task
+-- the limits that a table has for some tasks; a table covers so many reports and has a limit for
+-- each task
 abbrev pub limits_in : {T : Type 0} → (T → ℕ) → (T → ℕ → ℕ) → T → List ℕ → Limits
-limits_in covers limit_at table tasks = record { prefix = covers table; limits = map (λ task. limit_at table task) tasks }
+limits_in covers limit_at table tasks =
+    record { prefix = covers table; limits = map (λ task. limit_at table task) tasks }
 
 -- the least that a region acknowledged, or the posted prefix where there is no region
 abbrev pub least_acked : ℕ → List ℕ → ℕ
@@ -101,7 +110,9 @@ is_older region limits = nat_lt limits.prefix region.floor
 
 -- a region that was delivered limits
 abbrev pub delivered : Region → Limits → Region
-delivered region limits = if is_older region limits then region else record { floor = limits.prefix; in_force = Some limits }
+delivered region limits =
+    if is_older region limits then region
+    else record { floor = limits.prefix; in_force = Some limits }
 
 -- a region that lost its limits
 abbrev pub restarted : Region → Region
@@ -118,7 +129,8 @@ answer_to covers world (event.Send region) = Sent (length world.downs) (covers w
 answer_to covers world (event.Deliver message) =
     let down = down_at world message in
     let region = region_at world down.region in
-    if is_older region down.limits then Older region.floor (length world.ups) else Took down.limits.prefix (length world.ups)
+    if is_older region down.limits then Older region.floor (length world.ups)
+    else Took down.limits.prefix (length world.ups)
 answer_to covers world (event.Reply message) = Acked (acked_after world (up_at world message))
 answer_to covers world (event.Restart region) = Restarted (region_at world region).floor
 
@@ -126,7 +138,9 @@ answer_to covers world (event.Restart region) = Restarted (region_at world regio
 abbrev pub world_after : {T : Type 0} → (T → ℕ) → (T → ℕ → ℕ) → World T → WorldEvent T → World T
 world_after covers limit_at world (event.Post table) = record world { posted = table }
 world_after covers limit_at world (event.Send region) =
-    record world { downs = world.downs ++ record { region = region; limits = limits_in covers limit_at world.posted (tasks_at world region) } ∷ [] }
+    record world {
+      downs = world.downs ++ record { region = region; limits = limits_in covers limit_at world.posted (tasks_at world region) } ∷ [];
+    }
 world_after covers limit_at world (event.Deliver message) =
     let down = down_at world message in
     let region = delivered (region_at world down.region) down.limits in
@@ -142,7 +156,8 @@ world_after covers limit_at world (event.Restart region) =
 
 -- ---- which events there are
 
--- a table may be posted after another: it is of the same plan, covers no fewer reports, and is the same where it covers as many
+-- a table may be posted after another: it is of the same plan, covers no fewer reports, and is the
+-- same where it covers as many
 pub record Follows {F T : Type 0} (frame : T → F) (covers : T → ℕ) (posted table : T) : Type 0 where
   pub plan : frame table ≡ frame posted
   pub rising : covers posted ≤ covers table
@@ -164,13 +179,15 @@ IsFor tasks limits = length limits.limits ≡ length tasks
 
 -- a message is to one of the regions, and has a limit for each of its tasks
 abbrev pub IsDown : List (List ℕ) → Down → Type 0
-IsDown tasks down = (down.region < length tasks) × IsFor (slice_index_or tasks down.region []) down.limits
+IsDown tasks down = (down.region < length tasks)
+    × IsFor (slice_index_or tasks down.region []) down.limits
 
 -- each number is in range, and there is a limit for each task
 pub record IsWhole {T : Type 0} (count : ℕ) (world : World T) : Type 0 where
   pub tasks : All (λ tasks. All (λ task. task < count) tasks) world.tasks
   pub acked : length world.acked ≡ length world.tasks
   pub regions : length world.regions ≡ length world.tasks
-  pub in_force : (region : ℕ) → region < length world.tasks → IfSome (region_at world region).in_force (IsFor (tasks_at world region))
+  pub in_force : (region : ℕ) → region < length world.tasks
+      → IfSome (region_at world region).in_force (IsFor (tasks_at world region))
   pub downs : All (IsDown world.tasks) world.downs
   pub ups : All (λ up. up.region < length world.tasks) world.ups

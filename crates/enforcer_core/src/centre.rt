@@ -1,4 +1,5 @@
-//! The centre: it sees the tables that are posted and the messages of the regions, and nothing else.
+//! The centre: it sees the tables that are posted and the messages of the regions, and nothing
+//! else.
 
 ghost use Rattle.std.specs.Prelude.{◌≡◌, ◌<◌, ◌≤◌, ℕ, All, IfOk, length, max, min, replicate, slice_index, slice_set};
 ghost use Rattle.std.specs.List.{fold};
@@ -61,7 +62,8 @@ impl<T: Posted> Centre<T> {
     /// The limits that the posted table has for these tasks.
     pub(crate) fn limits(&self, alloc: Global, tasks: &[u32]) -> Result<RegionLimits, OutOfMemory>
         requires tasks { All (λ task. task < T.tasks_of (T.frame self.now.posted)) tasks.now }
-        ensures { IfOk result (λ limits. limits ≡ limits_in T.covers T.limit_at self.now.posted tasks.now) }
+        ensures { IfOk result
+            (λ limits. limits ≡ limits_in T.covers T.limit_at self.now.posted tasks.now) }
     {
         let mut limits = Vec::with_capacity(alloc, tasks.len())?;
         for task in tasks {
@@ -70,11 +72,13 @@ impl<T: Posted> Centre<T> {
         Ok(RegionLimits::new(self.table.prefix(), limits))
     }
 
-    /// A region tells its floor. What it acknowledged never falls, in whatever order its messages come.
+    /// A region tells its floor. What it acknowledged never falls, in whatever order its messages
+    /// come.
     pub(crate) fn acknowledge(&mut self, region: u32, floor: u64) -> u64
         requires region { region < length self.old.acked }
         ensures acked { result ≡ max (slice_index self.old.acked region) floor }
-        ensures centre { self.new ≡ record self.old { acked = slice_set self.old.acked region result } }
+        ensures centre { self.new
+            ≡ record self.old { acked = slice_set self.old.acked region result } }
     {
         let acked = self.acked[region as usize].max(floor);
         self.acked[region as usize] = acked;
@@ -89,7 +93,8 @@ impl<T: Posted> Centre<T> {
         self.acked[region as usize]
     }
 
-    /// The least that a region acknowledged, or how many reports the posted table covers where there is no region.
+    /// The least that a region acknowledged, or how many reports the posted table covers where
+    /// there is no region.
     pub(crate) fn settled(&self) -> u64
         ensures { result ≡ least_acked (T.covers self.now.posted) self.now.acked }
     {

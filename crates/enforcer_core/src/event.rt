@@ -15,7 +15,8 @@ pub enum WorldEvent<T> {
     Restart { region: u32 },
 }
 
-/// What an event answers. Messages to the regions and messages to the centre are numbered apart, each from 0.
+/// What an event answers. Messages to the regions and messages to the centre are numbered apart,
+/// each from 0.
 #[derive(Clone, Copy, Debug, PartialEq, Eq)]
 pub enum WorldAnswer {
     /// How many reports the posted table covers.
@@ -24,7 +25,8 @@ pub enum WorldAnswer {
     Sent { message: u64, prefix: u64 },
     /// The region took the limits; the number of its new message to the centre.
     Took { prefix: u64, up: u64 },
-    /// The limits are older than the region's floor, and were dropped; the number of its new message to the centre.
+    /// The limits are older than the region's floor, and were dropped; the number of its new
+    /// message to the centre.
     Older { floor: u64, up: u64 },
     /// What the region is known to have taken.
     Acked { prefix: u64 },

@@ -55,7 +55,8 @@ impl RegionLimits {
     }
 }
 
-/// What a region has: the limits in force, none since it began or began again, and its floor, which only rises.
+/// What a region has: the limits in force, none since it began or began again, and its floor, which
+/// only rises.
 #[derive(Drop)]
 pub(crate) struct Region {
     floor: u64,
@@ -101,7 +102,8 @@ impl Region {
         self.floor.max(prefix)
     }
 
-    /// Puts the limits in force, unless they are older than the floor; answers whether they are in force now.
+    /// Puts the limits in force, unless they are older than the floor; answers whether they are in
+    /// force now.
     pub(crate) fn take(&mut self, limits: RegionLimits) -> bool
         ensures taken { IsTrue result ↔ IsTrue (is_older self.old limits) → ⊥ }
         ensures region { self.new ≡ delivered self.old limits }

@@ -42,9 +42,11 @@ impl Model for UpMessage {
     ghost view = { λ up. record { region = up.region; floor = up.floor } };
 }
 
-/// A centre that posts tables, regions that keep to them, and every message that was ever sent between them.
+/// A centre that posts tables, regions that keep to them, and every message that was ever sent
+/// between them.
 ///
-/// The network may lose, repeat and reorder messages: which are delivered, and when, is up to the events.
+/// The network may lose, repeat and reorder messages: which are delivered, and when, is up to the
+/// events.
 #[derive(Drop)]
 pub struct World<T: Posted> {
     tasks: Vec<Vec<u32>>,
@@ -84,7 +86,8 @@ impl<T: Posted> World<T> {
     ///
     /// There is a region for each list of tasks, with these tasks in this order.
     pub fn new(alloc: Global, regions: Vec<Vec<u32>>, first: T) -> Result<World<T>, OutOfMemory>
-        requires tasks { All (λ tasks. All (λ task. task < T.tasks_of (T.frame first)) tasks) (rows_of regions.items) }
+        requires tasks { All (λ tasks. All (λ task. task < T.tasks_of (T.frame first)) tasks)
+            (rows_of regions.items) }
         requires first { T.covers first ≡ 0 }
         ensures { IfOk result (λ world. world ≡ first_world (rows_of regions.items) first) }
     {
@@ -119,7 +122,8 @@ impl<T: Posted> World<T> {
     fn post(&mut self, table: T) -> WorldAnswer
         requires meant { IsMeant T.frame T.covers self.old (WorldEvent.Post table) }
         ensures answer { result ≡ answer_to T.covers self.old (WorldEvent.Post table) }
-        ensures world { self.new ≡ world_after T.covers T.limit_at self.old (WorldEvent.Post table) }
+        ensures world { self.new
+            ≡ world_after T.covers T.limit_at self.old (WorldEvent.Post table) }
     {
         self.centre.post(table);
         WorldAnswer::Posted {
@@ -131,8 +135,10 @@ impl<T: Posted> World<T> {
     #[tactic(auto, using(crate::proofs::Whole::one_down_more, crate::proofs::Whole::limits_for))]
     fn send(&mut self, alloc: Global, region: u32) -> Result<WorldAnswer, OutOfMemory>
         requires region { region < length self.old.tasks }
-        ensures answer { IfOk result (λ answer. answer ≡ answer_to T.covers self.old (WorldEvent.Send region)) }
-        ensures world { OnOk result (self.new ≡ world_after T.covers T.limit_at self.old (WorldEvent.Send region)) }
+        ensures answer { IfOk result
+            (λ answer. answer ≡ answer_to T.covers self.old (WorldEvent.Send region)) }
+        ensures world { OnOk result
+            (self.new ≡ world_after T.covers T.limit_at self.old (WorldEvent.Send region)) }
         ensures refused { OnErr result (self.new ≡ self.old) }
     {
         let message = self.downs.len() as u64;
@@ -147,8 +153,10 @@ impl<T: Posted> World<T> {
     // A region is delivered limits, and tells its floor.
     fn deliver(&mut self, alloc: Global, message: u64) -> Result<WorldAnswer, OutOfMemory>
         requires message { message < length self.old.downs }
-        ensures answer { IfOk result (λ answer. answer ≡ answer_to T.covers self.old (WorldEvent.Deliver message)) }
-        ensures world { OnOk result (self.new ≡ world_after T.covers T.limit_at self.old (WorldEvent.Deliver message)) }
+        ensures answer { IfOk result
+            (λ answer. answer ≡ answer_to T.covers self.old (WorldEvent.Deliver message)) }
+        ensures world { OnOk result
+            (self.new ≡ world_after T.covers T.limit_at self.old (WorldEvent.Deliver message)) }
         ensures refused { OnErr result (self.new ≡ self.old) }
     {
         let up = self.ups.len() as u64;
@@ -169,7 +177,8 @@ impl<T: Posted> World<T> {
     fn reply(&mut self, message: u64) -> WorldAnswer
         requires message { message < length self.old.ups }
         ensures answer { result ≡ answer_to T.covers self.old (WorldEvent.Reply message) }
-        ensures world { self.new ≡ world_after T.covers T.limit_at self.old (WorldEvent.Reply message) }
+        ensures world { self.new
+            ≡ world_after T.covers T.limit_at self.old (WorldEvent.Reply message) }
     {
         let up = &self.ups[message as usize];
         let (region, floor) = (up.region, up.floor);
@@ -182,7 +191,8 @@ impl<T: Posted> World<T> {
     fn restart(&mut self, region: u32) -> WorldAnswer
         requires region { region < length self.old.tasks }
         ensures answer { result ≡ answer_to T.covers self.old (WorldEvent.Restart region) }
-        ensures world { self.new ≡ world_after T.covers T.limit_at self.old (WorldEvent.Restart region) }
+        ensures world { self.new
+            ≡ world_after T.covers T.limit_at self.old (WorldEvent.Restart region) }
     {
         let region = &mut self.regions[region as usize];
         region.restart();
@@ -230,7 +240,8 @@ impl<T: Posted> World<T> {
         self.tasks[region as usize].as_slice()
     }
 
-    /// The region's floor: how many reports the last table covered whose limits it took. It takes no older limits.
+    /// The region's floor: how many reports the last table covered whose limits it took. It takes
+    /// no older limits.
     pub fn floor(&self, region: u32) -> u64
         requires region { region < length self.now.tasks }
         ensures { result ≡ (region_at self.now region).floor }
@@ -246,16 +257,16 @@ impl<T: Posted> World<T> {
         self.centre.acked(region)
     }
 
-    /// The least that a region acknowledged, or the posted prefix where there is no region: no region will put in force
-    /// a table of fewer reports any more (`world_law`).
+    /// The least that a region acknowledged, or the posted prefix where there is no region: no
+    /// region will put in force a table of fewer reports any more (`world_law`).
     pub fn settled(&self) -> u64
         ensures { result ≡ settled_of T.covers self.now }
     {
         self.centre.settled()
     }
 
-    /// How many reports the table covers whose limits are in force in the region, `None` exactly where it took no message
-    /// since it began or last restarted.
+    /// How many reports the table covers whose limits are in force in the region, `None` exactly
+    /// where it took no message since it began or last restarted.
     pub fn in_force(&self, region: u32) -> Option<u64>
         requires region { region < length self.now.tasks }
         ensures { result ≡ prefix_in_force self.now region }
@@ -264,8 +275,8 @@ impl<T: Posted> World<T> {
         Some(limits.prefix())
     }
 
-    /// The limit in force for the task at a place of the region's tasks, in kilobits per second, `None` exactly where
-    /// nothing is in force.
+    /// The limit in force for the task at a place of the region's tasks, in kilobits per second,
+    /// `None` exactly where nothing is in force.
     pub fn limit(&self, region: u32, place: u32) -> Option<u64>
         requires region { region < length self.now.tasks }
         requires place { place < length (tasks_at self.now region) }
@@ -278,7 +289,8 @@ impl<T: Posted> World<T> {
 
 // So many regions with nothing in force.
 fn new_regions(alloc: Global, count: usize) -> Result<Vec<Region>, OutOfMemory>
-    ensures { IfOk result (λ regions. regions.items ≡ replicate count (record { floor = 0; in_force = None })) }
+    ensures { IfOk result
+        (λ regions. regions.items ≡ replicate count (record { floor = 0; in_force = None })) }
 {
     let mut regions = Vec::with_capacity(alloc, count)?;
     for _ in 0..count {

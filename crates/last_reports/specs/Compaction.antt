@@ -15,18 +15,22 @@ abbrev pub is_target : Target → Target → Bool
 is_target (Task number) = is_task number
 is_target (Link number) = is_link number
 
--- the last reports of each task and link, in their order: a report goes where a later one of its task or link stands
+-- the last reports of each task and link, in their order: a report goes where a later one of its
+-- task or link stands
 unfoldable pub last_reports : List Report → List Report
 last_reports [] = []
 last_reports (report ∷ reports) =
-    if is_some (last_report (is_target report.target) reports) then last_reports reports else report ∷ last_reports reports
+    if is_some (last_report (is_target report.target) reports) then last_reports reports
+    else report ∷ last_reports reports
 
 -- the two lists have the same last report of each task and each link
 pub record AreAlike (reports others : List Report) : Type 0 where
   pub tasks : (task : ℕ) → last_report (is_task task) reports ≡ last_report (is_task task) others
   pub links : (link : ℕ) → last_report (is_link link) reports ≡ last_report (is_link link) others
 
--- Compaction law: the allocation of a script is that of its last reports of each task and link, but for the count of reports
+-- Compaction law: the allocation of a script is that of its last reports of each task and link, but
+-- for the count of reports
 abbrev pub CompactionLaw : Type 0
 CompactionLaw = (plan : Plan) (reports : List Report)
-    → record (allocation plan (last_reports reports)) { prefix = length reports } ≡ allocation plan reports
+    → record (allocation plan (last_reports reports)) { prefix = length reports }
+    ≡ allocation plan reports

@@ -24,7 +24,10 @@ snapshot tasks links reports =
     filter_map (λ task. last_report (is_task task) reports) (numbers tasks)
     ++ filter_map (λ link. last_report (is_link link) reports) (numbers links)
 
--- Snapshot law: the allocation of reports of so many tasks and links is that of their snapshot, but for the count of reports
+-- Snapshot law: the allocation of reports of so many tasks and links is that of their snapshot, but
+-- for the count of reports
 abbrev pub SnapshotLaw : Type 0
-SnapshotLaw = (plan : Plan) (tasks links : ℕ) (reports : List Report) → All (λ report. IsInRange tasks links report.target) reports
-    → record (allocation plan (snapshot tasks links reports)) { prefix = length reports } ≡ allocation plan reports
+SnapshotLaw = (plan : Plan) (tasks links : ℕ) (reports : List Report)
+    → All (λ report. IsInRange tasks links report.target) reports
+    → record (allocation plan (snapshot tasks links reports)) { prefix = length reports }
+    ≡ allocation plan reports

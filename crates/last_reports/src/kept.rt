@@ -55,7 +55,8 @@ impl LastReports {
     /// Takes in a report behind those that there were. It takes no memory.
     pub fn put(&mut self, report: Report)
         requires { IsInRange (length self.old.tasks) (length self.old.links) report.target }
-        ensures { (tasks links : ℕ) (reports : List Report) → self.old ≡ told_after tasks links reports
+        ensures { (tasks links : ℕ) (reports : List Report)
+            → self.old ≡ told_after tasks links reports
             → self.new ≡ told_after tasks links (reports ++ report ∷ []) }
     {
         match report.target {
@@ -67,7 +68,8 @@ impl LastReports {
     /// The last reports of the tasks, and then those of the links, each by number.
     pub fn reports(&self, alloc: Global) -> Result<Vec<Report>, OutOfMemory>
         ensures { IfOk result (λ list. (tasks links : ℕ) (reports : List Report)
-            → self.now ≡ told_after tasks links reports → list.items ≡ snapshot tasks links reports) }
+            → self.now ≡ told_after tasks links reports
+            → list.items ≡ snapshot tasks links reports) }
     {
         let mut list = Vec::new(alloc);
         push_told(&mut list, &self.tasks)?;

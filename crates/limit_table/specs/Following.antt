@@ -26,15 +26,17 @@ abbrev pub LeadAlong : Table → List Change → List Table → Type 0
 LeadAlong table [] [] = Unit {0}
 LeadAlong table [] (later ∷ tables) = ⊥
 LeadAlong table (change ∷ changes) [] = ⊥
-LeadAlong table (change ∷ changes) (later ∷ tables) = Leads table change later × LeadAlong later changes tables
+LeadAlong table (change ∷ changes) (later ∷ tables) = Leads table change later
+    × LeadAlong later changes tables
 
 -- the last of the tables, or the first where no later one is there
 abbrev pub last_of : Table → List Table → Table
 last_of table [] = table
 last_of table (later ∷ tables) = last_of later tables
 
--- Kept by changes: along any list of later tables, the table with the change to the first of them and with all changes
--- that follow is the last of them
+-- Kept by changes: along any list of later tables, the table with the change to the first of them
+-- and with all changes that follow is the last of them
 abbrev pub IsKeptAlong : Table → Table → Change → Type 0
-IsKeptAlong table later change = (changes : List Change) (tables : List Table) → LeadAlong later changes tables
+IsKeptAlong table later change = (changes : List Change) (tables : List Table)
+    → LeadAlong later changes tables
     → with_changes table (change ∷ changes) ≡ last_of later tables

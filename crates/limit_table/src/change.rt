@@ -11,8 +11,8 @@ use bwe_specs::{Closing, OutOfMemory};
 use std::alloc::Global;
 use std::marker::Model;
 
-/// An entry for each limit, group and load that differs, in rising order, with what the later table has there, and
-/// the later closings where they differ.
+/// An entry for each limit, group and load that differs, in rising order, with what the later table
+/// has there, and the later closings where they differ.
 #[derive(Debug, Drop)]
 pub struct TableChange {
     pub prefix: u64,
@@ -86,7 +86,8 @@ fn write_numbers(numbers: &mut [u64], entries: &[(u32, u64)])
 // Writes each entry to its place.
 fn write_lines(lines: &mut [GroupLine], entries: Vec<(u32, GroupLine)>)
     requires changes { (later : List GroupLineView) × Changes 0 lines.old later entries.items }
-    ensures { (later : List GroupLineView) → Changes 0 lines.old later entries.items → lines.new ≡ later }
+    ensures { (later : List GroupLineView) → Changes 0 lines.old later entries.items
+        → lines.new ≡ later }
 {
     for (at, line) in entries {
         lines[at as usize] = line;
@@ -112,7 +113,9 @@ fn copy_closings(
     alloc: Global,
     closings: &Option<Vec<Closing>>,
 ) -> Result<Option<Vec<Closing>>, OutOfMemory>
-    ensures { IfOk result (λ copy. option_map (λ closings. closings.items) copy ≡ option_map (λ closings. closings.items) closings.now) }
+    ensures { IfOk result
+        (λ copy. option_map (λ closings. closings.items) copy
+        ≡ option_map (λ closings. closings.items) closings.now) }
 {
     match closings {
         Some(closings) => Ok(Some(Vec::from_slice(alloc, closings)?)),
@@ -178,7 +181,8 @@ fn changed_closings(
     old: &[Closing],
     new: &[Closing],
 ) -> Result<Option<Vec<Closing>>, OutOfMemory>
-    ensures { IfOk result (λ change. IsChanged old.now new.now (option_map (λ closings. closings.items) change)) }
+    ensures { IfOk result
+        (λ change. IsChanged old.now new.now (option_map (λ closings. closings.items) change)) }
 {
     if old == new {
         return Ok(None);

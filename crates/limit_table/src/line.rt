@@ -7,7 +7,8 @@ use bwe_specs::OutOfMemory;
 use std::alloc::Global;
 use std::marker::Model;
 
-/// What a path group of a group gets, in kilobits per second, and the link of the first closing that it uses.
+/// What a path group of a group gets, in kilobits per second, and the link of the first closing
+/// that it uses.
 #[derive(Clone, Copy, Debug, PartialEq, Eq)]
 pub struct PlaceLine {
     pub amount: u64,
@@ -24,7 +25,8 @@ impl Model for PlaceLine {
     ghost inverse = { λ line. record { amount = line.amount; closed = line.closed } };
 }
 
-/// The share at which a group stopped, what it gets in kilobits per second, and a line for each of its path groups.
+/// The share at which a group stopped, what it gets in kilobits per second, and a line for each of
+/// its path groups.
 #[derive(Debug, Drop)]
 pub struct GroupLine {
     pub share: u64,
@@ -37,7 +39,8 @@ impl Model for GroupLine {
 
     ghost Value = { GroupLineView };
 
-    ghost view = { λ line. record { share = line.share; amount = line.amount; places = line.places.items } };
+    ghost view = { λ line.
+        record { share = line.share; amount = line.amount; places = line.places.items } };
 }
 
 impl GroupLine {

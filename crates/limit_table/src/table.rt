@@ -12,7 +12,8 @@ use demand_book::Posted;
 use std::alloc::Global;
 use std::marker::Model;
 
-/// Limits, amounts and loads in kilobits per second, for the demands and capacities after the first `prefix` reports.
+/// Limits, amounts and loads in kilobits per second, for the demands and capacities after the first
+/// `prefix` reports.
 ///
 /// Limits are by task, lines by group and loads by link. Closings stand in their order.
 /// All groups get at most 20,000,000,000,000,000 together.
@@ -48,7 +49,8 @@ impl Model for LimitTable {
     }) };
 }
 
-/// How many tasks, path groups of each group, and links a table has. No value of it is made: clauses speak of it.
+/// How many tasks, path groups of each group, and links a table has. No value of it is made:
+/// clauses speak of it.
 pub struct TableFrame;
 
 impl Model for TableFrame {
@@ -103,8 +105,8 @@ impl Posted for LimitTable {
         requires one_plan { frame_of self.now ≡ frame_of later.now }
         ensures leads { IfOk result (λ change. Leads self.now change later.now) }
 
-        // Kept by changes: with this change and with those along any list of tables behind the later one, the table is
-        // the last of them
+        // Kept by changes: with this change and with those along any list of tables behind the
+        // later one, the table is the last of them
         ensures kept { IfOk result (IsKeptAlong self.now later.now) }
     {
         change_between(alloc, self, later)
@@ -113,7 +115,8 @@ impl Posted for LimitTable {
     fn apply(&mut self, alloc: Global, change: &TableChange) -> Result<(), OutOfMemory>
         requires leads { (later : Table) × Leads self.old change.now later }
         ensures frame { frame_of self.new ≡ frame_of self.old }
-        ensures ok { OnOk result ((later : Table) → Leads self.old change.now later → self.new ≡ later) }
+        ensures ok { OnOk result
+            ((later : Table) → Leads self.old change.now later → self.new ≡ later) }
 
         // The table has what the change says, and what it had else
         ensures written { OnOk result (self.new ≡ with_change self.old change.now) }

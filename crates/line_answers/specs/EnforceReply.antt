@@ -12,19 +12,23 @@ use Rattle.plan_doc.specs.Document.{Accepted}
 use Rattle.doc_names.specs.NameTexts.{NameTexts}
 use Rattle.plan_doc.specs.Plans.{plan_of}
 
--- the text of the events on a world with a region for each reporter, with the allocations of the script's first reports
+-- the text of the events on a world with a region for each reporter, with the allocations of the
+-- script's first reports
 abbrev pub enforced_reply : NameTexts → Plan → List Report → List ℕ → List EventLine → Reply
 enforced_reply names plan script task_owners events = record {
   status = 0;
   text =
-      enforced_text (λ table. table.prefix) (λ table task. slice_index table.limits task) (allocation plan) script
+      enforced_text (λ table. table.prefix) (λ table task. slice_index table.limits task)
+      (allocation plan) script
       (regions_of (length names.reporters) task_owners) names.tasks events;
 }
 
 -- or the line for the first line at fault
 abbrev pub enforced_by : NameTexts → Plan → List Report → List ℕ → Result (List EventLine) ℕ → Reply
-enforced_by names plan script task_owners (Ok events) = enforced_reply names plan script task_owners events
-enforced_by names plan script task_owners (Err line) = record { status = 3; text = event_refusal line }
+enforced_by names plan script task_owners (Ok events) =
+    enforced_reply names plan script task_owners events
+enforced_by names plan script task_owners (Err line) =
+    record { status = 3; text = event_refusal line }
 
 -- `enforce`: the events of the part, played on the regions of the document's reporters
 abbrev pub enforce_reply : NameTexts → Plan → List Report → List ℕ → List ℕ → Reply
@@ -32,4 +36,5 @@ enforce_reply names plan script task_owners part =
     enforced_by names plan script task_owners (events_of (length names.reporters) part)
 
 abbrev pub enforce_accepted : Accepted → List ℕ → Reply
-enforce_accepted accepted part = enforce_reply accepted.names (plan_of accepted) accepted.script accepted.task_owners part
+enforce_accepted accepted part =
+    enforce_reply accepted.names (plan_of accepted) accepted.script accepted.task_owners part

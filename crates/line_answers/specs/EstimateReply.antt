@@ -27,4 +27,5 @@ known_in accepted = record { names = accepted.names; task_owners = accepted.task
 
 abbrev pub estimate_accepted : ℕ → ℕ → Accepted → List ℕ → Reply
 estimate_accepted window headroom accepted part =
-    estimate_reply accepted.names (known_in accepted) (plan_of accepted) accepted.script window headroom part
+    estimate_reply accepted.names (known_in accepted) (plan_of accepted) accepted.script window
+    headroom part

@@ -30,7 +30,8 @@ with_part part (Err refusal) = Err (refused_reply refusal)
 
 abbrev pub parts_at : List ℕ → Option Parts → Result AcceptedParts Reply
 parts_at input None = Err no_parts_reply
-parts_at input (Some parts) = with_part (drop parts.end input) (document (document_bytes input parts))
+parts_at input (Some parts) =
+    with_part (drop parts.end input) (document (document_bytes input parts))
 
 -- the two parts of an input, or what is written for a refused one
 abbrev pub accepted_parts : List ℕ → Result AcceptedParts Reply
@@ -40,12 +41,14 @@ abbrev pub behind_reply : (Accepted → List ℕ → Reply) → Result AcceptedP
 behind_reply accepted_reply (Ok parts) = accepted_reply parts.accepted parts.part
 behind_reply accepted_reply (Err refused) = refused
 
--- what an input gets that is a document and a second part, by what an accepted document and the part behind it get
+-- what an input gets that is a document and a second part, by what an accepted document and the
+-- part behind it get
 abbrev pub parts_reply : (Accepted → List ℕ → Reply) → List ℕ → Reply
 parts_reply accepted_reply input = behind_reply accepted_reply (accepted_parts input)
 
 -- the same, where an accepted document and the part behind it may get this
-abbrev pub IsReplyBehind : (Accepted → List ℕ → Reply → Type 0) → Result AcceptedParts Reply → Reply → Type 0
+abbrev pub IsReplyBehind : (Accepted → List ℕ → Reply → Type 0) → Result AcceptedParts Reply → Reply
+    → Type 0
 IsReplyBehind IsReply (Ok parts) given = IsReply parts.accepted parts.part given
 IsReplyBehind IsReply (Err refused) given = given ≡ refused
 
@@ -53,5 +56,6 @@ IsReplyBehind IsReply (Err refused) given = given ≡ refused
 abbrev pub AreRead : Result AcceptedParts Reply → read.Parted → Type 0
 AreRead parts (Read held part) =
     (accepted : Accepted) × (parts ≡ Ok (record { accepted = accepted; part = part.now }))
-    × ((bytes : List ℕ) × (document bytes ≡ Ok accepted)) × IsDocumentOf accepted held × IsUsable held
+    × ((bytes : List ℕ) × (document bytes ≡ Ok accepted)) × IsDocumentOf accepted held
+    × IsUsable held
 AreRead parts (Refused answer) = parts ≡ Err answer

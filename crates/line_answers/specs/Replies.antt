@@ -38,7 +38,8 @@ check_reply names plan script closings =
 abbrev pub values_reply : NameTexts → ℕ → List ℕ → Reply
 values_reply names share values = record { status = 0; text = levels_text_of names share values }
 
--- `levels`: what each group of a tree may have under these demands, at the share that was asked for or at the top, whichever is less
+-- `levels`: what each group of a tree may have under these demands, at the share that was asked for
+-- or at the top, whichever is less
 abbrev pub levels_reply : ℕ → NameTexts → ℕ → (ℕ → ℕ) → List Cluster → Reply
 levels_reply asked names top demand clusters =
     let share = min asked top in
@@ -49,10 +50,12 @@ abbrev pub solve_accepted : Accepted → Reply
 solve_accepted accepted = table_reply accepted.names (plan_of accepted) accepted.script
 
 abbrev pub check_accepted : Accepted → Reply
-check_accepted accepted = check_reply accepted.names (plan_of accepted) accepted.script accepted.closings
+check_accepted accepted =
+    check_reply accepted.names (plan_of accepted) accepted.script accepted.closings
 
 abbrev pub levels_accepted : ℕ → Accepted → Reply
-levels_accepted share accepted = levels_reply share accepted.names accepted.top (demand_after accepted.script) accepted.clusters
+levels_accepted share accepted =
+    levels_reply share accepted.names accepted.top (demand_after accepted.script) accepted.clusters
 
 -- a refused document gets the line of its refusal
 abbrev pub refused_reply : Refusal → Reply

@@ -13,11 +13,14 @@ use Rattle.tiers.specs.Tiered.{Tiered, tiered_under}
 
 -- the Tiered allocation of the demands and capacities after these reports
 abbrev pub tiered_after : Plan → List Report → List ℕ → Tiered
-tiered_after plan reports tiers = tiered_under plan (length reports) (demand_after reports) (capacities_after plan.capacities reports) tiers
+tiered_after plan reports tiers =
+    tiered_under plan (length reports) (demand_after reports)
+    (capacities_after plan.capacities reports) tiers
 
 -- the text of its table
 abbrev pub tiered_reply : NameTexts → Plan → List Report → List ℕ → Reply
-tiered_reply names plan script tiers = record { status = 0; text = tier_text_of names (tiered_after plan script tiers) }
+tiered_reply names plan script tiers =
+    record { status = 0; text = tier_text_of names (tiered_after plan script tiers) }
 
 -- the line for the first byte at fault, where there is one
 abbrev pub unless_refused : Option ℕ → Reply → Reply

@@ -34,7 +34,8 @@ pub fn check(alloc: Global, input: &[u8]) -> Result<Answer, OutOfMemory>
 fn check_document(alloc: Global, document: Document) -> Result<Answer, OutOfMemory>
     requires { IsUsable document }
     ensures { IfOk result (λ answer. answer
-        ≡ check_reply (texts_of document.names) (plan_in document) document.script.items document.closings.items) }
+        ≡ check_reply (texts_of document.names) (plan_in document) document.script.items
+        document.closings.items) }
 {
     let opened = open_after_script(alloc, document)?;
     check_opened(alloc, &opened)
@@ -54,7 +55,8 @@ fn check_opened(alloc: Global, opened: &Opened) -> Result<Answer, OutOfMemory>
     })
 }
 
-// The verdict on the closings, under the demands and capacities after the reports that the allocator has taken in.
+// The verdict on the closings, under the demands and capacities after the reports that the
+// allocator has taken in.
 fn verdict_after(
     alloc: Global,
     allocator: &Allocator,
@@ -62,7 +64,8 @@ fn verdict_after(
 ) -> Result<Verdict, OutOfMemory>
     ensures { IfOk result (λ verdict. (script : List Report)
         → ⟦<Allocator as Maker>⟧.absorbed allocator.now script
-        → verdict ≡ verdict_of (wan_after (⟦<Allocator as Maker>⟧.plan allocator.now) script) closings.now) }
+        → verdict ≡ verdict_of (wan_after (⟦<Allocator as Maker>⟧.plan allocator.now) script)
+        closings.now) }
 {
     let (values, plan) = (allocator.values(), allocator.plan());
     bottleneck_cert::check(alloc, &values, allocator.topology(), plan, closings)

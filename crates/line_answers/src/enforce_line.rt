@@ -27,12 +27,13 @@ pub fn enforce(alloc: Global, input: &[u8]) -> Result<Answer, OutOfMemory>
     }
 }
 
-// What the events of the part do in a world with a region for each of the document's reporters, or the first line at
-// fault.
+// What the events of the part do in a world with a region for each of the document's reporters, or
+// the first line at fault.
 fn enforce_document(alloc: Global, document: Document, part: &[u8]) -> Result<Answer, OutOfMemory>
     requires { IsUsable document }
     ensures { IfOk result (λ answer. answer
-        ≡ enforce_reply (texts_of document.names) (plan_in document) document.script.items document.task_owners.items part.now) }
+        ≡ enforce_reply (texts_of document.names) (plan_in document) document.script.items
+        document.task_owners.items part.now) }
 {
     let reporters = reporters_in(&document);
     match read_events(alloc, part, reporters) {
@@ -64,7 +65,8 @@ fn play(
     requires reporters { reporters ≡ reporter_count document }
     requires there { AreThere reporters [] events.now }
     ensures { IfOk result (λ answer. answer
-        ≡ enforced_reply (texts_of document.names) (plan_in document) document.script.items document.task_owners.items events.now) }
+        ≡ enforced_reply (texts_of document.names) (plan_in document) document.script.items
+        document.task_owners.items events.now) }
 {
     let Opened {
         allocator,

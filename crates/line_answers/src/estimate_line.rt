@@ -45,7 +45,8 @@ pub fn estimate(
     }
 }
 
-// The table of the document's script with the reports of the estimates behind it, or the first sample at fault.
+// The table of the document's script with the reports of the estimates behind it, or the first
+// sample at fault.
 fn estimate_document(
     alloc: Global,
     document: Document,
@@ -59,7 +60,8 @@ fn estimate_document(
     requires least { MIN_HEADROOM ≤ headroom }
     requires headroom { headroom ≤ MAX_HEADROOM }
     ensures { IfOk result (λ answer. answer
-        ≡ estimate_reply (texts_of document.names) (known_by document.names document.task_owners.items)
+        ≡ estimate_reply (texts_of document.names)
+        (known_by document.names document.task_owners.items)
         (plan_in document) document.script.items window headroom part.now) }
 {
     match reports_behind(alloc, &document, part, window, headroom) {
@@ -111,7 +113,8 @@ fn solve_behind(
         → All (IsFit (length document.names.tasks.items) links) reports.now }
     requires owned { All (IsByOwner document.task_owners.items) reports.now }
     ensures { IfOk result (λ answer. answer
-        ≡ table_reply (texts_of document.names) (plan_in document) (document.script.items ++ reports.now)) }
+        ≡ table_reply (texts_of document.names) (plan_in document)
+        (document.script.items ++ reports.now)) }
 {
     let mut document = document;
     document.script.extend_from_slice(reports)?;

@@ -34,7 +34,8 @@ pub fn levels(alloc: Global, share: u64, input: &[u8]) -> Result<Answer, OutOfMe
 fn document_levels(alloc: Global, share: u64, document: Document) -> Result<Answer, OutOfMemory>
     requires { IsUsable document }
     ensures { IfOk result (λ answer. answer
-        ≡ levels_reply share (texts_of document.names) document.tree.top (demand_after document.script.items) document.tree.clusters) }
+        ≡ levels_reply share (texts_of document.names) document.tree.top
+        (demand_after document.script.items) document.tree.clusters) }
 {
     let opened = open_after_script(alloc, document)?;
     opened_levels(alloc, share, &opened)
@@ -44,7 +45,8 @@ fn document_levels(alloc: Global, share: u64, document: Document) -> Result<Answ
 fn opened_levels(alloc: Global, share: u64, opened: &Opened) -> Result<Answer, OutOfMemory>
     ensures { IfOk result (λ answer. answer
         ≡ levels_reply share (texts_of opened.now.names) opened.now.allocator.reported.tree.top
-        (demand_in opened.now.allocator.reported.tree) opened.now.allocator.reported.tree.clusters) }
+        (demand_in opened.now.allocator.reported.tree)
+        opened.now.allocator.reported.tree.clusters) }
 {
     let tree = opened.allocator.values().tree;
     let share = share.min(tree.top());
@@ -76,7 +78,8 @@ fn document_levels_on_threads<R: Threads + Sync>(
 ) -> Result<Answer, OutOfMemory>
     requires { IsUsable document }
     ensures { IfOk result (λ answer. answer
-        ≡ levels_reply share (texts_of document.names) document.tree.top (demand_after document.script.items) document.tree.clusters) }
+        ≡ levels_reply share (texts_of document.names) document.tree.top
+        (demand_after document.script.items) document.tree.clusters) }
 {
     let opened = open_after_script(alloc, document)?;
     opened_levels_on_threads(rt, alloc, share, &opened)
@@ -91,7 +94,8 @@ fn opened_levels_on_threads<R: Threads + Sync>(
 ) -> Result<Answer, OutOfMemory>
     ensures { IfOk result (λ answer. answer
         ≡ levels_reply share (texts_of opened.now.names) opened.now.allocator.reported.tree.top
-        (demand_in opened.now.allocator.reported.tree) opened.now.allocator.reported.tree.clusters) }
+        (demand_in opened.now.allocator.reported.tree)
+        opened.now.allocator.reported.tree.clusters) }
 {
     let tree = opened.allocator.values().tree;
     let share = share.min(tree.top());

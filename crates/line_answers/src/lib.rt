@@ -1,4 +1,5 @@
-//! What each line of the program writes for its input, but for `run` and `audit`, which stand above.
+//! What each line of the program writes for its input, but for `run` and `audit`, which stand
+//! above.
 //!
 //! The top call makes a whole answer by one of these, and then writes it. A document is read and
 //! taken apart here for the lines above too: `open`, `read_parts`, `refused`. The contract of each

@@ -30,8 +30,10 @@ pub fn open(document: Document) -> Opened
     ensures first { ⟦<Allocator as Maker>⟧.absorbed result.allocator [] }
     // The reports fit a log of the plan, and each task has an owner.
     ensures few { length result.script.items ≤ MAX_REPORTS }
-    ensures fit { All (IsFit (⟦<Allocator as Maker>⟧.plan_tasks (⟦<Allocator as Maker>⟧.plan result.allocator))
-        (⟦<Allocator as Maker>⟧.plan_links (⟦<Allocator as Maker>⟧.plan result.allocator))) result.script.items }
+    ensures fit { All
+        (IsFit (⟦<Allocator as Maker>⟧.plan_tasks (⟦<Allocator as Maker>⟧.plan result.allocator))
+        (⟦<Allocator as Maker>⟧.plan_links (⟦<Allocator as Maker>⟧.plan result.allocator)))
+        result.script.items }
     ensures owners { length result.task_owners.items
         ≡ ⟦<Allocator as Maker>⟧.plan_tasks (⟦<Allocator as Maker>⟧.plan result.allocator) }
 

@@ -18,7 +18,8 @@ pub enum Parted<'a> {
     Refused { answer: Answer },
 }
 
-/// The document of the input and the bytes behind it. An input without parts is refused before a document is read.
+/// The document of the input and the bytes behind it. An input without parts is refused before a
+/// document is read.
 pub fn read_parts(alloc: Global, input: &[u8]) -> Result<Parted<'_>, OutOfMemory>
     ensures { IfOk result (AreRead (accepted_parts input.now)) }
 {

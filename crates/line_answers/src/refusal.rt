@@ -10,7 +10,8 @@ use std::alloc::Global;
 
 /// The one line of a refused document, with status 3.
 pub fn refused(alloc: Global, error: &DocError) -> Result<Answer, OutOfMemory>
-    ensures { IfOk result (λ answer. (answer.status ≡ 3) × (error_line error.now ≡ Some answer.text)) }
+    ensures { IfOk result
+        (λ answer. (answer.status ≡ 3) × (error_line error.now ≡ Some answer.text)) }
 {
     Ok(Answer {
         status: 3,

@@ -54,7 +54,8 @@ fn fill(alloc: Global, document: Document, tiers: &[u8]) -> Result<Answer, OutOf
     requires usable { IsUsable document }
     requires one_each { length tiers.now ≡ length document.plan }
     ensures { IfOk result (λ answer. answer
-        ≡ tiered_reply (texts_of document.names) (plan_in document) document.script.items tiers.now) }
+        ≡ tiered_reply (texts_of document.names) (plan_in document) document.script.items
+        tiers.now) }
 {
     let Opened {
         allocator,

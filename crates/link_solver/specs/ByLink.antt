@@ -15,7 +15,8 @@ pub record AreAscending (list : List ℕ) (end : ℕ) : Type 0 where
 -- they are in ascending order, and each group is one of them that uses the link on a path group
 pub record AreGroupsOn (groups : List PathGroups) (link : ℕ) (list : List ℕ) : Type 0 where
   pub ascending : AreAscending list (length groups)
-  pub each : (group place : ℕ) → uses (path_group_at groups group place) link ≡ true → Contains list group
+  pub each : (group place : ℕ) → uses (path_group_at groups group place) link ≡ true
+      → Contains list group
 
 -- each link has the list of its groups
 abbrev pub AreListed : List PathGroups → List (Vec ℕ Global) → Type 0
@@ -25,4 +26,5 @@ AreListed groups lists = (link : ℕ) → AreGroupsOn groups link (list_on lists
 pub record ListsMore (group : ℕ) (old new : List (Vec ℕ Global)) : Type 0 where
   pub each_link : length new ≡ length old
   pub ascending : (link : ℕ) → AreAscending (list_on new link) (group + 1)
-  pub keeps : (link other : ℕ) → Contains (list_on old link) other → Contains (list_on new link) other
+  pub keeps : (link other : ℕ) → Contains (list_on old link) other
+      → Contains (list_on new link) other

@@ -32,7 +32,8 @@ impl<'a> Model for GroupsByLink<'a> {
 }
 
 impl<'a> GroupsByLink<'a> {
-    /// The groups of the plan, by the links of the topology on which it was built. It walks all paths once.
+    /// The groups of the plan, by the links of the topology on which it was built. It walks all
+    /// paths once.
     pub fn of(
         alloc: Global,
         topology: &Topology,
@@ -71,7 +72,8 @@ fn empty_lists(alloc: Global, count: u32) -> Result<Vec<Vec<u32>>, OutOfMemory>
 
 // Lists each group at the links of its path groups.
 fn list_groups(lists: &mut [Vec<u32>], plan: &PathPlan) -> Result<(), OutOfMemory>
-    requires links { (group place link : ℕ) → uses (path_group_at plan.now group place) link ≡ true → link < length lists.old }
+    requires links { (group place link : ℕ) → uses (path_group_at plan.now group place) link ≡ true
+        → link < length lists.old }
     requires empty { (link : ℕ) → list_on lists.old link ≡ [] }
     ensures { OnOk result (AreListed plan.now lists.new) }
 {
@@ -84,10 +86,12 @@ fn list_groups(lists: &mut [Vec<u32>], plan: &PathPlan) -> Result<(), OutOfMemor
 // Lists a group, where those that are listed are lower.
 fn list_group(lists: &mut [Vec<u32>], plan: &PathPlan, group: u32) -> Result<(), OutOfMemory>
     requires group { group < length plan.now }
-    requires links { (place link : ℕ) → uses (path_group_at plan.now group place) link ≡ true → link < length lists.old }
+    requires links { (place link : ℕ) → uses (path_group_at plan.now group place) link ≡ true
+        → link < length lists.old }
     requires ascending { (link : ℕ) → AreAscending (list_on lists.old link) group }
     ensures more { OnOk result (ListsMore group lists.old lists.new) }
-    ensures listed { OnOk result ((place link : ℕ) → uses (path_group_at plan.now group place) link ≡ true
+    ensures listed { OnOk result
+        ((place link : ℕ) → uses (path_group_at plan.now group place) link ≡ true
         → Contains (list_on lists.new link) group) }
 {
     for place in 0..plan.places(group) {
@@ -101,7 +105,8 @@ fn list_at(lists: &mut [Vec<u32>], parts: &[LinkPart], group: u32) -> Result<(),
     requires links { All (λ part. part.link < length lists.old) parts.now }
     requires ascending { (link : ℕ) → AreAscending (list_on lists.old link) (group + 1) }
     ensures more { OnOk result (ListsMore group lists.old lists.new) }
-    ensures listed { OnOk result ((link : ℕ) → has_part parts.now link ≡ true → Contains (list_on lists.new link) group) }
+    ensures listed { OnOk result
+        ((link : ℕ) → has_part parts.now link ≡ true → Contains (list_on lists.new link) group) }
 {
     for part in parts {
         list_once(&mut lists[part.link as usize], group)?;
@@ -113,7 +118,8 @@ fn list_at(lists: &mut [Vec<u32>], parts: &[LinkPart], group: u32) -> Result<(),
 fn list_once(list: &mut Vec<u32>, group: u32) -> Result<(), OutOfMemory>
     requires { AreAscending list.old.items (group + 1) }
     ensures ascending { OnOk result (AreAscending list.new.items (group + 1)) }
-    ensures keeps { OnOk result ((other : ℕ) → Contains list.old.items other → Contains list.new.items other) }
+    ensures keeps { OnOk result
+        ((other : ℕ) → Contains list.old.items other → Contains list.new.items other) }
     ensures listed { OnOk result (Contains list.new.items group) }
 {
     if let Some(last) = list.last()

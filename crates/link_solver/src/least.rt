@@ -20,7 +20,8 @@ pub(crate) struct LeastDue {
     pub(crate) beside: u64,
 }
 
-/// Of each block the link with the least due, if that is below the top. It is one walk over all links.
+/// Of each block the link with the least due, if that is below the top. It is one walk over all
+/// links.
 pub(crate) fn blocks_of(
     alloc: Global,
     dues: &[Due],
@@ -66,7 +67,8 @@ pub(crate) fn least_in(dues: &[Due], links: u32, block: u32, top: u64) -> Option
 /// The link with the least due, unless that is the top. It looks at one link of each block.
 pub(crate) fn least(dues: &[Due], blocks: &[Option<LeastDue>], top: u64) -> Option<LeastDue>
     requires { AreBlocks dues.now top blocks.now }
-    ensures { MatchOption result (NoneBelow dues.now top) (λ found. IsLeastDue dues.now top found.link) }
+    ensures { MatchOption result (NoneBelow dues.now top)
+        (λ found. IsLeastDue dues.now top found.link) }
 {
     let mut found = None;
     let mut least = top;

@@ -30,7 +30,8 @@ impl Amounts {
     pub(crate) fn open(alloc: Global, plan: &PathPlan) -> Result<Amounts, OutOfMemory>
         ensures plan { IsPlan plan.now }
         ensures rows { IfOk result (AreRowsOf plan.now) }
-        ensures none { IfOk result (λ amounts. (group place : ℕ) → amount_at amounts group place ≡ 0) }
+        ensures none { IfOk result
+            (λ amounts. (group place : ℕ) → amount_at amounts group place ≡ 0) }
     {
         let mut rows = Vec::new(alloc);
         for group in 0..plan.groups() {

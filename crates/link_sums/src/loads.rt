@@ -21,8 +21,10 @@ pub(crate) fn move_loads(
     requires place { place < path_group_count plan.now group }
     requires before { before ≤ MAX_TOTAL }
     requires after { after ≤ MAX_TOTAL }
-    requires links { (link : ℕ) → uses (path_group_at plan.now group place) link ≡ true → link < length loads.old }
-    requires counted { (link : ℕ) → link < length loads.old → load_on (path_group_at plan.now group place) link before ≤ slice_index loads.old link }
+    requires links { (link : ℕ) → uses (path_group_at plan.now group place) link ≡ true
+        → link < length loads.old }
+    requires counted { (link : ℕ) → link < length loads.old
+        → load_on (path_group_at plan.now group place) link before ≤ slice_index loads.old link }
     requires room { (link : ℕ) → link < length loads.old → slice_index loads.old link ≤ MAX_TOTAL }
     ensures length { length loads.new ≡ length loads.old }
     ensures moved { (link : ℕ) → link < length loads.old →

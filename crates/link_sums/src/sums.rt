@@ -13,7 +13,8 @@ use std::alloc::Global;
 use std::marker::Model;
 use wan_topology::Topology;
 
-/// Amounts by group and place, and the load that they put on each link. All are kilobits per second.
+/// Amounts by group and place, and the load that they put on each link. All are kilobits per
+/// second.
 #[derive(Drop)]
 pub struct LinkSums {
     amounts: Amounts,
@@ -29,7 +30,8 @@ impl Model for LinkSums {
 }
 
 impl LinkSums {
-    /// Sums over the plan and the links of the topology on which it was built. All amounts are 0, and so are all loads.
+    /// Sums over the plan and the links of the topology on which it was built. All amounts are 0,
+    /// and so are all loads.
     pub fn open(
         alloc: Global,
         topology: &Topology,
@@ -38,7 +40,8 @@ impl LinkSums {
         requires built_on { IsBuiltOn topology.now plan.now }
         ensures summed { IfOk result (IsSummedOver plan.now) }
         ensures links { IfOk result (λ sums. length sums.loads ≡ length topology.now.capacities) }
-        ensures none { IfOk result (λ sums. (group place : ℕ) → amount_at sums.amounts group place ≡ 0) }
+        ensures none { IfOk result
+            (λ sums. (group place : ℕ) → amount_at sums.amounts group place ≡ 0) }
     {
         let amounts = Amounts::open(alloc, plan)?;
         let loads = zeros(alloc, topology.links() as usize)?;
@@ -63,7 +66,8 @@ impl LinkSums {
         self.loads[link as usize]
     }
 
-    /// The lowest link that is over, `None` where every link fits ("Load rule", docs/DEFINITIONS.md).
+    /// The lowest link that is over, `None` where every link fits ("Load rule",
+    /// docs/DEFINITIONS.md).
     ///
     /// `topology` has the links that `open` was given. Its capacities may have changed since.
     pub fn first_over(&self, topology: &Topology) -> Option<u32>
@@ -83,7 +87,8 @@ impl LinkSums {
         None
     }
 
-    /// Raises one amount by `more`, and the loads with it. The plan is the one that `open` was given.
+    /// Raises one amount by `more`, and the loads with it. The plan is the one that `open` was
+    /// given.
     pub fn raise(&mut self, plan: &PathPlan, group: u32, place: u32, more: u64)
         requires summed { IsSummedOver plan.now self.old }
         requires group { group < length plan.now }
@@ -98,7 +103,8 @@ impl LinkSums {
         self.amounts.raise(plan, group, place, more);
     }
 
-    /// Lowers one amount by `less`, and the loads with it. The plan is the one that `open` was given.
+    /// Lowers one amount by `less`, and the loads with it. The plan is the one that `open` was
+    /// given.
     pub fn lower(&mut self, plan: &PathPlan, group: u32, place: u32, less: u64)
         requires summed { IsSummedOver plan.now self.old }
         requires group { group < length plan.now }

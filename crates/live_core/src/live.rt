@@ -33,9 +33,11 @@ impl Model for LiveCore {
 
     ghost Value = { Live };
 
-    ghost view = { λ core. record { allocating = core.allocator; told = core.told; table = core.table } };
+    ghost view = { λ core.
+        record { allocating = core.allocator; told = core.told; table = core.table } };
 
-    ghost invariant = { λ core. IsSomeLive (record { allocating = core.allocator; told = core.told; table = core.table }) };
+    ghost invariant = { λ core. IsSomeLive
+        (record { allocating = core.allocator; told = core.told; table = core.table }) };
 }
 
 impl LiveCore {
@@ -47,8 +49,10 @@ impl LiveCore {
     ) -> Result<LiveCore, OutOfMemory>
         requires first { ⟦<Allocator as Maker>⟧.absorbed allocator [] }
         requires few { length script.now ≤ MAX_REPORTS }
-        requires fit { All (IsFit (⟦<Allocator as Maker>⟧.plan_tasks (⟦<Allocator as Maker>⟧.plan allocator))
-            (⟦<Allocator as Maker>⟧.plan_links (⟦<Allocator as Maker>⟧.plan allocator))) script.now }
+        requires fit { All
+            (IsFit (⟦<Allocator as Maker>⟧.plan_tasks (⟦<Allocator as Maker>⟧.plan allocator))
+            (⟦<Allocator as Maker>⟧.plan_links (⟦<Allocator as Maker>⟧.plan allocator)))
+            script.now }
         ensures plan { IfOk result (λ core. plan_of core ≡ ⟦<Allocator as Maker>⟧.plan allocator) }
         ensures live { IfOk result (λ core. IsLive core script.now script.now) }
     {
@@ -74,7 +78,8 @@ impl LiveCore {
     /// How many reports were taken in.
     pub fn reports(&self) -> u64
         ensures same { result ≡ reports_of self.now }
-        ensures count { (accepted written : List Report) → IsLive self.now accepted written → result ≡ length accepted }
+        ensures count { (accepted written : List Report) → IsLive self.now accepted written
+            → result ≡ length accepted }
     {
         self.allocator.prefix()
     }
@@ -84,7 +89,8 @@ impl LiveCore {
         requires fit { IsFit (tasks_of self.old) (links_of self.old) report }
         requires room { reports_of self.old < u64.MAX }
         ensures plan { plan_of self.new ≡ plan_of self.old }
-        ensures ok { OnOk result ((accepted written : List Report) → IsLive self.old accepted written
+        ensures ok { OnOk result
+            ((accepted written : List Report) → IsLive self.old accepted written
             → IsLive self.new (accepted ++ report ∷ []) written) }
         ensures refused { OnErr result (self.new ≡ self.old) }
     {
@@ -93,15 +99,17 @@ impl LiveCore {
         Ok(())
     }
 
-    /// Writes the table of all reports that were taken in, and gives back the one that was written before. After a refusal
-    /// that one stands.
+    /// Writes the table of all reports that were taken in, and gives back the one that was written
+    /// before. After a refusal that one stands.
     pub fn post(&mut self, alloc: Global) -> Result<LimitTable, OutOfMemory>
         ensures plan { plan_of self.new ≡ plan_of self.old }
         ensures earlier { IfOk result (λ earlier. earlier ≡ self.old.table) }
         ensures one_plan { IfOk result (λ earlier. frame_of earlier ≡ frame_of self.new.table) }
-        ensures posted { OnOk result ((accepted written : List Report) → IsLive self.old accepted written
+        ensures posted { OnOk result
+            ((accepted written : List Report) → IsLive self.old accepted written
             → IsLive self.new accepted accepted) }
-        ensures refused { OnErr result ((accepted written : List Report) → IsLive self.old accepted written
+        ensures refused { OnErr result
+            ((accepted written : List Report) → IsLive self.old accepted written
             → IsLive self.new accepted written) }
     {
         let table = self.allocator.table(alloc)?;
@@ -110,11 +118,13 @@ impl LiveCore {
 
     /// The last report of each task, and then of each link, by number.
     pub fn state(&self, alloc: Global) -> Result<Vec<Report>, OutOfMemory>
-        ensures snapshot { IfOk result (λ state. (accepted written : List Report) → IsLive self.now accepted written
+        ensures snapshot { IfOk result
+            (λ state. (accepted written : List Report) → IsLive self.now accepted written
             → state.items ≡ snapshot (tasks_of self.now) (links_of self.now) accepted) }
 
         // Snapshot promise: these reports alone have the same table, but for the count of reports.
-        ensures same_table { IfOk result (λ state. (accepted written : List Report) → IsLive self.now accepted written
+        ensures same_table { IfOk result
+            (λ state. (accepted written : List Report) → IsLive self.now accepted written
             → record (allocation (plan_of self.now) state.items) { prefix = length accepted }
             ≡ allocation (plan_of self.now) accepted) }
     {

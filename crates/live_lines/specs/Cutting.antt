@@ -22,12 +22,14 @@ with_byte (Some text) byte = within (text ++ byte ∷ [])
 -- the lines that the bytes end, where so much was held before them; a line feed is 10
 unfoldable pub lines_from : Held → List ℕ → List Held
 lines_from held [] = []
-lines_from held (byte ∷ bytes) = if byte == 10 then held ∷ lines_from (Some []) bytes else lines_from (with_byte held byte) bytes
+lines_from held (byte ∷ bytes) =
+    if byte == 10 then held ∷ lines_from (Some []) bytes else lines_from (with_byte held byte) bytes
 
 -- what is held behind them
 unfoldable pub held_after : Held → List ℕ → Held
 held_after held [] = held
-held_after held (byte ∷ bytes) = if byte == 10 then held_after (Some []) bytes else held_after (with_byte held byte) bytes
+held_after held (byte ∷ bytes) =
+    if byte == 10 then held_after (Some []) bytes else held_after (with_byte held byte) bytes
 
 -- nothing, not even a line that is too long
 abbrev pub is_nothing : Held → Bool

@@ -23,4 +23,5 @@ known_by names task_owners link_owners = record {
 
 -- the report is by the owner of its task or link
 abbrev pub IsByOwner : Known → Report → Type 0
-IsByOwner known report = owner_of known.task_owners known.link_owners report.target ≡ Some report.reporter
+IsByOwner known report =
+    owner_of known.task_owners known.link_owners report.target ≡ Some report.reporter

@@ -1,4 +1,5 @@
--- What a line means under the names and owners of a document, or the first cause for which it is refused.
+-- What a line means under the names and owners of a document, or the first cause for which it is
+-- refused.
 use Rattle.std.specs.Prelude.{ℕ, Bool, true, false, ◌&&◌, ◌||◌, List, [], ◌∷◌, length, codes, nat_lt, Option, Some, None, Result, Ok, Err, option_map, option_and_then, if◌then◌else◌, ⊤}
 use Rattle.std.specs.Str.{bytes_eq, is_utf8}
 use Rattle.bwe_specs.specs.declared.report.Target.{Target}
@@ -17,7 +18,8 @@ use Rattle.owner_rule.specs.Owners.{owner_of, is_owner}
 -- ---- steps, of which the first that fails gives the cause
 
 infixl 10 ◌>>=◌
-abbrev pub ◌>>=◌ : {A B : Type 0} → Result A LineCause → (A → Result B LineCause) → Result B LineCause
+abbrev pub ◌>>=◌ : {A B : Type 0} → Result A LineCause → (A → Result B LineCause)
+    → Result B LineCause
 (Ok x) >>= f = f x
 (Err cause) >>= f = Err cause
 
@@ -35,15 +37,18 @@ unless cause false = Err cause
 abbrev pub is_word : Text → Bool
 is_word text = nat_lt 0 (length text)
 
--- `demand REPORTER TASK AMOUNT` or `capacity REPORTER LINK AMOUNT`, whatever the names are; the amount is one to 20 digits
+-- `demand REPORTER TASK AMOUNT` or `capacity REPORTER LINK AMOUNT`, whatever the names are; the
+-- amount is one to 20 digits
 abbrev pub is_report : Text → Text → Text → Text → Bool
 is_report kind reporter name amount =
-    (bytes_eq kind (codes "demand") || bytes_eq kind (codes "capacity")) && (is_word reporter && (is_word name && is_number amount))
+    (bytes_eq kind (codes "demand") || bytes_eq kind (codes "capacity"))
+    && (is_word reporter && (is_word name && is_number amount))
 
 -- a demand is of a task, and a capacity of a link
 unfoldable pub target_named : Known → Text → Text → Option Target
 target_named known kind name =
-    if bytes_eq kind (codes "demand") then option_map (λ task. Task task) (number_of_name known.names.tasks name)
+    if bytes_eq kind (codes "demand")
+    then option_map (λ task. Task task) (number_of_name known.names.tasks name)
     else option_map (λ link. Link link) (number_of_name known.names.links name)
 
 -- the amount of digits, where it is not above the greatest
@@ -57,7 +62,8 @@ report_of known kind reporter name amount = do
   reporter_number ← or_else UnknownName (number_of_name known.names.reporters reporter)
   target ← or_else UnknownName (target_named known kind name)
   kilobits ← or_else AmountOutOfRange (amount_of amount)
-  is_owned ← unless NotOwner (is_owner (owner_of known.task_owners known.link_owners target) reporter_number)
+  is_owned ← unless NotOwner
+      (is_owner (owner_of known.task_owners known.link_owners target) reporter_number)
   Ok (record { reporter = reporter_number; target = target; amount = kilobits })
 
 -- ---- a line
@@ -68,7 +74,9 @@ reported (Err cause) = Refused cause
 
 -- `post` or `state`
 unfoldable pub command_of : Text → LineMeaning
-command_of word = if bytes_eq word (codes "post") then Post else if bytes_eq word (codes "state") then State else Refused NoLine
+command_of word =
+    if bytes_eq word (codes "post") then Post else if bytes_eq word (codes "state") then State
+    else Refused NoLine
 
 -- what words say: a command is one word, a report four
 unfoldable pub meaning_of_words : Known → List Text → LineMeaning
@@ -76,13 +84,15 @@ meaning_of_words known [] = Refused NoLine
 meaning_of_words known (word ∷ []) = command_of word
 meaning_of_words known (kind ∷ reporter ∷ []) = Refused NoLine
 meaning_of_words known (kind ∷ reporter ∷ name ∷ []) = Refused NoLine
-meaning_of_words known (kind ∷ reporter ∷ name ∷ amount ∷ []) = reported (report_of known kind reporter name amount)
+meaning_of_words known (kind ∷ reporter ∷ name ∷ amount ∷ []) =
+    reported (report_of known kind reporter name amount)
 meaning_of_words known (kind ∷ reporter ∷ name ∷ amount ∷ more ∷ words) = Refused NoLine
 
 -- what a line without its line feed says; none is refused, whatever it said
 unfoldable pub meaning_of : Known → Option Text → LineMeaning
 meaning_of known None = Refused NoLine
-meaning_of known (Some line) = if is_utf8 line then meaning_of_words known (words_of line) else Refused NoLine
+meaning_of known (Some line) =
+    if is_utf8 line then meaning_of_words known (words_of line) else Refused NoLine
 
 -- where the line is a report, this holds of it
 abbrev pub IfNewReport : LineMeaning → (Report → Type 0) → Type 0

@@ -10,7 +10,8 @@ use std::marker::Model;
 /// The greatest number of bytes of a line before its line feed.
 pub const MAX_LINE: usize = 255;
 
-/// What stands since the last line feed, which contracts see as a text, or none where it is longer than a line may be.
+/// What stands since the last line feed, which contracts see as a text, or none where it is longer
+/// than a line may be.
 #[derive(Drop)]
 pub struct LineCutter {
     buffer: Vec<u8>,
@@ -72,7 +73,8 @@ impl LineCutter {
         self.is_long = false;
     }
 
-    /// Whether nothing stands since the last line feed, so that an input that ends here ends with a whole line.
+    /// Whether nothing stands since the last line feed, so that an input that ends here ends with a
+    /// whole line.
     pub fn is_empty(&self) -> bool
         ensures { result ≡ is_nothing self.now }
     {

@@ -18,7 +18,8 @@ use std::alloc::Global;
 use std::marker::Model;
 use text_scan::{NameIndex, Words, amount_in_range, is_number, number_of};
 
-/// The names of a document, and the number of the reporter who owns each task and link; a link may have no owner.
+/// The names of a document, and the number of the reporter who owns each task and link; a link may
+/// have no owner.
 #[derive(Drop)]
 pub struct Known {
     names: Names,
@@ -45,14 +46,16 @@ impl Model for Known {
 }
 
 impl Known {
-    /// Takes about the time of one hash for each name, and one copy of each name of a reporter, task or link.
+    /// Takes about the time of one hash for each name, and one copy of each name of a reporter,
+    /// task or link.
     pub fn new(
         alloc: Global,
         names: Names,
         task_owners: Vec<u32>,
         link_owners: Vec<Option<u32>>,
     ) -> Result<Known, OutOfMemory>
-        ensures { IfOk result (λ known. known ≡ known_by names task_owners.items link_owners.items) }
+        ensures { IfOk result
+            (λ known. known ≡ known_by names task_owners.items link_owners.items) }
     {
         let reporters = NameIndex::new(alloc, &names.reporters)?;
         let tasks = NameIndex::new(alloc, &names.tasks)?;
@@ -74,13 +77,17 @@ impl Known {
         &self.names
     }
 
-    /// What a line means that stands before its line feed, or the first cause for which it is refused ("What it
-    /// reads", docs/FORMAT.md). `None` is a line that is none, whatever it says: a line that is too long, or ends with the input.
+    /// What a line means that stands before its line feed, or the first cause for which it is
+    /// refused ("What it reads", docs/FORMAT.md). `None` is a line that is none, whatever it says:
+    /// a line that is too long, or ends with the input.
     #[tactic(auto, unfolding(crate::specs::Meaning::meaning_of))]
     pub fn meaning(&self, line: Option<&[u8]>) -> LineMeaning
-        ensures exact { result ≡ spec.meaning_of self.now (option_map (λ text. text.now) line.entry) }
-        // A report's target is a task or link that there is, its amount in range, and its reporter the owner.
-        ensures fit { spec.IfNewReport result (IsFit (length self.now.task_owners) (length self.now.link_owners)) }
+        ensures exact { result
+            ≡ spec.meaning_of self.now (option_map (λ text. text.now) line.entry) }
+        // A report's target is a task or link that there is, its amount in range, and its reporter
+        // the owner.
+        ensures fit { spec.IfNewReport result
+            (IsFit (length self.now.task_owners) (length self.now.link_owners)) }
         ensures owned { spec.IfNewReport result (IsByOwner self.now) }
     {
         let Some(bytes) = line else {
@@ -99,7 +106,8 @@ impl Known {
     // What the words of a line say.
     fn meaning_of_words(&self, text: &str) -> LineMeaning
         ensures exact { result ≡ spec.meaning_of_words self.now (words_of text.now) }
-        ensures fit { spec.IfNewReport result (IsFit (length self.now.task_owners) (length self.now.link_owners)) }
+        ensures fit { spec.IfNewReport result
+            (IsFit (length self.now.task_owners) (length self.now.link_owners)) }
         ensures owned { spec.IfNewReport result (IsByOwner self.now) }
     {
         let refused = LineMeaning::Refused {
@@ -126,8 +134,10 @@ impl Known {
 
     // A line of four words is a report, or refused for the first cause.
     fn reported(&self, kind: &str, reporter: &str, name: &str, amount: &str) -> LineMeaning
-        ensures exact { result ≡ spec.reported (spec.report_of self.now kind.now reporter.now name.now amount.now) }
-        ensures fit { spec.IfNewReport result (IsFit (length self.now.task_owners) (length self.now.link_owners)) }
+        ensures exact { result
+            ≡ spec.reported (spec.report_of self.now kind.now reporter.now name.now amount.now) }
+        ensures fit { spec.IfNewReport result
+            (IsFit (length self.now.task_owners) (length self.now.link_owners)) }
         ensures owned { spec.IfNewReport result (IsByOwner self.now) }
     {
         match self.report_of(kind, reporter, name, amount) {
@@ -146,7 +156,8 @@ impl Known {
         amount: &str,
     ) -> Result<Report, LineCause>
         ensures exact { result ≡ spec.report_of self.now kind.now reporter.now name.now amount.now }
-        ensures fit { IfOk result (IsFit (length self.now.task_owners) (length self.now.link_owners)) }
+        ensures fit { IfOk result
+            (IsFit (length self.now.task_owners) (length self.now.link_owners)) }
         ensures owned { IfOk result (IsByOwner self.now) }
     {
         if !is_report(kind, reporter, name, amount) {

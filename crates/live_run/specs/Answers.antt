@@ -30,23 +30,28 @@ pub record GivesFirst (talk talk_after : Option Talk) (text : List ℕ) : Type 0
 abbrev pub answers_to : Follow → List ℕ → List ℕ → List ℕ
 answers_to follow document behind = answers follow document [] (lines_from (Some []) behind)
 
--- the follower has answered the lines of these bytes, and the cutter holds what stands behind their last line feed
-pub record IsBehind {F : Type 0} (has_followed : F → List ℕ → List Held → Type 0) (document : List ℕ) (follower : F) (held : Held) (behind : List ℕ) : Type 0 where
+-- the follower has answered the lines of these bytes, and the cutter holds what stands behind their
+-- last line feed
+pub record IsBehind {F : Type 0} (has_followed : F → List ℕ → List Held → Type 0)
+    (document : List ℕ) (follower : F) (held : Held) (behind : List ℕ) : Type 0 where
   pub followed : has_followed follower document (lines_from (Some []) behind)
   pub held_so : held ≡ held_after (Some []) behind
 
 -- a text that brings the answers of some bytes to those of others
 abbrev pub Brings : Follow → List ℕ → List ℕ → List ℕ → List ℕ → Type 0
-Brings follow document before after text = answers_to follow document after ≡ answers_to follow document before ++ text
+Brings follow document before after text =
+    answers_to follow document after ≡ answers_to follow document before ++ text
 
 -- the answers to a piece were written
-pub record AnswersPiece (follow : Follow) (document : List ℕ) (talk talk_after : Option Talk) (before after : List ℕ) : Type 0 where
+pub record AnswersPiece (follow : Follow) (document : List ℕ) (talk talk_after : Option Talk)
+    (before after : List ℕ) : Type 0 where
   pub text : List ℕ
   pub gives : Gives talk talk_after text
   pub brings : Brings follow document before after text
 
 -- a first part of them
-pub record AnswersPart (follow : Follow) (document : List ℕ) (talk talk_after : Option Talk) (before after : List ℕ) : Type 0 where
+pub record AnswersPart (follow : Follow) (document : List ℕ) (talk talk_after : Option Talk)
+    (before after : List ℕ) : Type 0 where
   pub text : List ℕ
   pub gives : GivesFirst talk talk_after text
   pub brings : Brings follow document before after text
@@ -64,8 +69,10 @@ pub record IsBefore (follow : Follow) (front document : List ℕ) : Type 0 where
   pub behind_so : (behind : List ℕ) → drop parts.end (front ++ behind) ≡ behind
   pub accepted : follow.accepts document ≡ true
 
--- the lines behind the front are answered as far as bytes have been read, and all that is called for is written
-pub record IsUpTo {F : Type 0} (follow : Follow) (has_followed : F → List ℕ → List Held → Type 0) (front document : List ℕ) (follower : F) (held : Held) (passed : Passed) : Type 0 where
+-- the lines behind the front are answered as far as bytes have been read, and all that is called
+-- for is written
+pub record IsUpTo {F : Type 0} (follow : Follow) (has_followed : F → List ℕ → List Held → Type 0)
+    (front document : List ℕ) (follower : F) (held : Held) (passed : Passed) : Type 0 where
   pub behind : List ℕ
   pub is_behind : IsBehind has_followed document follower held behind
   pub read_so : passed.read ≡ front ++ behind

@@ -62,41 +62,51 @@ stop_status WriteFault = 5
 stop_status OutOfMemory = 6
 
 -- how it ended, with the bytes read and the text written
-pub data Ending (follow : Follow) (words : ℕ) (talk_after : Option Talk) (faults faults_after : Faults) (passed : Passed) : ℕ → Type 0 where
+pub data Ending (follow : Follow) (words : ℕ) (talk_after : Option Talk)
+    (faults faults_after : Faults) (passed : Passed) : ℕ → Type 0 where
   -- there are words: nothing is read
   no_words : 0 < words → passed.read ≡ [] → passed.written ≡ usage_line
       → Ending follow words talk_after faults faults_after passed 2
   -- the input has ended, and all that it calls for is written
-  ended : words ≡ 0 → IsOver talk_after → IsJudged true follow passed.read → passed.written ≡ follow_text follow passed.read
+  ended : words ≡ 0 → IsOver talk_after → IsJudged true follow passed.read
+      → passed.written ≡ follow_text follow passed.read
       → Ending follow words talk_after faults faults_after passed 0
   -- the document is refused, and the line that says so is written
-  refused : words ≡ 0 → IsJudged false follow passed.read → passed.written ≡ called_for follow passed.read
+  refused : words ≡ 0 → IsJudged false follow passed.read
+      → passed.written ≡ called_for follow passed.read
       → Ending follow words talk_after faults faults_after passed 3
-  -- there is no document in front, nor the number of one that is too long: the input has ended, or nothing that follows
-  -- would make one
-  no_document : words ≡ 0 → parts_of passed.read ≡ None → SaysNotTooLong passed.read → IsOver talk_after ⊎ HasNoDocument passed.read
+  -- there is no document in front, nor the number of one that is too long: the input has ended, or
+  -- nothing that follows would make one
+  no_document : words ≡ 0 → parts_of passed.read ≡ None → SaysNotTooLong passed.read
+      → IsOver talk_after ⊎ HasNoDocument passed.read
       → passed.written ≡ no_parts_line → Ending follow words talk_after faults faults_after passed 3
   -- the document in front is to have more than 67,108,864 bytes
   too_long : words ≡ 0 → SaysTooLong passed.read → passed.written ≡ too_long_line
       → Ending follow words talk_after faults faults_after passed 8
   -- a read failed, and all that the bytes so far call for is written
-  read_fault : HasRisen faults.reads faults_after.reads → passed.written ≡ called_for follow passed.read
+  read_fault : HasRisen faults.reads faults_after.reads
+      → passed.written ≡ called_for follow passed.read
       → Ending follow words talk_after faults faults_after passed 4
   -- a write failed, and a prefix of what was due is written
   write_fault : HasRisen faults.writes faults_after.writes → IsFirstOfDue follow words passed
       → Ending follow words talk_after faults faults_after passed 5
   -- memory was wanting, and whole answers are written
-  out_of_memory : AreWhole follow passed → Ending follow words talk_after faults faults_after passed 6
+  out_of_memory : AreWhole follow passed
+      → Ending follow words talk_after faults faults_after passed 6
 
--- a stream went from here to there as a conversation without words that was live all the way, and ended or stopped
-abbrev pub GoesOn : Follow → Option Talk → Option Talk → Faults → Faults → Passed → Result ℕ Stop → Type 0
+-- a stream went from here to there as a conversation without words that was live all the way, and
+-- ended or stopped
+abbrev pub GoesOn : Follow → Option Talk → Option Talk → Faults → Faults → Passed → Result ℕ Stop
+    → Type 0
 GoesOn follow talk talk_after faults faults_after before result =
     (passed : Passed) × Converses follow talk talk_after before passed
-    × MatchResult result (Ending follow 0 talk_after faults faults_after passed) (HasStopped follow 0 faults faults_after passed)
+    × MatchResult result (Ending follow 0 talk_after faults faults_after passed)
+    (HasStopped follow 0 faults faults_after passed)
 
--- Nothing was read or written before; then the stream went from here to there as a conversation that was live all the way, and
--- ended as this status says.
-pub record IsServed (follow : Follow) (words : ℕ) (talk talk_after : Option Talk) (faults faults_after : Faults) (status : ℕ) : Type 0 where
+-- Nothing was read or written before; then the stream went from here to there as a conversation
+-- that was live all the way, and ended as this status says.
+pub record IsServed (follow : Follow) (words : ℕ) (talk talk_after : Option Talk)
+    (faults faults_after : Faults) (status : ℕ) : Type 0 where
   pub passed : Passed
   pub conversation : Converses follow talk talk_after (record { read = []; written = [] }) passed
   pub ending : Ending follow words talk_after faults faults_after passed status

@@ -4,7 +4,8 @@ use Rattle.live_lines.specs.Cutting.{Held, all_lines, lines_from}
 use Rattle.two_part.specs.declared.Parts.{Parts}
 use Rattle.two_part.specs.TwoPart.{parts_of}
 
--- which documents are accepted, what is written first for one, and the answer to a line behind it after the lines before that
+-- which documents are accepted, what is written first for one, and the answer to a line behind it
+-- after the lines before that
 pub record Follow : Type 0 where
   pub accepts : List ℕ → Bool
   pub first_text : List ℕ → List ℕ
@@ -16,10 +17,12 @@ answers follow document before [] = []
 answers follow document before (line ∷ lines) =
     follow.answer_of document before line ++ answers follow document (before ++ line ∷ []) lines
 
--- the first text, and then the answer of each line in order; a refused document has only its first text
+-- the first text, and then the answer of each line in order; a refused document has only its first
+-- text
 abbrev pub text_for : Follow → List ℕ → List Held → List ℕ
 text_for follow document lines =
-    follow.first_text document ++ (if follow.accepts document then answers follow document [] lines else [])
+    follow.first_text document
+    ++ (if follow.accepts document then answers follow document [] lines else [])
 
 -- a document lies from the start of its place to before the end
 abbrev pub document_in : List ℕ → Parts → List ℕ
@@ -27,9 +30,11 @@ document_in input parts = drop parts.start (take parts.end input)
 
 abbrev pub text_at : (List ℕ → List Held) → Follow → List ℕ → Option Parts → List ℕ
 text_at lines_in follow input None = []
-text_at lines_in follow input (Some parts) = text_for follow (document_in input parts) (lines_in (drop parts.end input))
+text_at lines_in follow input (Some parts) =
+    text_for follow (document_in input parts) (lines_in (drop parts.end input))
 
--- what the bytes call for so far: nothing before the document is whole, and then the lines that have ended
+-- what the bytes call for so far: nothing before the document is whole, and then the lines that
+-- have ended
 abbrev pub called_for : Follow → List ℕ → List ℕ
 called_for follow bytes = text_at (lines_from (Some [])) follow bytes (parts_of bytes)
 

@@ -77,7 +77,8 @@ fn last_line<F: Follower, S: Stream>(
         → IsUpTo F.follow F.has_followed front document follower.old cutter.now before
         → (after : Passed) × Converses F.follow (S.talk stream.old) (S.talk stream.new) before after
         × MatchResult result
-        (λ _. (IsOver (S.talk stream.old) → IsOver (S.talk stream.new)) × IsAtEnd F.follow front after)
+        (λ _. (IsOver (S.talk stream.old) → IsOver (S.talk stream.new))
+        × IsAtEnd F.follow front after)
         (HasStopped F.follow 0 (S.faults stream.old) (S.faults stream.new) after) }
 {
     if cutter.is_empty() {

@@ -30,14 +30,18 @@ pub trait Follower: Drop + Sized {
         ensures accepted { IfOk result (λ opened. IfSome opened.follower (λ follower.
             (follow.accepts document.now ≡ true) × has_followed follower document.now [])) };
 
-    /// The answer to the next line, made whole; `None` stands for a line that is too long or has not ended.
+    /// The answer to the next line, made whole; `None` stands for a line that is too long or has
+    /// not ended.
     ///
-    /// After an `Err` nothing is said of the follower: memory is wanting, or a number of 64 bits is used up.
+    /// After an `Err` nothing is said of the follower: memory is wanting, or a number of 64 bits is
+    /// used up.
     fn answer(&mut self, alloc: Global, line: Option<&[u8]>) -> Result<Vec<u8>, OutOfMemory>
         ensures text { IfOk result (λ text. (document : List ℕ) (lines : List Held)
             → has_followed self.old document lines
-            → text.items ≡ follow.answer_of document lines (option_map (λ line. line.now) line.entry)) }
+            → text.items
+            ≡ follow.answer_of document lines (option_map (λ line. line.now) line.entry)) }
         ensures followed { OnOk result ((document : List ℕ) (lines : List Held)
             → has_followed self.old document lines
-            → has_followed self.new document (lines ++ option_map (λ line. line.now) line.entry ∷ [])) };
+            → has_followed self.new document
+            (lines ++ option_map (λ line. line.now) line.entry ∷ [])) };
 }

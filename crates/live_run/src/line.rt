@@ -20,12 +20,14 @@ pub(crate) fn answer_line<F: Follower, S: Stream>(
 ) -> Result<(), Stop>
     ensures followed { OnOk result ((document : List ℕ) (lines : List Held)
         → F.has_followed follower.old document lines
-        → F.has_followed follower.new document (lines ++ option_map (λ line. line.now) line.entry ∷ [])) }
+        → F.has_followed follower.new document
+        (lines ++ option_map (λ line. line.now) line.entry ∷ [])) }
     ensures given { OnOk result ((document : List ℕ) (lines : List Held)
         → F.has_followed follower.old document lines → Gives (S.talk stream.old) (S.talk stream.new)
         (F.follow.answer_of document lines (option_map (λ line. line.now) line.entry))) }
     ensures partly { IsErrOf result Stop.WriteFault → (document : List ℕ) (lines : List Held)
-        → F.has_followed follower.old document lines → GivesFirst (S.talk stream.old) (S.talk stream.new)
+        → F.has_followed follower.old document lines
+        → GivesFirst (S.talk stream.old) (S.talk stream.new)
         (F.follow.answer_of document lines (option_map (λ line. line.now) line.entry)) }
     ensures fault { IsErrOf result Stop.WriteFault
         → HasRisen (S.faults stream.old).writes (S.faults stream.new).writes }
@@ -91,10 +93,12 @@ fn answer_byte<F: Follower, S: Stream>(
         → IsBehind F.has_followed document follower.new cutter.new (now ++ byte ∷ [])) }
     ensures given { OnOk result ((document now : List ℕ)
         → IsBehind F.has_followed document follower.old cutter.old now
-        → AnswersPiece F.follow document (S.talk stream.old) (S.talk stream.new) now (now ++ byte ∷ [])) }
+        → AnswersPiece F.follow document (S.talk stream.old) (S.talk stream.new) now
+        (now ++ byte ∷ [])) }
     ensures partly { IsErrOf result Stop.WriteFault → (document now : List ℕ)
         → IsBehind F.has_followed document follower.old cutter.old now
-        → AnswersPart F.follow document (S.talk stream.old) (S.talk stream.new) now (now ++ byte ∷ []) }
+        → AnswersPart F.follow document (S.talk stream.old) (S.talk stream.new) now
+        (now ++ byte ∷ []) }
     ensures fault { IsErrOf result Stop.WriteFault
         → HasRisen (S.faults stream.old).writes (S.faults stream.new).writes }
     ensures nothing { IsErrOf result Stop.OutOfMemory → stream.new ≡ stream.old }

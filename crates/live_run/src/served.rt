@@ -33,8 +33,9 @@ const NO_PARTS: &str = "refused 14 parts\n";
 
 /// Serves one conversation, and answers the status ("`bwe-live`", docs/FORMAT.md).
 ///
-/// `words` are those after the program's name: there are none, and for any the usage line is written. Each answer is made whole
-/// before its first byte is written. It returns provided that the stream's calls return.
+/// `words` are those after the program's name: there are none, and for any the usage line is
+/// written. Each answer is made whole before its first byte is written. It returns provided that
+/// the stream's calls return.
 pub fn serve<F: Follower, S: Stream>(alloc: Global, words: &[String], stream: &mut S) -> u8
     // The stream went from here to there as a conversation that was live all the way and ended as
     // this status allows.
@@ -98,7 +99,8 @@ fn zeros(alloc: Global, size: usize) -> Result<Vec<u8>, AllocError>
 fn write_line<S: Stream>(line: &[u8], stream: &mut S) -> Result<(), Failed>
     ensures given { OnOk result (Gives (S.talk stream.old) (S.talk stream.new) line.now) }
     ensures partly { OnErr result (GivesFirst (S.talk stream.old) (S.talk stream.new) line.now) }
-    ensures fault { OnErr result (HasRisen (S.faults stream.old).writes (S.faults stream.new).writes) }
+    ensures fault { OnErr result
+        (HasRisen (S.faults stream.old).writes (S.faults stream.new).writes) }
 {
     match stream.write(line) {
         Ok(()) => Ok(()),
@@ -156,7 +158,8 @@ fn follow_document<F: Follower, S: Stream>(
     requires some { 0 < length buffer.old }
     requires document { HasDocument bytes.items parts }
     ensures { GoesOn F.follow (S.talk stream.old) (S.talk stream.new)
-        (S.faults stream.old) (S.faults stream.new) (record { read = bytes.items; written = [] }) result }
+        (S.faults stream.old) (S.faults stream.new) (record { read = bytes.items; written = [] })
+        result }
 {
     let opened = match open_document::<F, S>(alloc, &bytes, parts, stream) {
         Ok(opened) => opened,
@@ -183,7 +186,10 @@ fn follow_opened<F: Follower, S: Stream>(
     requires followed { F.has_followed follower (document_in bytes.items parts) [] }
     ensures { GoesOn F.follow (S.talk stream.old) (S.talk stream.new)
         (S.faults stream.old) (S.faults stream.new)
-        (record { read = bytes.items; written = F.follow.first_text (document_in bytes.items parts) }) result }
+        (record {
+          read = bytes.items;
+          written = F.follow.first_text (document_in bytes.items parts);
+        }) result }
 {
     let mut cutter = match LineCutter::new(alloc) {
         Ok(cutter) => cutter,
@@ -215,7 +221,8 @@ fn open_document<F: Follower, S: Stream>(
     ensures accepted { IfOk result (λ opened. IfSome opened (λ follower.
         (F.follow.accepts (document_in bytes.now parts) ≡ true)
         × F.has_followed follower (document_in bytes.now parts) [])) }
-    ensures partly { IsErrOf result Stop.WriteFault → GivesFirst (S.talk stream.old) (S.talk stream.new)
+    ensures partly { IsErrOf result Stop.WriteFault
+        → GivesFirst (S.talk stream.old) (S.talk stream.new)
         (F.follow.first_text (document_in bytes.now parts)) }
     ensures fault { IsErrOf result Stop.WriteFault
         → HasRisen (S.faults stream.old).writes (S.faults stream.new).writes }

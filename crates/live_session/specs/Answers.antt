@@ -28,26 +28,33 @@ known_of accepted = record {
 
 -- what lines have made of an accepted document
 abbrev pub standing_in : Accepted → List Held → Standing
-standing_in accepted lines = after_lines (at_first accepted.script) (map (meaning_of (known_of accepted)) lines)
+standing_in accepted lines =
+    after_lines (at_first accepted.script) (map (meaning_of (known_of accepted)) lines)
 
--- the answer to a line of this number: nothing to a report; to a post what has changed since the table that was written
--- last; to `state` the last report of each task and link; and a line to one that is refused
+-- the answer to a line of this number: nothing to a report; to a post what has changed since the
+-- table that was written last; to `state` the last report of each task and link; and a line to one
+-- that is refused
 abbrev pub answer_in : Known → Plan → Standing → ℕ → LineMeaning → List ℕ
 answer_in known plan standing number (NewReport report) = []
 answer_in known plan standing number Post =
-    change_text_of known.names (allocation plan standing.written) (allocation plan standing.accepted)
+    change_text_of known.names (allocation plan standing.written)
+    (allocation plan standing.accepted)
 answer_in known plan standing number State =
-    state_text_of known.names (snapshot (task_count plan) (length plan.capacities) standing.accepted) (length standing.accepted)
+    state_text_of known.names
+    (snapshot (task_count plan) (length plan.capacities) standing.accepted)
+    (length standing.accepted)
 answer_in known plan standing number (Refused cause) = refused_text_of number cause
 
 -- the answer to a line of an accepted document, after those before it; lines count from 1
 abbrev pub answer_after : Accepted → List Held → Held → List ℕ
 answer_after accepted lines line =
-    answer_in (known_of accepted) (plan_of accepted) (standing_in accepted lines) (length lines + 1) (meaning_of (known_of accepted) line)
+    answer_in (known_of accepted) (plan_of accepted) (standing_in accepted lines) (length lines + 1)
+    (meaning_of (known_of accepted) line)
 
 -- the table text of an accepted document, as `bwe solve` writes it
 abbrev pub table_text_of : Accepted → List ℕ
-table_text_of accepted = text_of (known_of accepted).names (allocation (plan_of accepted) accepted.script)
+table_text_of accepted =
+    text_of (known_of accepted).names (allocation (plan_of accepted) accepted.script)
 
 abbrev pub first_by : Result Accepted Refusal → List ℕ
 first_by (Ok accepted) = table_text_of accepted

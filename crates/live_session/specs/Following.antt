@@ -33,4 +33,5 @@ pub record IsSession (session : Session) (accepted : Accepted) (lines : List Hel
 
 -- and by the bytes of the document
 abbrev pub HasFollowed : Session → List ℕ → List Held → Type 0
-HasFollowed session bytes lines = (accepted : Accepted) × (document bytes ≡ Ok accepted) × IsSession session accepted lines
+HasFollowed session bytes lines = (accepted : Accepted) × (document bytes ≡ Ok accepted)
+    × IsSession session accepted lines

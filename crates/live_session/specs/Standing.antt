@@ -15,7 +15,8 @@ at_first script = record { accepted = script; written = script }
 
 -- after a line
 abbrev pub after_line : Standing → LineMeaning → Standing
-after_line standing (NewReport report) = record standing { accepted = standing.accepted ++ report ∷ [] }
+after_line standing (NewReport report) =
+    record standing { accepted = standing.accepted ++ report ∷ [] }
 after_line standing Post = record standing { written = standing.accepted }
 after_line standing State = standing
 after_line standing (Refused cause) = standing

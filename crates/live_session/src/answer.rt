@@ -49,7 +49,8 @@ pub(crate) fn answer_meaning(
 fn post(alloc: Global, core: &mut LiveCore, known: &Known) -> Result<Vec<u8>, OutOfMemory>
     ensures plan { plan_of core.new ≡ plan_of core.old }
     ensures text { IfOk result (λ text. (standing : Standing) → Stands core.old standing
-        → text.items ≡ change_text_of known.now.names (allocation (plan_of core.old) standing.written)
+        → text.items
+        ≡ change_text_of known.now.names (allocation (plan_of core.old) standing.written)
         (allocation (plan_of core.old) standing.accepted)) }
     ensures stands { OnOk result ((standing : Standing) → Stands core.old standing
         → Stands core.new (record standing { written = standing.accepted })) }
@@ -62,7 +63,9 @@ fn post(alloc: Global, core: &mut LiveCore, known: &Known) -> Result<Vec<u8>, Ou
 // Says which reports count.
 fn state(alloc: Global, core: &LiveCore, known: &Known) -> Result<Vec<u8>, OutOfMemory>
     ensures { IfOk result (λ text. (standing : Standing) → Stands core.now standing
-        → text.items ≡ state_text_of known.now.names (snapshot (tasks_of core.now) (links_of core.now) standing.accepted)
+        → text.items
+        ≡ state_text_of known.now.names
+        (snapshot (tasks_of core.now) (links_of core.now) standing.accepted)
         (length standing.accepted)) }
 {
     let reports = core.state(alloc)?;

@@ -2,8 +2,9 @@
 
 ghost use Rattle.live_session.specs.Laws.{KeptTables, NeverBack, PostsAlone, PrintedSnapshot, RefusedLinesAreNoReports, SnapshotPromise};
 
-/// Kept tables: a post is answered by the change from the table that was written last; who makes it to that table's text
-/// has the text that `bwe solve` writes for the document with the accepted reports at the end of its script.
+/// Kept tables: a post is answered by the change from the table that was written last; who makes it
+/// to that table's text has the text that `bwe solve` writes for the document with the accepted
+/// reports at the end of its script.
 pub fn kept_tables()
     ensures { KeptTables }
 {}
@@ -13,7 +14,8 @@ pub fn posts_alone()
     ensures { PostsAlone }
 {}
 
-/// Never back: the counts of reports accepted and written never fall, and no table holds more than was accepted.
+/// Never back: the counts of reports accepted and written never fall, and no table holds more than
+/// was accepted.
 pub fn never_back()
     ensures { NeverBack }
 {}
@@ -23,14 +25,14 @@ pub fn refused_lines_are_no_reports()
     ensures { RefusedLinesAreNoReports }
 {}
 
-/// Snapshot promise: what `state` said, behind the same document with an empty script, has the same table, but for the
-/// count of reports.
+/// Snapshot promise: what `state` said, behind the same document with an empty script, has the same
+/// table, but for the count of reports.
 pub fn snapshot_promise()
     ensures { SnapshotPromise }
 {}
 
-/// The same of the printed bytes: what `state` wrote before its last line, behind the same document with an empty script,
-/// has the same table, but for the count of reports.
+/// The same of the printed bytes: what `state` wrote before its last line, behind the same document
+/// with an empty script, has the same table, but for the count of reports.
 pub fn printed_snapshot()
     ensures { PrintedSnapshot }
 {}

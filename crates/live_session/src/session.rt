@@ -25,7 +25,8 @@ pub struct OpenedSession {
     pub session: Option<LiveSession>,
 }
 
-/// An accepted document and the lines behind it, of which it keeps what now stands and the table that was written last.
+/// An accepted document and the lines behind it, of which it keeps what now stands and the table
+/// that was written last.
 ///
 /// Its memory depends on the document alone.
 #[derive(Drop)]
@@ -40,7 +41,8 @@ impl Model for LiveSession {
 
     ghost Value = { Session };
 
-    ghost view = { λ session. record { core = session.core; known = session.known; lines = session.lines } };
+    ghost view = { λ session.
+        record { core = session.core; known = session.known; lines = session.lines } };
 
     ghost invariant = { λ session. HasOwners session.known session.core };
 }
@@ -49,7 +51,8 @@ impl LiveSession {
     /// Reads a document: the table text and a session, or the line of its refusal.
     pub fn open(alloc: Global, document: &[u8]) -> Result<OpenedSession, OutOfMemory>
         ensures text { IfOk result (λ opened. opened.text.items ≡ first_text document.now) }
-        ensures refused { IfOk result (λ opened. IsNone opened.session → accepts document.now ≡ false) }
+        ensures refused { IfOk result
+            (λ opened. IsNone opened.session → accepts document.now ≡ false) }
         ensures accepted { IfOk result (λ opened. IfSome opened.session (λ session.
             (accepts document.now ≡ true) × HasFollowed session document.now [])) }
     {
@@ -71,12 +74,16 @@ impl LiveSession {
 
     /// The answer to a line; `None` is one that is refused whatever it says.
     ///
-    /// 64 bits count the lines and the reports. Behind the last that they count it says that memory is wanting.
+    /// 64 bits count the lines and the reports. Behind the last that they count it says that memory
+    /// is wanting.
     pub fn answer(&mut self, alloc: Global, line: Option<&[u8]>) -> Result<Vec<u8>, OutOfMemory>
-        ensures text { IfOk result (λ text. (document : List ℕ) (lines : List Held) → HasFollowed self.old document lines
+        ensures text { IfOk result
+            (λ text. (document : List ℕ) (lines : List Held) → HasFollowed self.old document lines
             → text.items ≡ answer_of document lines (option_map (λ line. line.now) line.entry)) }
-        ensures followed { OnOk result ((document : List ℕ) (lines : List Held) → HasFollowed self.old document lines
-            → HasFollowed self.new document (lines ++ option_map (λ line. line.now) line.entry ∷ [])) }
+        ensures followed { OnOk result
+            ((document : List ℕ) (lines : List Held) → HasFollowed self.old document lines
+            → HasFollowed self.new document
+            (lines ++ option_map (λ line. line.now) line.entry ∷ [])) }
     {
         if self.lines == u64::MAX || self.core.reports() == u64::MAX {
             return Err(OutOfMemory);
@@ -91,7 +98,9 @@ impl LiveSession {
     // Before any line.
     fn start(alloc: Global, document: Document) -> Result<LiveSession, OutOfMemory>
         requires { IsUsable document }
-        ensures { IfOk result (λ session. (accepted : Accepted) → IsDocumentOf accepted document → IsSession session accepted []) }
+        ensures { IfOk result
+            (λ session. (accepted : Accepted) → IsDocumentOf accepted document
+            → IsSession session accepted []) }
     {
         let Document {
             tree,
@@ -115,7 +124,9 @@ impl LiveSession {
 
     // The text of the table that is written first.
     fn table_text(&self, alloc: Global) -> Result<Vec<u8>, OutOfMemory>
-        ensures { IfOk result (λ text. (accepted : Accepted) → IsSession self.now accepted [] → text.items ≡ table_text_of accepted) }
+        ensures { IfOk result
+            (λ text. (accepted : Accepted) → IsSession self.now accepted []
+            → text.items ≡ table_text_of accepted) }
     {
         let text = table_text(alloc, self.core.table(), self.known.names())?;
         Ok(text)

@@ -23,8 +23,8 @@ pub record Talk : Type 0 where
   pub left : List ℕ
   pub events : List Event
 
--- These events happened, where the object tells them, as it always does or never does: they stand behind the earlier ones, and
--- what they took came from the front.
+-- These events happened, where the object tells them, as it always does or never does: they stand
+-- behind the earlier ones, and what they took came from the front.
 abbrev pub Goes : Option Talk → Option Talk → List Event → Type 0
 Goes None None events = ⊤
 Goes None (Some after) events = ⊥
@@ -39,7 +39,8 @@ gives (byte ∷ bytes) = Gave (byte ∷ bytes) ∷ []
 
 -- some first bytes of a text were given, and no more
 abbrev pub GivesPrefix : Option Talk → Option Talk → List ℕ → Type 0
-GivesPrefix before after text = (count : ℕ) × (count ≤ length text) × Goes before after (gives (take count text))
+GivesPrefix before after text = (count : ℕ) × (count ≤ length text)
+    × Goes before after (gives (take count text))
 
 -- nothing is to come
 abbrev pub IsOver : Option Talk → Type 0

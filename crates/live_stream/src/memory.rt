@@ -10,7 +10,8 @@ use bwe_io::Failed;
 use std::alloc::{AllocError, Global};
 use std::marker::Model;
 
-/// Gives its input in pieces, takes texts as far as there is room, and keeps all that happened, in its order.
+/// Gives its input in pieces, takes texts as far as there is room, and keeps all that happened, in
+/// its order.
 ///
 /// Each event is copied, so a read or a write that finds no memory for it is a fault too.
 #[derive(Drop)]
@@ -44,7 +45,8 @@ impl Model for MemoryStream {
 }
 
 impl MemoryStream {
-    /// Gives at most `chunk` bytes a read. Reads fail after `sure_reads` of them, and writes after `room` bytes.
+    /// Gives at most `chunk` bytes a read. Reads fail after `sure_reads` of them, and writes after
+    /// `room` bytes.
     pub fn new(
         alloc: Global,
         input: Vec<u8>,
@@ -84,7 +86,8 @@ impl MemoryStream {
         ensures faults { self.new.faults ≡ self.old.faults }
         ensures taken { MatchOption result
             (Goes (Some self.old.talk) (Some self.new.talk) [])
-            (λ count. Goes (Some self.old.talk) (Some self.new.talk) (Took (take count buffer.new) ∷ [])) }
+            (λ count. Goes (Some self.old.talk) (Some self.new.talk)
+            (Took (take count buffer.new) ∷ [])) }
         ensures fits { MatchOption result (0 ≤ 0) (λ count. count ≤ length buffer.new) }
         ensures end { MatchOption result (0 ≤ 0) (λ count. count ≡ 0 → self.new.talk.left ≡ []) }
     {
@@ -100,7 +103,8 @@ impl MemoryStream {
     // Notes the text as given, where there is memory.
     fn note_given(&mut self, text: &[u8]) -> Result<(), AllocError>
         ensures faults { self.new.faults ≡ self.old.faults }
-        ensures given { OnOk result (Goes (Some self.old.talk) (Some self.new.talk) (gives text.now)) }
+        ensures given { OnOk result
+            (Goes (Some self.old.talk) (Some self.new.talk) (gives text.now)) }
         ensures nothing { OnErr result (Goes (Some self.old.talk) (Some self.new.talk) []) }
     {
         if text.is_empty() {
@@ -111,7 +115,8 @@ impl MemoryStream {
         Ok(())
     }
 
-    // Gives the first bytes of the text for which there is room, where there is memory to note them.
+    // Gives the first bytes of the text for which there is room, where there is memory to note
+    // them.
     fn give_part(&mut self, text: &[u8])
         ensures faults { self.new.faults ≡ self.old.faults }
         ensures given { GivesPrefix (Some self.old.talk) (Some self.new.talk) text.now }

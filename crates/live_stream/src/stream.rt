@@ -14,7 +14,8 @@ pub trait Stream {
     /// How often a read and a write failed.
     ghost faults: { Self → Faults };
 
-    /// Puts the next bytes into the front of the buffer as they come, and says how many. None is the end of input.
+    /// Puts the next bytes into the front of the buffer as they come, and says how many. None is
+    /// the end of input.
     fn read(&mut self, buffer: &mut [u8]) -> Result<usize, Failed>
         requires { 0 < length buffer.old }
         ensures fits { IfOk result (λ count. count ≤ length buffer.new) }
@@ -26,10 +27,12 @@ pub trait Stream {
         ensures counted { NeverFall (faults self.old) (faults self.new) }
         ensures failed { OnErr result (HasRisen (faults self.old).reads (faults self.new).reads) };
 
-    /// Gives all of the text, which has left when the call returns. After a fault a prefix of it was given.
+    /// Gives all of the text, which has left when the call returns. After a fault a prefix of it
+    /// was given.
     fn write(&mut self, text: &[u8]) -> Result<(), Failed>
         ensures whole { OnOk result (Goes (talk self.old) (talk self.new) (gives text.now)) }
         ensures prefix { OnErr result (GivesPrefix (talk self.old) (talk self.new) text.now) }
         ensures counted { NeverFall (faults self.old) (faults self.new) }
-        ensures failed { OnErr result (HasRisen (faults self.old).writes (faults self.new).writes) };
+        ensures failed { OnErr result
+            (HasRisen (faults self.old).writes (faults self.new).writes) };
 }

@@ -6,8 +6,12 @@ use Rattle.bwe_specs.specs.Filling.{Wan, filling, group_stop}
 use Rattle.link_sums.specs.Sums.{rows_in}
 use Rattle.mpfa_fill.specs.declared.steps.Filling.{Filling}
 
--- the closings in their order, the amounts by group and place, and the stop shares are those of the filling
+-- the closings in their order, the amounts by group and place, and the stop shares are those of the
+-- filling
 pub record IsFilling (wan : Wan) (filled : Filling) : Type 0 where
   pub closings : filled.closings.items ≡ reverse (filling wan).closings
-  pub amounts : rows_in filled.amounts.items ≡ map (λ group. map ((filling wan).amounts group) (numbers (path_group_count wan.groups group))) (numbers (length wan.groups))
-  pub shares : filled.shares.items ≡ map (group_stop wan (filling wan)) (numbers (length wan.groups))
+  pub amounts : rows_in filled.amounts.items
+      ≡ map (λ group. map ((filling wan).amounts group)
+      (numbers (path_group_count wan.groups group))) (numbers (length wan.groups))
+  pub shares : filled.shares.items
+      ≡ map (group_stop wan (filling wan)) (numbers (length wan.groups))

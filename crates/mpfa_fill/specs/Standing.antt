@@ -11,7 +11,8 @@ abbrev pub IsStanding : Wan → List Closing → ℕ → ℕ → Standing → Ty
 IsStanding wan closings share group (Grows place value) =
     (current_path_group_of wan closings group ≡ Some place) × (value ≡ wan.value group share)
 IsStanding wan closings share group (Stopped at) =
-    (current_path_group_of wan closings group ≡ None) × ((until : ℕ) → stop_share (slice_index_or wan.groups group []) closings until ≡ at)
+    (current_path_group_of wan closings group ≡ None)
+    × ((until : ℕ) → stop_share (slice_index_or wan.groups group []) closings until ≡ at)
 
 -- the path group on which the group grows is one of its own
 abbrev pub IsPlaced : List PathGroups → ℕ → Standing → Type 0
@@ -23,12 +24,13 @@ abbrev pub standing_of : Option ℕ → ℕ → ℕ → Standing
 standing_of (Some place) value share = Grows place value
 standing_of None value share = Stopped share
 
--- how a group stands after one more closing, under all closed links: where its path group uses the link, it goes on
--- with the next one that is open
+-- how a group stands after one more closing, under all closed links: where its path group uses the
+-- link, it goes on with the next one that is open
 abbrev pub standing_under : List PathGroups → ℕ → List ℕ → Closing → Standing → Standing
 standing_under groups group closed closing (Grows place value) =
     if uses (path_group_at groups group place) closing.link
-    then standing_of (current_path_group (slice_index_or groups group []) closed) value closing.share
+    then standing_of (current_path_group (slice_index_or groups group []) closed) value
+    closing.share
     else Grows place value
 standing_under groups group closed closing (Stopped at) = Stopped at
 

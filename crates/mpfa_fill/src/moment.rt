@@ -33,7 +33,8 @@ pub struct Moment<'a, V: GroupValues> {
     sums: LinkSums,
 }
 
-/// A group that grows over a link: where, how much it has there, and its value, all at the share of a moment.
+/// A group that grows over a link: where, how much it has there, and its value, all at the share of
+/// a moment.
 #[derive(Clone, Copy)]
 struct Term {
     group: u32,
@@ -88,7 +89,8 @@ impl<'a, V: GroupValues> Moment<'a, V> {
 
     /// Goes to another share under the same closings, up or down. It takes no memory.
     ///
-    /// It evaluates each group that still grows once, and touches the links of its path group alone.
+    /// It evaluates each group that still grows once, and touches the links of its path group
+    /// alone.
     pub fn go_to(&mut self, share: u64)
         requires moment { IsMoment V.meaning self.old }
         requires last { last_share (state_of self.old).closings ≤ share }
@@ -129,9 +131,11 @@ impl<'a, V: GroupValues> Moment<'a, V> {
         self.sums.first_over(self.topology)
     }
 
-    /// The greatest share from `low` to `high` at which the link by itself fits, whatever becomes of the others.
+    /// The greatest share from `low` to `high` at which the link by itself fits, whatever becomes
+    /// of the others.
     ///
-    /// It asks for the values of the groups that grow over the link, some 30 times each, and of no others.
+    /// It asks for the values of the groups that grow over the link, some 30 times each, and of no
+    /// others.
     pub fn last_fit(
         &self,
         alloc: Global,
@@ -154,7 +158,8 @@ impl<'a, V: GroupValues> Moment<'a, V> {
         Ok(self.last_fit_below(&terms, link, low, high))
     }
 
-    /// Closes the link at the share. A group that grew over it goes on with its next open path group.
+    /// Closes the link at the share. A group that grew over it goes on with its next open path
+    /// group.
     pub fn close_link(&mut self, link: u32) -> Result<(), OutOfMemory>
         requires moment { IsMoment V.meaning self.old }
         requires right { IsRightAfter (wan_in V.meaning self.old) (state_of self.old).closings
@@ -163,7 +168,8 @@ impl<'a, V: GroupValues> Moment<'a, V> {
         ensures wan { OnOk result (wan_in V.meaning self.new ≡ wan_in V.meaning self.old) }
         ensures share { OnOk result ((state_of self.new).share ≡ (state_of self.old).share) }
         ensures closings { OnOk result ((state_of self.new).closings
-            ≡ record { link = link; share = (state_of self.old).share } ∷ (state_of self.old).closings) }
+            ≡ record { link = link; share = (state_of self.old).share }
+            ∷ (state_of self.old).closings) }
     {
         let closing = Closing {
             link,
@@ -184,8 +190,8 @@ impl<'a, V: GroupValues> Moment<'a, V> {
         Ok(())
     }
 
-    /// One step of the filling, below the top ("Filling step", docs/DEFINITIONS.md): the share rises by one, or where a
-    /// link would be over, the lowest such link is closed.
+    /// One step of the filling, below the top ("Filling step", docs/DEFINITIONS.md): the share
+    /// rises by one, or where a link would be over, the lowest such link is closed.
     pub fn step(&mut self) -> Result<(), OutOfMemory>
         requires moment { IsMoment V.meaning self.old }
         requires reached { IsReached (wan_in V.meaning self.old) (state_of self.old) }
@@ -208,7 +214,8 @@ impl<'a, V: GroupValues> Moment<'a, V> {
     fn terms_on(&self, alloc: Global, link: u32) -> Result<Vec<Term>, OutOfMemory>
         requires moment { IsMoment V.meaning self.now }
         requires link { link < length self.now.topology.now.capacities }
-        ensures { IfOk result (λ terms. AreTermsOn (wan_in V.meaning self.now) (state_of self.now).closings
+        ensures { IfOk result
+            (λ terms. AreTermsOn (wan_in V.meaning self.now) (state_of self.now).closings
             (state_of self.now).share link terms.items) }
     {
         let mut terms = Vec::new(alloc);
@@ -224,8 +231,10 @@ impl<'a, V: GroupValues> Moment<'a, V> {
     fn term_of(&self, group: u32, link: u32) -> Option<Term>
         requires moment { IsMoment V.meaning self.now }
         requires group { group < length self.now.plan.now }
-        ensures { MatchOption result (GrowsNotOver (wan_in V.meaning self.now) (state_of self.now).closings link group)
-            (IsTermOf (wan_in V.meaning self.now) (state_of self.now).closings (state_of self.now).share group) }
+        ensures { MatchOption result
+            (GrowsNotOver (wan_in V.meaning self.now) (state_of self.now).closings link group)
+            (IsTermOf (wan_in V.meaning self.now) (state_of self.now).closings
+            (state_of self.now).share group) }
     {
         let Standing::Grows { place, value } = self.standings[group as usize] else {
             return None;
@@ -245,11 +254,13 @@ impl<'a, V: GroupValues> Moment<'a, V> {
     // What the group of the term has at the share, on the path group where it grows.
     fn amount_then(&self, term: Term, share: u64) -> u64
         requires moment { IsMoment V.meaning self.now }
-        requires term { IsTermOf (wan_in V.meaning self.now) (state_of self.now).closings (state_of self.now).share
+        requires term { IsTermOf (wan_in V.meaning self.now) (state_of self.now).closings
+            (state_of self.now).share
             term.group term }
         requires last { last_share (state_of self.now).closings ≤ share }
         requires within { share ≤ (V.meaning self.now.values.now).top }
-        ensures amount { result ≡ amounts_at (wan_in V.meaning self.now) (state_of self.now).closings share
+        ensures amount { result
+            ≡ amounts_at (wan_in V.meaning self.now) (state_of self.now).closings share
             term.group term.place }
         ensures small { result ≤ MAX_TOTAL }
     {
@@ -264,7 +275,8 @@ impl<'a, V: GroupValues> Moment<'a, V> {
             (state_of self.now).share link terms.now }
         requires last { last_share (state_of self.now).closings ≤ share }
         requires within { share ≤ (V.meaning self.now.values.now).top }
-        ensures { result ≡ is_over_at (wan_in V.meaning self.now) (state_of self.now).closings share link }
+        ensures { result
+            ≡ is_over_at (wan_in V.meaning self.now) (state_of self.now).closings share link }
     {
         let mut load = self.sums.load(link) as u128;
         let mut held = self.topology.capacity(link) as u128;
@@ -285,8 +297,10 @@ impl<'a, V: GroupValues> Moment<'a, V> {
         requires last { last_share (state_of self.now).closings ≤ low }
         requires order { low < high }
         requires within { high ≤ (V.meaning self.now.values.now).top }
-        requires over { is_over_at (wan_in V.meaning self.now) (state_of self.now).closings high link ≡ true }
-        ensures { IsLastFit (wan_in V.meaning self.now) (state_of self.now).closings link low high result }
+        requires over { is_over_at (wan_in V.meaning self.now) (state_of self.now).closings high
+            link ≡ true }
+        ensures { IsLastFit (wan_in V.meaning self.now) (state_of self.now).closings link low high
+            result }
     {
         let mut low = low;
         let mut high = high - 1;
@@ -305,7 +319,8 @@ impl<'a, V: GroupValues> Moment<'a, V> {
     pub fn into_filling(self, alloc: Global) -> Result<Filling, OutOfMemory>
         requires moment { IsMoment V.meaning self }
         requires at_top { (state_of self).share ≡ (V.meaning self.values.now).top }
-        requires fits { over_at (wan_in V.meaning self) (state_of self).closings (state_of self).share ≡ None }
+        requires fits { over_at (wan_in V.meaning self) (state_of self).closings
+            (state_of self).share ≡ None }
         ensures { IfOk result (IsFilling (wan_in V.meaning self.entry)) }
     {
         let amounts = amounts_of(alloc, self.plan, &self.sums)?;
@@ -327,7 +342,8 @@ pub fn change(sums: &mut LinkSums, plan: &PathPlan, group: u32, place: u32, from
     requires amount { from - to ≤ amount_at sums.old.amounts group place }
     ensures summed { IsSummedOver plan.now sums.new }
     ensures links { length sums.new.loads ≡ length sums.old.loads }
-    ensures amount { amount_at sums.new.amounts group place + from ≡ amount_at sums.old.amounts group place + to }
+    ensures amount { amount_at sums.new.amounts group place + from
+        ≡ amount_at sums.old.amounts group place + to }
     ensures others { (group' place' : ℕ) → (group' ≡ group → place' ≡ place → ⊥)
         → amount_at sums.new.amounts group' place' ≡ amount_at sums.old.amounts group' place' }
 {
@@ -346,7 +362,8 @@ pub fn amounts_of(
 ) -> Result<Vec<Vec<u64>>, OutOfMemory>
     requires { IsSummedOver plan.now sums.now }
     ensures { IfOk result (λ rows. rows_in rows.items
-        ≡ map (λ group. map (amount_at sums.now.amounts group) (numbers (path_group_count plan.now group))) (numbers (length plan.now))) }
+        ≡ map (λ group. map (amount_at sums.now.amounts group)
+        (numbers (path_group_count plan.now group))) (numbers (length plan.now))) }
 {
     let mut rows = Vec::new(alloc);
     for group in 0..plan.groups() {
@@ -364,7 +381,9 @@ fn row_of(
 ) -> Result<Vec<u64>, OutOfMemory>
     requires rows { IsSummedOver plan.now sums.now }
     requires group { group < length plan.now }
-    ensures { IfOk result (λ row. row.items ≡ map (amount_at sums.now.amounts group) (numbers (path_group_count plan.now group))) }
+    ensures { IfOk result
+        (λ row. row.items
+        ≡ map (amount_at sums.now.amounts group) (numbers (path_group_count plan.now group))) }
 {
     let mut row = Vec::new(alloc);
     for place in 0..plan.places(group) {

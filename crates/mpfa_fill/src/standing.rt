@@ -74,7 +74,8 @@ fn standing_on(current: Option<u32>, value: u64, share: u64) -> Standing
 // The path group on which the group grows under these closings.
 fn current_path_group(plan: &PathPlan, group: u32, closings: &[Closing]) -> Option<u32>
     requires { group < length plan.now }
-    ensures { result ≡ path_group_under (slice_index_or plan.now group []) (closed_links closings.now) }
+    ensures { result
+        ≡ path_group_under (slice_index_or plan.now group []) (closed_links closings.now) }
 {
     for place in 0..plan.places(group) {
         if !uses_closed(plan, group, place, closings) {
@@ -88,7 +89,9 @@ fn current_path_group(plan: &PathPlan, group: u32, closings: &[Closing]) -> Opti
 fn uses_closed(plan: &PathPlan, group: u32, place: u32, closings: &[Closing]) -> bool
     requires group { group < length plan.now }
     requires place { place < path_group_count plan.now group }
-    ensures { result ≡ list_any (λ closing. uses (path_group_at plan.now group place) closing.link) closings.now }
+    ensures { result
+        ≡ list_any (λ closing. uses (path_group_at plan.now group place) closing.link)
+        closings.now }
 {
     for closing in closings {
         if plan.uses(group, place, closing.link) {

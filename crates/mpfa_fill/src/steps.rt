@@ -12,7 +12,8 @@ use path_groups::PathPlan;
 use std::alloc::Global;
 use wan_topology::Topology;
 
-/// What a filling gives: the closings in their order, the amounts by group and place, and each group's stop share.
+/// What a filling gives: the closings in their order, the amounts by group and place, and each
+/// group's stop share.
 ///
 /// Amounts are kilobits per second. A place of a group is the number of a path group in its list.
 #[derive(Drop)]
@@ -22,11 +23,11 @@ pub struct Filling {
     pub shares: Vec<u64>,
 }
 
-/// The filling of the values over the paths of the plan, between the capacities of the topology ("Filling", "Stop
-/// share", docs/DEFINITIONS.md).
+/// The filling of the values over the paths of the plan, between the capacities of the topology
+/// ("Filling", "Stop share", docs/DEFINITIONS.md).
 ///
-/// The share of all groups rises by one at a time. Where a step would put links over, the lowest of them is closed in
-/// its place.
+/// The share of all groups rises by one at a time. Where a step would put links over, the lowest of
+/// them is closed in its place.
 pub fn fill_by_steps<V: GroupValues>(
     alloc: Global,
     values: &V,
@@ -35,7 +36,8 @@ pub fn fill_by_steps<V: GroupValues>(
 ) -> Result<Filling, OutOfMemory>
     requires built_on { IsBuiltOn topology.now plan.now }
     requires groups { (V.meaning values.now).groups ≡ length plan.now }
-    ensures { IfOk result (IsFilling (wan_of (V.meaning values.now) plan.now topology.now.capacities)) }
+    ensures { IfOk result
+        (IsFilling (wan_of (V.meaning values.now) plan.now topology.now.capacities)) }
 {
     let top = values.top();
     let mut moment = Moment::first(alloc, values, topology, plan)?;

@@ -9,14 +9,16 @@ use Rattle.mpfa_fill.specs.declared.moment.Moment.{Moment}
 
 -- every link fits at the share, in a search that begins at a lower one
 abbrev pub fits_from : Wan → List Closing → ℕ → ℕ → Bool
-fits_from wan closings low share = nat_le share low || (nat_le share wan.top && is_none (over_at wan closings share))
+fits_from wan closings low share =
+    nat_le share low || (nat_le share wan.top && is_none (over_at wan closings share))
 
 -- what is filled where nothing is
 abbrev pub no_wan : Wan
 no_wan = record { top = 0; value = λ group share. 0; groups = []; capacities = [] }
 
 -- a moment under these closings, which are followed from a share up to the top
-pub record IsRise {V : Type 0} (meaning : V → Values) (wan : Wan) (closings : List Closing) (from : ℕ) (moment : Moment V) (low top : ℕ) : Type 0 where
+pub record IsRise {V : Type 0} (meaning : V → Values) (wan : Wan) (closings : List Closing)
+    (from : ℕ) (moment : Moment V) (low top : ℕ) : Type 0 where
   pub is_moment : IsMoment meaning moment
   pub same_wan : wan_in meaning moment ≡ wan
   pub same_closings : (state_of moment).closings ≡ closings

@@ -5,7 +5,8 @@ use Rattle.bwe_specs.specs.Filling.{State}
 
 -- the share of the hint for the closing at this place, or else the top, but none outside the search
 abbrev pub hint_of : List Closing → ℕ → ℕ → ℕ → ℕ
-hint_of hints place low top = min top (max low (slice_index_or hints place (record { link = 0; share = top })).share)
+hint_of hints place low top =
+    min top (max low (slice_index_or hints place (record { link = 0; share = top })).share)
 
 -- how many searches led to a state: one for each closing, and one that came to the top
 abbrev pub searches : ℕ → State → ℕ

@@ -19,12 +19,13 @@ use std::marker::Brand;
 use std::sync::ledger::Ledger;
 use wan_topology::Topology;
 
-/// The filling of the values over the paths of the plan, between the capacities of the topology ("Filling", "Stop
-/// share", docs/DEFINITIONS.md), found by one search for each closing.
+/// The filling of the values over the paths of the plan, between the capacities of the topology
+/// ("Filling", "Stop share", docs/DEFINITIONS.md), found by one search for each closing.
 ///
-/// The hints say where links may close; they change the number of tests alone. The search for the closing at a place of
-/// the answer is begun at the share after that of the hint there. Where there is none, it is begun at the greatest share
-/// at which a link that an earlier search named by itself fits, or at the top.
+/// The hints say where links may close; they change the number of tests alone. The search for the
+/// closing at a place of the answer is begun at the share after that of the hint there. Where there
+/// is none, it is begun at the greatest share at which a link that an earlier search named by
+/// itself fits, or at the top.
 pub fn solve<'a, V: GroupValues, L: Ledger>(
     alloc: Global,
     values: &'a V,
@@ -39,9 +40,11 @@ pub fn solve<'a, V: GroupValues, L: Ledger>(
         (IsFilling (wan_of (V.meaning values.now) plan.now topology.now.capacities)) }
 
     // Also where memory is wanting.
-    ensures ticks { let closings = (filling (wan_of (V.meaning values.now) plan.now topology.now.capacities)).closings in
+    ensures ticks { let closings =
+        (filling (wan_of (V.meaning values.now) plan.now topology.now.capacities)).closings in
         steps.new ≤ steps.old + 62 * (length closings + 1) }
-    ensures right_hints { let closings = (filling (wan_of (V.meaning values.now) plan.now topology.now.capacities)).closings in
+    ensures right_hints { let closings =
+        (filling (wan_of (V.meaning values.now) plan.now topology.now.capacities)).closings in
         hints.now ≡ reverse closings → steps.new ≤ steps.old + 2 * (length closings + 1) }
 {
     let top = values.top();
@@ -74,7 +77,8 @@ fn advanced<'a, V: GroupValues, L: Ledger>(
     requires left { 62 ≤ notes.old.left }
     ensures moment { IfOk result (IsMoment V.meaning) }
     ensures wan { IfOk result (λ next. wan_in V.meaning next ≡ wan_in V.meaning moment.entry) }
-    ensures reached { IfOk result (λ next. IsReached (wan_in V.meaning moment.entry) (state_of next)) }
+    ensures reached { IfOk result
+        (λ next. IsReached (wan_in V.meaning moment.entry) (state_of next)) }
     ensures search { IfOk result (λ next.
         searches top (state_of next) ≡ searches top (state_of moment.entry) + 1) }
     ensures named { OnOk result (AreLinks (wan_in V.meaning moment.entry) notes.new.named.items) }

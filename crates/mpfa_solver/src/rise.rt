@@ -17,8 +17,8 @@ use std::sync::ledger::Ledger;
 /// How many looks `greatest_fit` makes at most.
 const SEARCH: u64 = 60;
 
-/// Which search it is: what is filled, the closings that stand meanwhile, and the share that it begins at. Each call
-/// picks its own.
+/// Which search it is: what is filled, the closings that stand meanwhile, and the share that it
+/// begins at. Each call picks its own.
 pub trait Search {
     ghost wan: { Wan };
 
@@ -79,9 +79,9 @@ impl<V: GroupValues, S: Search> Level for Rise<'_, V, S> {
 
 // Takes a moment to the greatest share up to the top at which every link fits under its closings.
 //
-// It tests at a bound above which nothing fits. A failed test names a link that is over, and the greatest share at which
-// that link by itself fits is the next bound. Where so many tests fail that those left would not do for a search by
-// halves, that search has the rest.
+// It tests at a bound above which nothing fits. A failed test names a link that is over, and the
+// greatest share at which that link by itself fits is the next bound. Where so many tests fail that
+// those left would not do for a search by halves, that search has the rest.
 pub(crate) fn risen<'a, V: GroupValues, S: Search, L: Ledger>(
     alloc: Global,
     moment: Moment<'a, V>,
@@ -123,7 +123,8 @@ pub(crate) fn risen<'a, V: GroupValues, S: Search, L: Ledger>(
     Ok(moment)
 }
 
-// The first bound of a search: from the share after the hint, or else from the links that were named before.
+// The first bound of a search: from the share after the hint, or else from the links that were
+// named before.
 fn first_bound<V: GroupValues, S: Search, L: Ledger>(
     alloc: Global,
     moment: &mut Moment<V>,
@@ -155,7 +156,8 @@ fn first_bound<V: GroupValues, S: Search, L: Ledger>(
     Ok(named_bound::<V, S>(alloc, moment, low, top, notes)?)
 }
 
-// The bound by the link that was named last of those that are over somewhere up to the top. The others are forgotten.
+// The bound by the link that was named last of those that are over somewhere up to the top. The
+// others are forgotten.
 fn named_bound<V: GroupValues, S: Search>(
     alloc: Global,
     moment: &Moment<V>,
@@ -242,7 +244,8 @@ fn risen_by_halves<'a, V: GroupValues, S: Search, L: Ledger>(
     ensures moment { IsMoment V.meaning result }
     ensures wan { wan_in V.meaning result ≡ S.wan }
     ensures closings { (state_of result).closings ≡ S.closings }
-    ensures answer { IsGreatestFit (fits_from S.wan S.closings S.low) S.low S.wan.top (state_of result).share }
+    ensures answer { IsGreatestFit (fits_from S.wan S.closings S.low) S.low S.wan.top
+        (state_of result).share }
     ensures ticks { steps.new ≤ steps.old + 60 }
 {
     let mut rise: Rise<V, S> = Rise {

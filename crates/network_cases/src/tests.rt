@@ -9,12 +9,13 @@ use link_solver::solve_by_links;
 use mono_search::Steps;
 use mpfa_fill::{Closing, Filling, fill_by_steps};
 use mpfa_solver::solve;
-use std::alloc::Global;
+use path_groups::GroupSpec;
+use std::alloc::{AllocError, Global};
 use std::marker::Brand;
 use std::process::Abort;
 use std::sync::ledger::{Blank, Ledger};
 use std::test::Fail;
-use wan_topology::Topology;
+use wan_topology::{LinkSpec, Topology};
 
 // The filling by jumps, on a counter of its own.
 fn solved<L: Ledger>(
@@ -90,13 +91,22 @@ fn made(rt: &impl Abort, alloc: Global, size: Size, seed: u64) -> Result<Case, F
     Ok(case_of(alloc, topology, groups, slopes)?.expect(rt, "in range"))
 }
 
-// The case Lowest link first, with one group more, alone on a link that is never over.
-fn lowest_link_first(rt: &impl Abort, alloc: Global) -> Result<Case, Fail> {
+// The links of the case Lowest link first, and one more that is never over.
+fn lowest_first_links(alloc: Global) -> Result<Vec<LinkSpec>, AllocError> {
     let mut links = Vec::new(alloc);
-    links.push(link(alloc, "l0", "a", "b", 11)?)?;
-    links.push(link(alloc, "l1", "a", "m", 10)?)?;
-    links.push(link(alloc, "l2", "m", "b", 21)?)?;
-    links.push(link(alloc, "alone", "a", "b", 100)?)?;
+    for (name, from, to, capacity) in [
+        ("l0", "a", "b", 11),
+        ("l1", "a", "m", 10),
+        ("l2", "m", "b", 21),
+        ("alone", "a", "b", 100),
+    ] {
+        links.push(link(alloc, name, from, to, capacity)?)?;
+    }
+    Ok(links)
+}
+
+// The groups of that case, and one more, alone on the link that is never over.
+fn lowest_first_groups(alloc: Global) -> Result<Vec<GroupSpec>, AllocError> {
     let first = vec![in alloc; one_path(alloc, &[1, 2])?, one_path(alloc, &[0])?]?;
     let mut groups = Vec::new(alloc);
     groups.push(from_to(alloc, "a", "b", first)?)?;
@@ -104,22 +114,92 @@ fn lowest_link_first(rt: &impl Abort, alloc: Global) -> Result<Case, Fail> {
         let alone = vec![in alloc; one_path(alloc, &[over])?]?;
         groups.push(from_to(alloc, from, "b", alone)?)?;
     }
+    Ok(groups)
+}
+
+// The case Lowest link first, with one group more, alone on a link that is never over.
+fn lowest_link_first(rt: &impl Abort, alloc: Global) -> Result<Case, Fail> {
+    let topology = Topology::build(alloc, lowest_first_links(alloc)?)?;
+    let groups = lowest_first_groups(alloc)?;
     let slope = Slope {
         rise: 1,
         demand: 100,
         again: 100,
     };
     let slopes = Slopes::new(100, vec![in alloc; slope; 4]?);
-    let topology = Topology::build(alloc, links)?;
     Ok(case_of(alloc, topology, groups, slopes)?.expect(rt, "in range"))
 }
 
-// From no hint it takes under three tests a closing. The hints of the case Useless hints name other
-// links and shares.
-#[test]
-fn the_lowest_link_is_closed_first(rt: HostRuntime) -> Result<(), Fail> {
-    let alloc = rt.alloc();
-    let case = lowest_link_first(&rt, alloc)?;
+// Whether the filling by jumps from the hints is this one.
+fn is_solved_alike(
+    alloc: Global,
+    case: &Case,
+    hints: &[Closing],
+    filling: &Filling,
+) -> Result<bool, OutOfMemory> {
+    let (solved, _) = solved_from(alloc, case, hints)?;
+    Ok(are_equal(&solved, filling))
+}
+
+// Whether the filling by links is this one.
+fn is_linked_alike(alloc: Global, case: &Case, filling: &Filling) -> Result<bool, OutOfMemory> {
+    let linked = solve_by_links(alloc, &case.values, &case.topology, &case.plan)?;
+    Ok(are_equal(&linked, filling))
+}
+
+// Whether the filling by links is this one, and that by jumps without hints, from these and from
+// its own closings; and the check says Right of its closings alone.
+fn all_agree(
+    alloc: Global,
+    case: &Case,
+    hints: &[Closing],
+    filling: &Filling,
+) -> Result<bool, OutOfMemory> {
+    let right = filling.closings.as_slice();
+    Ok(
+        is_linked_alike(alloc, case, filling)?
+            && is_solved_alike(alloc, case, &[], filling)?
+            && is_solved_alike(alloc, case, hints, filling)?
+            && is_solved_alike(alloc, case, right, filling)?
+            && are_right_alone(alloc, case, right)?,
+    )
+}
+
+// The closings of the filling by steps, where all others agree with it.
+fn agreed_closings(
+    alloc: Global,
+    case: &Case,
+    hints: &[Closing],
+) -> Result<Option<Vec<Closing>>, OutOfMemory> {
+    let stepped = fill_by_steps(alloc, &case.values, &case.topology, &case.plan)?;
+    if all_agree(alloc, case, hints, &stepped)? {
+        Ok(Some(stepped.closings))
+    } else {
+        Ok(None)
+    }
+}
+
+// Whether the filling by jumps from no hint is that by links, which has more closings than these,
+// and took under three tests a closing.
+fn takes_few_tests(alloc: Global, case: &Case, fewer: usize) -> Result<bool, OutOfMemory> {
+    let (solved, tests) = solved_from(alloc, case, &[])?;
+    let closings = solved.closings.len();
+    Ok(
+        fewer < closings
+            && tests < (closings as u64).saturating_mul(3)
+            && is_linked_alike(alloc, case, &solved)?,
+    )
+}
+
+// Whether the filling by jumps from no hint closes a link, and is that by links.
+fn both_agree(alloc: Global, case: &Case) -> Result<bool, OutOfMemory> {
+    let (solved, _) = solved_from(alloc, case, &[])?;
+    Ok(!solved.closings.is_empty() && is_linked_alike(alloc, case, &solved)?)
+}
+
+// Whether the filling by steps closes as the case Lowest link first says, and that by jumps does so
+// from the hints of the case Useless hints, which name other links and shares.
+fn closes_lowest_first(alloc: Global, case: &Case) -> Result<bool, OutOfMemory> {
     let closings = [
         Closing { link: 1, share: 10 },
         Closing { link: 0, share: 10 },
@@ -130,13 +210,19 @@ fn the_lowest_link_is_closed_first(rt: HostRuntime) -> Result<(), Fail> {
         Closing { link: 9, share: 0 },
     ];
     let stepped = fill_by_steps(alloc, &case.values, &case.topology, &case.plan)?;
-    assert!(rt; stepped.closings.as_slice() == closings.as_slice());
-    assert!(rt; stepped.shares.as_slice() == [10, 11, 10, 100].as_slice());
-    let (filling, tests) = solved_from(alloc, &case, &[])?;
-    assert!(rt; are_equal(&filling, &stepped));
-    assert!(rt; tests < 9, "{tests} tests");
-    let (filling, _) = solved_from(alloc, &case, &useless)?;
-    assert!(rt; are_equal(&filling, &stepped));
+    Ok(
+        stepped.closings.as_slice() == closings.as_slice()
+            && stepped.shares.as_slice() == [10, 11, 10, 100].as_slice()
+            && is_linked_alike(alloc, case, &stepped)?
+            && is_solved_alike(alloc, case, &useless, &stepped)?,
+    )
+}
+
+#[test]
+fn the_lowest_link_is_closed_first(rt: HostRuntime) -> Result<(), Fail> {
+    let alloc = rt.alloc();
+    let case = lowest_link_first(&rt, alloc)?;
+    assert!(rt; closes_lowest_first(alloc, &case)? && takes_few_tests(alloc, &case, 2)?);
     Ok(())
 }
 
@@ -156,16 +242,7 @@ fn all_fillings_agree(rt: HostRuntime) -> Result<(), Fail> {
     let mut before: Vec<Closing> = Vec::new(alloc);
     for seed in 0..300 {
         let case = made(&rt, alloc, size, seed)?;
-        let stepped = fill_by_steps(alloc, &case.values, &case.topology, &case.plan)?;
-        let linked = solve_by_links(alloc, &case.values, &case.topology, &case.plan)?;
-        assert!(rt; are_equal(&linked, &stepped), "at {seed}");
-        let right = stepped.closings.as_slice();
-        for hints in [[].as_slice(), before.as_slice(), right] {
-            let (filling, _) = solved_from(alloc, &case, hints)?;
-            assert!(rt; are_equal(&filling, &stepped), "at {seed}");
-        }
-        assert!(rt; are_right_alone(alloc, &case, right)?, "at {seed}");
-        before = stepped.closings;
+        before = agreed_closings(alloc, &case, &before)?.expect(&rt, "all agree");
     }
     Ok(())
 }
@@ -183,10 +260,7 @@ fn both_solvers_agree_on_wide_links(rt: HostRuntime) -> Result<(), Fail> {
     };
     for seed in 0..3 {
         let case = made(&rt, alloc, size, seed)?;
-        let linked = solve_by_links(alloc, &case.values, &case.topology, &case.plan)?;
-        let (filling, _) = solved_from(alloc, &case, &[])?;
-        assert!(rt; are_equal(&linked, &filling), "at {seed}");
-        assert!(rt; !linked.closings.is_empty(), "at {seed}");
+        assert!(rt; both_agree(alloc, &case)?, "at {seed}");
     }
     Ok(())
 }
@@ -204,13 +278,7 @@ fn a_made_network_takes_under_three_tests_a_closing(rt: HostRuntime) -> Result<(
     };
     for seed in 0..3 {
         let case = made(&rt, alloc, size, seed)?;
-        let (filling, tests) = solved_from(alloc, &case, &[])?;
-        let closings = filling.closings.len() as u64;
-        assert!(rt; 150 < closings, "{closings} closings");
-        assert!(rt;
-            tests < closings.saturating_mul(3),
-            "{tests} tests for {closings} closings"
-        );
+        assert!(rt; takes_few_tests(alloc, &case, 150)?, "at {seed}");
     }
     Ok(())
 }

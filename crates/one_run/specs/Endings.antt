@@ -15,7 +15,8 @@ max_input = 67_108_864
 
 -- the line for words that are no command line
 abbrev pub usage_line : List ℕ
-usage_line = codes "usage: bwe solve | check | run [--readers N] [--reads N] | make SEED GROUPS TASKS | bulk SEED GROUPS TASKS | audit | tiers | enforce | estimate WINDOW HEADROOM | levels SHARE\n"
+usage_line =
+    codes "usage: bwe solve | check | run [--readers N] [--reads N] | make SEED GROUPS TASKS | bulk SEED GROUPS TASKS | audit | tiers | enforce | estimate WINDOW HEADROOM | levels SHARE\n"
 
 -- the line for an input that has more bytes
 abbrev pub too_long_line : List ℕ
@@ -26,7 +27,8 @@ pub record Lines (Line : Type 0) : Type 1 where
   pub reads : Line → Bool
   pub replies : Line → List ℕ → Reply → Type 0
 
--- a call as it is seen from outside: its source and its sink before and after, and what they tell of themselves
+-- a call as it is seen from outside: its source and its sink before and after, and what they tell
+-- of themselves
 pub record Served (S K : Type 0) : Type 0 where
   pub source : S
   pub source_after : S
@@ -38,18 +40,22 @@ pub record Served (S K : Type 0) : Type 0 where
   pub write_faults : K → ℕ
 
 -- what was taken in: the whole input of a line that reads one, and nothing for another
-pub data IsInput {S : Type 0} (left : S → Option (List ℕ)) (source source_after : S) : Bool → List ℕ → Type 0 where
+pub data IsInput {S
+    : Type 0} (left : S → Option (List ℕ)) (source source_after : S) : Bool → List ℕ → Type 0 where
   nothing : source_after ≡ source → IsInput left source source_after false []
-  whole : {input : List ℕ} → Consumes (left source) (left source_after) input → IsAtEnd (left source_after)
+  whole : {input : List ℕ} → Consumes (left source) (left source_after) input
+      → IsAtEnd (left source_after)
       → length input ≤ max_input → IsInput left source source_after true input
 
 -- a text and a status were due
-pub data IsDue {Line S K : Type 0} (lines : Lines Line) (line : Option Line) (served : Served S K) : ℕ → List ℕ → Type 0 where
+pub data IsDue {Line S K
+    : Type 0} (lines : Lines Line) (line : Option Line) (served : Served S K) : ℕ → List ℕ → Type 0 where
   -- the words are no line: nothing is read
   no_line : line ≡ None → served.source_after ≡ served.source → IsDue lines line served 2 usage_line
   -- what the line may get for its input
   answered : {is : Line} {input : List ℕ} {reply : Reply} → line ≡ Some is
-      → IsInput served.left served.source served.source_after (lines.reads is) input → lines.replies is input reply
+      → IsInput served.left served.source served.source_after (lines.reads is) input
+      → lines.replies is input reply
       → IsDue lines line served reply.status reply.text
   -- the source gave a byte more than an input may have, and that was all that was taken
   too_long : {is : Line} → line ≡ Some is → lines.reads is ≡ true
@@ -62,26 +68,36 @@ reads_input lines None = false
 reads_input lines (Some line) = lines.reads line
 
 -- the call ended with this status
-pub data Ending {Line S K : Type 0} (lines : Lines Line) (line : Option Line) (served : Served S K) : ℕ → Type 0 where
+pub data Ending {Line S K
+    : Type 0} (lines : Lines Line) (line : Option Line) (served : Served S K) : ℕ → Type 0 where
   -- the text that was due was written whole
   done : {status : ℕ} {text : List ℕ} → IsDue lines line served status text
-      → Appends (served.written served.sink) (served.written served.sink_after) text → Ending lines line served status
+      → Appends (served.written served.sink) (served.written served.sink_after) text
+      → Ending lines line served status
   -- the source failed, and nothing was written
   read_fault : {is : Line} → line ≡ Some is → lines.reads is ≡ true
       → HasRisen (served.read_faults served.source) (served.read_faults served.source_after)
-      → Keeps (served.written served.sink) (served.written served.sink_after) → Ending lines line served 4
+      → Keeps (served.written served.sink) (served.written served.sink_after)
+      → Ending lines line served 4
   -- the sink failed, and a prefix of the text that was due was written
   write_fault : {status : ℕ} {text : List ℕ} → IsDue lines line served status text
       → HasRisen (served.write_faults served.sink) (served.write_faults served.sink_after)
-      → AppendsPrefix (served.written served.sink) (served.written served.sink_after) text → Ending lines line served 5
-  -- memory was wanting, and nothing was written; where there is no input to read, nothing was read either
+      → AppendsPrefix (served.written served.sink) (served.written served.sink_after) text
+      → Ending lines line served 5
+  -- memory was wanting, and nothing was written; where there is no input to read, nothing was read
+  -- either
   out_of_memory : (reads_input lines line ≡ false → served.source_after ≡ served.source)
-      → Keeps (served.written served.sink) (served.written served.sink_after) → Ending lines line served 6
+      → Keeps (served.written served.sink) (served.written served.sink_after)
+      → Ending lines line served 6
 
--- the text was written whole, with the status that it was due with; or the sink failed, with status 5
-pub data Writes (status : ℕ) (text : List ℕ) (written written_after : Option (List ℕ)) (faults faults_after : ℕ) : ℕ → Type 0 where
-  entirely : Appends written written_after text → Writes status text written written_after faults faults_after status
-  partly : HasRisen faults faults_after → AppendsPrefix written written_after text → Writes status text written written_after faults faults_after 5
+-- the text was written whole, with the status that it was due with; or the sink failed, with status
+-- 5
+pub data Writes (status : ℕ) (text : List ℕ) (written written_after : Option (List ℕ))
+    (faults faults_after : ℕ) : ℕ → Type 0 where
+  entirely : Appends written written_after text
+      → Writes status text written written_after faults faults_after status
+  partly : HasRisen faults faults_after → AppendsPrefix written written_after text
+      → Writes status text written written_after faults faults_after 5
 
 -- nothing was written
 pub record IsSilent (due : ℕ) (written written_after : Option (List ℕ)) (status : ℕ) : Type 0 where

@@ -1,8 +1,9 @@
 //! One call: what it may read, what it writes, and its status.
 //!
-//! The top call reads by `read_input` and ends by `finish`, by `refuse_input` or by `write_usage`; `Ending` says of a whole
-//! call how it may end, for the line that its words are. The whole text is made before its first byte is written. Nothing is
-//! promised of which answer a line has, nor that memory is there.
+//! The top call reads by `read_input` and ends by `finish`, by `refuse_input` or by `write_usage`;
+//! `Ending` says of a whole call how it may end, for the line that its words are. The whole text is
+//! made before its first byte is written. Nothing is promised of which answer a line has, nor that
+//! memory is there.
 #![tactic(auto)]
 
 ghost use Rattle.std.specs.Prelude.{◌≡◌, ◌+◌, true, false, IfOk, IsErrOf, MatchResult};
@@ -67,7 +68,8 @@ pub fn write_usage<K: Sink>(sink: &mut K) -> u8
     write_text(sink, USAGE.as_bytes(), 2)
 }
 
-/// Writes the answer and gives its status, or 5 where the sink fails; 6 where memory was wanting for the answer.
+/// Writes the answer and gives its status, or 5 where the sink fails; 6 where memory was wanting
+/// for the answer.
 pub fn finish<K: Sink>(sink: &mut K, answer: Result<Answer, OutOfMemory>) -> u8
     ensures { MatchResult answer
         (λ answer. Writes answer.status answer.text (K.written sink.old) (K.written sink.new)
@@ -80,8 +82,8 @@ pub fn finish<K: Sink>(sink: &mut K, answer: Result<Answer, OutOfMemory>) -> u8
     }
 }
 
-/// Ends a call whose input could not be read: 4 where the source failed, 6 where memory was wanting, and 8 with its line
-/// for an input that is too long.
+/// Ends a call whose input could not be read: 4 where the source failed, 6 where memory was
+/// wanting, and 8 with its line for an input that is too long.
 pub fn refuse_input<K: Sink>(sink: &mut K, error: ReadError) -> u8
     ensures fault { error ≡ ReadError.ReadFault
         → IsSilent 4 (K.written sink.old) (K.written sink.new) result }

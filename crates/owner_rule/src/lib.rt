@@ -1,8 +1,9 @@
 //! Who may report what ("Owner rule", docs/DEFINITIONS.md).
 //!
-//! `plan_doc` asks for the first entry of a script that is not by the owner, `live_lines` and `sample_lines` ask of one report.
-//! Owners are lists by number: each task has a reporter, and a link may have none. `specs/Owners.antt` says the whole of it.
-//! Nothing here takes memory; a question costs one look into a list.
+//! `plan_doc` asks for the first entry of a script that is not by the owner, `live_lines` and
+//! `sample_lines` ask of one report. Owners are lists by number: each task has a reporter, and a
+//! link may have none. `specs/Owners.antt` says the whole of it. Nothing here takes memory; a
+//! question costs one look into a list.
 #![tactic(auto)]
 
 ghost use Rattle.std.specs.Prelude.{◌≡◌};
@@ -10,7 +11,8 @@ ghost use Rattle.owner_rule.specs.Owners as owners;
 
 use bwe_specs::{Report, Target};
 
-/// The owner of a task or link; `None` where there is no such task or link, or the link has no owner.
+/// The owner of a task or link; `None` where there is no such task or link, or the link has no
+/// owner.
 pub fn owner_of(task_owners: &[u32], link_owners: &[Option<u32>], target: Target) -> Option<u32>
     ensures { result ≡ owners.owner_of task_owners.now link_owners.now target }
 {

@@ -6,7 +6,8 @@ use Rattle.policy_tree.specs.Trees.{Tree, demand_in}
 
 -- each group's value at the share under these demands, in the order of the groups
 abbrev pub levels : ℕ → (ℕ → ℕ) → List Cluster → ℕ → List ℕ
-levels top demand clusters share = map (λ group. group_value top demand clusters group share) (numbers (length clusters))
+levels top demand clusters share =
+    map (λ group. group_value top demand clusters group share) (numbers (length clusters))
 
 -- the same of a tree, under the demands that are set
 abbrev pub levels_in : Tree → ℕ → List ℕ

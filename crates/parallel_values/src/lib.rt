@@ -1,8 +1,9 @@
 //! What all groups may have at one share, worked out on threads.
 //!
-//! The top call asks `values_at` for the line `levels`; a caller without threads asks the tree for one group after the
-//! other and gets the same list. Each piece of the groups is one thread's, and no more threads are started than rayon has
-//! pieces: two for each processor. That more than one thread works is promised by no clause, nor is time.
+//! The top call asks `values_at` for the line `levels`; a caller without threads asks the tree for
+//! one group after the other and gets the same list. Each piece of the groups is one thread's, and
+//! no more threads are started than rayon has pieces: two for each processor. That more than one
+//! thread works is promised by no clause, nor is time.
 #![tactic(auto)]
 
 ghost use Rattle.std.specs.Prelude.{◌≡◌, ◌<◌, ◌≤◌, IfOk, length};
@@ -15,9 +16,11 @@ use rayon::prelude::*;
 use std::alloc::Global;
 use std::thread::Threads;
 
-/// What each group of the tree may have at the share, in kilobits per second, in the order of the groups.
+/// What each group of the tree may have at the share, in kilobits per second, in the order of the
+/// groups.
 ///
-/// The values are cheap where `rematch` came after the last demand. The list is the same however many threads work on it.
+/// The values are cheap where `rematch` came after the last demand. The list is the same however
+/// many threads work on it.
 pub fn values_at<R: Threads + Sync>(
     rt: &R,
     alloc: Global,

@@ -18,7 +18,9 @@ path_groups_of groups = map (λ group. group.path_groups) groups
 
 -- each link number of the groups is below this one
 abbrev pub AreInRange : ℕ → List Group → Type 0
-AreInRange links groups = All (λ group. All (All (λ path. All (λ link. link < links) path.links)) group.path_groups) groups
+AreInRange links groups =
+    All (λ group. All (All (λ path. All (λ link. link < links) path.links)) group.path_groups)
+    groups
 
 -- the path that is given
 abbrev pub path_of : PathSpec → Path
@@ -34,7 +36,12 @@ path_group_of specs = map path_of specs.items
 
 -- the group that is given
 abbrev pub group_of : GroupSpec → Group
-group_of spec = record { from = string_bytes spec.from; to = string_bytes spec.to; path_groups = map path_group_of spec.places.items }
+group_of spec =
+    record {
+      from = string_bytes spec.from;
+      to = string_bytes spec.to;
+      path_groups = map path_group_of spec.places.items;
+    }
 
 -- the groups that are given, in their order
 abbrev pub groups_of : List GroupSpec → List Group

@@ -27,7 +27,8 @@ pub(crate) fn first_fault(topology: &Topology, groups: &[GroupSpec]) -> Option<P
 
 // The fault of the group of this number.
 fn fault_of_group(topology: &Topology, group: u32, spec: &GroupSpec) -> Option<PathFault>
-    requires { All (All (λ path. All (λ link. link < length topology.now.capacities) path.links)) (group_of spec.now).path_groups }
+    requires { All (All (λ path. All (λ link. link < length topology.now.capacities) path.links))
+        (group_of spec.now).path_groups }
     ensures { result ≡ group_fault topology.now group (group_of spec.now) }
 {
     if spec.places.len() as u64 > MAX_PATH_GROUPS {
@@ -52,8 +53,10 @@ fn fault_of_path_group(
     place: u32,
     paths: &[PathSpec],
 ) -> Option<PathFault>
-    requires { All (λ path. All (λ link. link < length topology.now.capacities) path.links) (map path_of paths.now) }
-    ensures { result ≡ path_group_fault topology.now group (group_of spec.now) place (map path_of paths.now) }
+    requires { All (λ path. All (λ link. link < length topology.now.capacities) path.links)
+        (map path_of paths.now) }
+    ensures { result
+        ≡ path_group_fault topology.now group (group_of spec.now) place (map path_of paths.now) }
 {
     if paths.is_empty() {
         return Some(PathFault::NoPath { group, place });
@@ -79,7 +82,8 @@ fn fault_of_path(
     path: &PathSpec,
 ) -> Option<PathFault>
     requires { All (λ link. link < length topology.now.capacities) path.now.links.items }
-    ensures { result ≡ path_fault topology.now group (group_of spec.now) place number (path_of path.now) }
+    ensures { result
+        ≡ path_fault topology.now group (group_of spec.now) place number (path_of path.now) }
 {
     if path.links.len() as u64 > MAX_HOPS {
         return Some(PathFault::TooManyHops {

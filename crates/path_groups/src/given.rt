@@ -7,7 +7,8 @@ pub struct PathSpec {
     pub links: Vec<u32>,
 }
 
-/// The traffic of one cluster from a site to another. A place is the number of a path group in the list.
+/// The traffic of one cluster from a site to another. A place is the number of a path group in the
+/// list.
 #[derive(Drop)]
 pub struct GroupSpec {
     pub from: String,

@@ -11,7 +11,7 @@ use bwe_specs::MAX_TOTAL;
 use std::alloc::{AllocError, Global};
 
 /// What one link carries of an amount on a path group: as much of it as `weight` is of `whole`.
-#[derive(Clone, Copy, Debug, PartialEq, Eq)]
+#[derive(Clone, Copy)]
 pub struct LinkPart {
     pub link: u32,
     /// The weights of the paths over the link, together.
@@ -21,7 +21,8 @@ pub struct LinkPart {
 }
 
 impl LinkPart {
-    /// The load that the amount puts on the link, rounded up ("Load rule", docs/DEFINITIONS.md). Kilobits per second.
+    /// The load that the amount puts on the link, rounded up ("Load rule", docs/DEFINITIONS.md).
+    /// Kilobits per second.
     pub fn load(&self, amount: u64) -> u64
         requires part { IsPart self.now }
         requires amount { amount ≤ MAX_TOTAL }

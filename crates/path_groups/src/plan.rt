@@ -23,7 +23,8 @@ struct PathGroup {
     parts: Vec<LinkPart>,
 }
 
-/// The path groups of each group, by group and place. Contracts see the list of their lists of weighted paths.
+/// The path groups of each group, by group and place. Contracts see the list of their lists of
+/// weighted paths.
 #[derive(Drop)]
 pub struct PathPlan {
     groups: Vec<Vec<PathGroup>>,
@@ -59,7 +60,8 @@ impl PathPlan {
         ensures built { IfOk result (λ plan. plan ≡ path_groups_of (groups_of groups.items)) }
         ensures built_on { IfOk result (IsBuiltOn topology.now) }
         ensures accepted { OnOk result (plan_fault topology.now (groups_of groups.items) ≡ None) }
-        ensures refused { IfErr result (TellsFault (plan_fault topology.now (groups_of groups.items))) }
+        ensures refused { IfErr result
+            (TellsFault (plan_fault topology.now (groups_of groups.items))) }
     {
         if let Some(fault) = first_fault(topology, &groups) {
             return Err(PathError::Refused { fault });
@@ -113,7 +115,8 @@ impl PathPlan {
         &self.groups[group as usize][place as usize].parts
     }
 
-    /// The load that the amount on the path group puts on the link ("Load rule", docs/DEFINITIONS.md). Kilobits per second.
+    /// The load that the amount on the path group puts on the link ("Load rule",
+    /// docs/DEFINITIONS.md). Kilobits per second.
     pub fn load(&self, group: u32, place: u32, link: u32, amount: u64) -> u64
         requires group { group < length self.now }
         requires place { place < path_group_count self.now group }
@@ -132,7 +135,8 @@ impl PathPlan {
     // The path groups of one group, with their parts.
     fn path_groups(alloc: Global, places: Vec<Vec<PathSpec>>) -> Result<Vec<PathGroup>, AllocError>
         requires { All (λ paths. weight_of (path_group_of paths) ≤ 16_000) places.items }
-        ensures held { IfOk result (λ held. path_groups_held held ≡ map path_group_of places.items) }
+        ensures held { IfOk result
+            (λ held. path_groups_held held ≡ map path_group_of places.items) }
         ensures parts { IfOk result (λ held. All HoldsParts held.items) }
     {
         let mut held = Vec::new(alloc);

@@ -12,7 +12,12 @@ use Rattle.plan_doc.specs.Document.{Accepted, refused_by, unless}
 
 -- the tree of an accepted document, of which nobody has asked anything
 abbrev pub tree_of : Accepted → Tree
-tree_of accepted = record { top = accepted.top; clusters = accepted.clusters; demands = replicate (length (task_numbers accepted.clusters)) 0 }
+tree_of accepted =
+    record {
+      top = accepted.top;
+      clusters = accepted.clusters;
+      demands = replicate (length (task_numbers accepted.clusters)) 0;
+    }
 
 -- each part is what its builder makes of the part of that name
 pub record IsDocumentOf (accepted : Accepted) (document : Document) : Type 0 where
@@ -30,19 +35,23 @@ abbrev pub NamesRefusal : {A : Type 0} → Result A Refusal → DocError → Typ
 NamesRefusal read error = IfSome (refusal_of error) (λ refusal. read ≡ Err refusal)
 
 abbrev pub IsAccepted : Result Accepted Refusal → Document → Type 0
-IsAccepted read document = (accepted : Accepted) × (read ≡ Ok accepted) × IsDocumentOf accepted document
+IsAccepted read document = (accepted : Accepted) × (read ≡ Ok accepted)
+    × IsDocumentOf accepted document
 
 -- What was answered is what the definition answers, unless memory ran out.
 abbrev pub Answers : Result Document DocError → Result Accepted Refusal → Type 0
 Answers (Ok document) read = IsAccepted read document
 Answers (Err error) read = NamesRefusal read error
 
--- There is no fault, and what was made is right; else the error is the refusal of the fault, unless memory ran out.
-abbrev pub Makes : {X C : Type 0} → Result X DocError → (C → Refusal) → Option C → (X → Type 0) → Type 0
+-- There is no fault, and what was made is right; else the error is the refusal of the fault, unless
+-- memory ran out.
+abbrev pub Makes : {X C : Type 0} → Result X DocError → (C → Refusal) → Option C → (X → Type 0)
+    → Type 0
 Makes (Ok made) number fault IsMade = (fault ≡ None) × IsMade made
 Makes (Err error) number fault IsMade = NamesRefusal (unless number fault) error
 
 -- The pass lets through; else the error is the refusal of its fault, unless memory ran out.
-abbrev pub PassesBy : (List PathStep → Refusal) → Result ⊤ (List PathStep) → Result ⊤ DocError → Type 0
+abbrev pub PassesBy : (List PathStep → Refusal) → Result ⊤ (List PathStep) → Result ⊤ DocError
+    → Type 0
 PassesBy number pass (Ok passed) = pass ≡ Ok tt
 PassesBy number pass (Err error) = NamesRefusal (refused_by number pass) error

@@ -8,10 +8,13 @@ use Rattle.plan_doc.specs.Functions.{RefusedFunction}
 -- the error names this function, unless memory ran out
 abbrev pub NamesFunction : Option RefusedFunction → BuildError → Type 0
 NamesFunction refused OutOfMemory = Unit {0}
-NamesFunction refused (Refused path cause) = refused ≡ Some (record { path = path.steps.items; cause = cause })
+NamesFunction refused (Refused path cause) =
+    refused ≡ Some (record { path = path.steps.items; cause = cause })
 
--- What was built, through its view, is this part, and no function of it is refused; else the first that is, unless memory ran out.
-abbrev pub Builds : {X Y : Type 0} → (X → Y) → Result X BuildError → Option RefusedFunction → Y → Type 0
+-- What was built, through its view, is this part, and no function of it is refused; else the first
+-- that is, unless memory ran out.
+abbrev pub Builds : {X Y : Type 0} → (X → Y) → Result X BuildError → Option RefusedFunction → Y
+    → Type 0
 Builds view (Ok found) refused part = (refused ≡ None) × (view found ≡ part)
 Builds view (Err error) refused part = NamesFunction refused error
 
@@ -19,10 +22,12 @@ Builds view (Err error) refused part = NamesFunction refused error
 abbrev pub IsErrorUnder : PathStep → BuildError → BuildError → Type 0
 IsErrorUnder step below OutOfMemory = Unit {0}
 IsErrorUnder step OutOfMemory (Refused path cause) = ⊥
-IsErrorUnder step (Refused below reason) (Refused path cause) = (path.steps.items ≡ step ∷ below.steps.items) × (cause ≡ reason)
+IsErrorUnder step (Refused below reason) (Refused path cause) =
+    (path.steps.items ≡ step ∷ below.steps.items) × (cause ≡ reason)
 
 -- what was built, told from one step above
-abbrev pub IsBuiltUnder : {X : Type 0} → PathStep → Result X BuildError → Result X BuildError → Type 0
+abbrev pub IsBuiltUnder : {X : Type 0} → PathStep → Result X BuildError → Result X BuildError
+    → Type 0
 IsBuiltUnder step (Ok found) (Ok same) = same ≡ found
 IsBuiltUnder step (Ok found) (Err error) = ⊥
 IsBuiltUnder step (Err below) (Ok found) = ⊥

@@ -20,7 +20,9 @@ reporter_count document = length (texts_of document.names).reporters
 
 -- the reporter of the entry owns its task or link
 abbrev pub IsByOwner : Document → Report → Type 0
-IsByOwner document report = owner_of document.task_owners.items document.link_owners.items report.target ≡ Some report.reporter
+IsByOwner document report =
+    owner_of document.task_owners.items document.link_owners.items report.target
+    ≡ Some report.reporter
 
 pub record IsUsable (document : Document) : Type 0 where
   -- the plan was built on the topology, the tree has the plan's groups, and every demand is 0
@@ -39,7 +41,8 @@ pub record IsUsable (document : Document) : Type 0 where
   pub link_owners_below : All (HasOwnerBelow (reporter_count document)) document.link_owners.items
   -- the script fits a log, and each report is by the owner of its task or link
   pub few_reports : length document.script.items ≤ MAX_REPORTS
-  pub reports : All (IsReport (link_count document) (tasks_in document) (reporter_count document)) document.script.items
+  pub reports : All (IsReport (link_count document) (tasks_in document) (reporter_count document))
+      document.script.items
   pub by_owners : All (IsByOwner document) document.script.items
   -- closings are of links that there are
   pub closings : All (IsClosing (link_count document)) document.closings.items

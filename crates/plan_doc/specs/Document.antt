@@ -1,4 +1,5 @@
--- Document: what an accepted document is, or the first refusal. The passes stand in the order of their numbers.
+-- Document: what an accepted document is, or the first refusal. The passes stand in the order of
+-- their numbers.
 use Rattle.std.specs.Prelude.{ℕ, List, map, Option, Some, None, Result, Ok, Err, ⊤}
 use Rattle.serde_json.specs.Data.{Data}
 use Rattle.bwe_specs.specs.declared.network.Closing.{Closing}
@@ -46,7 +47,8 @@ abbrev pub ◌>>=◌ : {A B : Type 0} → Result A Refusal → (A → Result B R
 (Err refusal) >>= f = Err refusal
 
 -- what a pass reads, or its refusal
-abbrev pub refused_by : {A : Type 0} → (List PathStep → Refusal) → Result A (List PathStep) → Result A Refusal
+abbrev pub refused_by : {A : Type 0} → (List PathStep → Refusal) → Result A (List PathStep)
+    → Result A Refusal
 refused_by number (Ok x) = Ok x
 refused_by number (Err path) = Err (number path)
 

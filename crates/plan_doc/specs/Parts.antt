@@ -16,7 +16,8 @@ use Rattle.plan_doc.specs.Document.{clusters_of, links_of, over_ok, parts_ok}
 use Rattle.plan_doc.specs.Functions.{refused_in_groups}
 
 -- nothing is refused over the network, and each part is what its builder makes
-pub record AreBuiltOver (raw : Raw) (network : Network) (groups : List Group) (stranger : Option ℕ) (over : Over) : Type 0 where
+pub record AreBuiltOver (raw : Raw) (network : Network) (groups : List Group) (stranger : Option ℕ)
+    (over : Over) : Type 0 where
   pub paths : plan_fault network groups ≡ None
   pub trees : tree_fault (clusters_of raw) ≡ None
   pub owners : stranger ≡ None
@@ -31,10 +32,12 @@ pub record AreBuiltOver (raw : Raw) (network : Network) (groups : List Group) (s
 -- what is built over the network, or the first of the refusals 9 to 11, unless memory ran out
 abbrev pub BuildsOver : Raw → Network → List Group → Option ℕ → Result Over DocError → Type 0
 BuildsOver raw network groups stranger (Ok over) = AreBuiltOver raw network groups stranger over
-BuildsOver raw network groups stranger (Err error) = NamesRefusal (over_ok network raw groups stranger) error
+BuildsOver raw network groups stranger (Err error) =
+    NamesRefusal (over_ok network raw groups stranger) error
 
 -- the same of all parts
-pub record AreBuilt (raw : Raw) (groups : List Group) (stranger : Option ℕ) (parts : Parts) : Type 0 where
+pub record AreBuilt (raw : Raw) (groups : List Group) (stranger : Option ℕ) (parts : Parts)
+    : Type 0 where
   pub functions : refused_in_groups raw.top raw.groups ≡ None
   pub links : topology_fault (links_of raw) ≡ None
   pub paths : plan_fault parts.topology groups ≡ None

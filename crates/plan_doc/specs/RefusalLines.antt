@@ -55,7 +55,9 @@ topology_cause (CapacityOverMax link) = codes "4 link " ++ decimal link
 
 -- a place of a group, and a path of it
 abbrev pub path_place : ℕ → ℕ → ℕ → List ℕ
-path_place group place path = codes " group " ++ decimal group ++ codes " place " ++ decimal place ++ codes " path " ++ decimal path
+path_place group place path =
+    codes " group " ++ decimal group ++ codes " place " ++ decimal place ++ codes " path "
+    ++ decimal path
 
 abbrev pub path_cause : PathFault → List ℕ
 path_cause (TooManyPathGroups group) = codes "1" ++ path_place group 0 0
@@ -75,11 +77,14 @@ tree_cause (TooManyTasks count) = codes "2 node 0"
 abbrev pub refusal_text : Refusal → List ℕ
 refusal_text not_json = codes "1 not json"
 refusal_text (bad_shape steps) = codes "2 shape at " ++ path_text steps
-refusal_text (above_limit what count) = codes "3 limit " ++ what_text what ++ codes " " ++ decimal count
+refusal_text (above_limit what count) =
+    codes "3 limit " ++ what_text what ++ codes " " ++ decimal count
 refusal_text (out_of_range steps) = codes "4 range at " ++ path_text steps
 refusal_text (repeated_name steps) = codes "5 repeated name at " ++ path_text steps
 refusal_text (unknown_name steps) = codes "6 unknown name at " ++ path_text steps
-refusal_text (refused_function refused) = codes "7 function at " ++ path_text refused.path ++ codes " cause " ++ function_cause refused.cause
+refusal_text (refused_function refused) =
+    codes "7 function at " ++ path_text refused.path ++ codes " cause "
+    ++ function_cause refused.cause
 refusal_text (refused_links cause) = codes "8 topology cause " ++ topology_cause cause
 refusal_text (refused_paths cause) = codes "9 path cause " ++ path_cause cause
 refusal_text (refused_tree cause) = codes "10 tree cause " ++ tree_cause cause

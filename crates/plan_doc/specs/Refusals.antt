@@ -35,7 +35,8 @@ refusal_of (errors.Limit what count) = Some (above_limit what count)
 refusal_of (errors.Range path) = Some (out_of_range path.steps.items)
 refusal_of (errors.RepeatedName path) = Some (repeated_name path.steps.items)
 refusal_of (errors.UnknownName path) = Some (unknown_name path.steps.items)
-refusal_of (errors.Function path cause) = Some (refused_function (record { path = path.steps.items; cause = cause }))
+refusal_of (errors.Function path cause) =
+    Some (refused_function (record { path = path.steps.items; cause = cause }))
 refusal_of (errors.Topology cause) = Some (refused_links cause)
 refusal_of (errors.Path cause) = Some (refused_paths cause)
 refusal_of (errors.Tree cause) = Some (refused_tree cause)
@@ -50,4 +51,5 @@ IsRefusalBy number (faults.At path) error = refusal_of error ≡ Some (number pa
 -- a refused function as a refusal
 abbrev pub IsFunctionRefusal : BuildError → DocError → Type 0
 IsFunctionRefusal builds.OutOfMemory error = error ≡ errors.OutOfMemory
-IsFunctionRefusal (builds.Refused path cause) error = refusal_of error ≡ Some (refused_function (record { path = path.steps.items; cause = cause }))
+IsFunctionRefusal (builds.Refused path cause) error =
+    refusal_of error ≡ Some (refused_function (record { path = path.steps.items; cause = cause }))

@@ -4,7 +4,13 @@ use Rattle.doc_names.specs.NameTexts.{NameTexts}
 use Rattle.plan_doc.specs.declared.names.Tables.{Tables}
 
 abbrev pub tables_view : Tables → NameTexts
-tables_view tables = record { links = tables.links; groups = tables.groups; tasks = tables.tasks; reporters = tables.reporters }
+tables_view tables =
+    record {
+      links = tables.links;
+      groups = tables.groups;
+      tasks = tables.tasks;
+      reporters = tables.reporters;
+    }
 
 -- no table has a name
 pub record AreEmpty (tables : Tables) : Type 0 where

@@ -15,11 +15,22 @@ weights_of job = map (λ (task : Task). task.weight) job.tasks
 abbrev pub job_part : ℕ → Job → JobState
 job_part top job = record {
   configured = option_map (function_part top) job.function;
-  sum = record { function = function_part top job.task; tasks = map without_demand (weights_of job) };
+  sum = record {
+    function = function_part top job.task;
+    tasks = map without_demand (weights_of job);
+  };
 }
 
 abbrev pub user_part : ℕ → User → UserState
-user_part top user = record { configured = option_map (function_part top) user.function; jobs = map (job_part top) user.jobs }
+user_part top user =
+    record {
+      configured = option_map (function_part top) user.function;
+      jobs = map (job_part top) user.jobs;
+    }
 
 abbrev pub cluster_part : ℕ → Group → ClusterState
-cluster_part top group = record { configured = option_map (function_part top) group.function; users = map (user_part top) group.users }
+cluster_part top group =
+    record {
+      configured = option_map (function_part top) group.function;
+      users = map (user_part top) group.users;
+    }

@@ -12,10 +12,12 @@ use raw_document::{DocPath, Fault};
 use std::fmt;
 use wan_topology::TopologyFault;
 
-/// The refusals of a document, in the order of their numbers, each with what it names. The one of the lowest number is answered.
+/// The refusals of a document, in the order of their numbers, each with what it names. The one of
+/// the lowest number is answered.
 ///
-/// Refusals 2 to 7 name the first place in the order of the walk; `Limit` has the order of `What`, and names the number found.
-/// `entry` is a place in the script, from 0. Want of memory has no number that is printed.
+/// Refusals 2 to 7 name the first place in the order of the walk; `Limit` has the order of `What`,
+/// and names the number found. `entry` is a place in the script, from 0. Want of memory has no
+/// number that is printed.
 #[derive(Drop)]
 pub enum DocError {
     NotJson,
@@ -32,7 +34,8 @@ pub enum DocError {
     OutOfMemory,
 }
 
-// Says only that there is an error: `refusal_line` has the words, and no more is owed to a test that fails.
+// Says only that there is an error: `refusal_line` has the words, and no more is owed to a test
+// that fails.
 impl fmt::Debug for DocError {
     fn fmt<W: fmt::Write>(&self, f: &mut fmt::Formatter<W>) -> fmt::Result {
         f.write_str("a document was refused")

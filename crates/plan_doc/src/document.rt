@@ -48,9 +48,11 @@ use serde_json::Value;
 use std::alloc::Global;
 use wan_topology::{Topology, TopologyError};
 
-/// An accepted document. Links, groups, tasks and reporters are numbers, whose names are in `names`.
+/// An accepted document. Links, groups, tasks and reporters are numbers, whose names are in
+/// `names`.
 ///
-/// `task_owners` and `link_owners` have the number of the reporter who owns each task and link; a link may have none.
+/// `task_owners` and `link_owners` have the number of the reporter who owns each task and link; a
+/// link may have none.
 #[derive(Drop)]
 pub struct Document {
     pub tree: PolicyTree,
@@ -71,7 +73,8 @@ fn build_clusters(
     requires some_top { 1 ≤ top }
     requires top { top ≤ MAX_SHARE }
     ensures { Makes result refused_function (refused_in_groups top (map group_view groups.now))
-        (λ clusters. each_view idle_cluster clusters ≡ map (cluster_part top) (map group_view groups.now)) }
+        (λ clusters. each_view idle_cluster clusters
+        ≡ map (cluster_part top) (map group_view groups.now)) }
 {
     match cluster_specs(alloc, groups, top) {
         Ok(clusters) => Ok(clusters),
@@ -118,7 +121,8 @@ fn build_tree(
 ) -> Result<PolicyTree, DocError>
     requires range { IsInRange (raw_view raw.now) }
     requires tasks { task_count (raw_view raw.now).groups < 2 ^ 64 }
-    requires clusters { each_view idle_cluster clusters ≡ map (cluster_part raw.now.top) (raw_view raw.now).groups }
+    requires clusters { each_view idle_cluster clusters
+        ≡ map (cluster_part raw.now.top) (raw_view raw.now).groups }
     ensures { Makes result refused_tree (tree_fault (clusters_of (raw_view raw.now)))
         (λ tree. tree ≡ idle_tree (record { top = raw.now.top; clusters = clusters })) }
 {
@@ -154,7 +158,8 @@ struct Over {
     plan: PathPlan,
 }
 
-// What is built over the topology, or the first of the refusals 9 to 11. `stranger` is the entry that is not by the owner.
+// What is built over the topology, or the first of the refusals 9 to 11. `stranger` is the entry
+// that is not by the owner.
 fn build_over(
     alloc: Global,
     raw: &RawDocument,
@@ -167,7 +172,8 @@ fn build_over(
     requires tasks { task_count (raw_view raw.now).groups < 2 ^ 64 }
     requires few { length groups.items ≤ MAX_GROUPS }
     requires in_range { AreInRange (length topology.now.capacities) (groups_of groups.items) }
-    requires clusters { each_view idle_cluster clusters ≡ map (cluster_part raw.now.top) (raw_view raw.now).groups }
+    requires clusters { each_view idle_cluster clusters
+        ≡ map (cluster_part raw.now.top) (raw_view raw.now).groups }
     ensures { BuildsOver (raw_view raw.now) topology.now (groups_of groups.items) stranger result }
 {
     let plan = build_plan(alloc, topology, groups)?;
@@ -184,7 +190,8 @@ struct Parts {
     plan: PathPlan,
 }
 
-// The parts, or the first of the refusals 7 to 11. No other function has a topology that it would have to drop.
+// The parts, or the first of the refusals 7 to 11. No other function has a topology that it would
+// have to drop.
 #[tactic(auto, unfolding(crate::specs::Document::parts_ok))]
 fn build_parts(
     alloc: Global,
@@ -299,7 +306,8 @@ fn document_from_names(
     }
 }
 
-// The document of the raw one that is in its limits and ranges, or the first of the refusals 5 to 11.
+// The document of the raw one that is in its limits and ranges, or the first of the refusals 5 to
+// 11.
 fn document_in_range(alloc: Global, raw: &RawDocument) -> Result<Document, DocError>
     requires few { overrun (raw_view raw.now) ≡ None }
     requires range { ranges (raw_view raw.now) ≡ Ok tt }
@@ -374,10 +382,12 @@ fn document_by_tokens(alloc: Global, bytes: &[u8]) -> Option<Result<Document, Do
     Some(document_from_raw(alloc, &raw))
 }
 
-/// The document of the bytes ("The document" and "Refusals", docs/FORMAT.md), or its refusal of the lowest number.
+/// The document of the bytes ("The document" and "Refusals", docs/FORMAT.md), or its refusal of the
+/// lowest number.
 ///
-/// Names are lent by the text until the document is accepted. Each name is hashed once where it stands and at most once where
-/// it is referred to; nothing else is looked up. Only a text whose shape has a fault is read a second time, by its tree.
+/// Names are lent by the text until the document is accepted. Each name is hashed once where it
+/// stands and at most once where it is referred to; nothing else is looked up. Only a text whose
+/// shape has a fault is read a second time, by its tree.
 pub fn read_document(alloc: Global, bytes: &[u8]) -> Result<Document, DocError>
     // The answer is the definition's, unless memory ran out.
     ensures exact { Answers result (document bytes.now) }

@@ -236,7 +236,8 @@ fn each_cluster_spec(
     Ok(specs)
 }
 
-/// The clusters of the groups. Each function is built once, on the walk that looks for the first one that is refused.
+/// The clusters of the groups. Each function is built once, on the walk that looks for the first
+/// one that is refused.
 pub fn cluster_specs(
     alloc: Global,
     groups: &[RawGroup],

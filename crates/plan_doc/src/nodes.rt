@@ -9,7 +9,8 @@ use raw_document::{RawGroup, RawUser};
 
 /// The nodes so far, and those of users. No memory holds so many that the sum wraps.
 fn add_user_nodes(before: u64, users: &[RawUser]) -> Option<u64>
-    ensures { IfSome result (λ total. total ≡ before + sum_of user_nodes (map user_view users.now)) }
+    ensures { IfSome result
+        (λ total. total ≡ before + sum_of user_nodes (map user_view users.now)) }
 {
     let mut total = before;
     for user in users {

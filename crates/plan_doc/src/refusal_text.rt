@@ -183,7 +183,8 @@ fn push_tree(text: &mut String, cause: TreeFault) -> Result<(), AllocError>
 }
 
 fn push_refusal(text: &mut String, error: &DocError) -> Result<(), AllocError>
-    ensures { OnOk result (lines.AddsText (refusal_of error.now) (string_bytes text.old) (string_bytes text.new)) }
+    ensures { OnOk result
+        (lines.AddsText (refusal_of error.now) (string_bytes text.old) (string_bytes text.new)) }
 {
     match error {
         DocError::NotJson => text.push_str("1 not json"),
@@ -204,7 +205,8 @@ fn push_refusal(text: &mut String, error: &DocError) -> Result<(), AllocError>
     }
 }
 
-/// The line of a refusal ("Refusals", docs/FORMAT.md). Want of memory has none, and is answered as itself.
+/// The line of a refusal ("Refusals", docs/FORMAT.md). Want of memory has none, and is answered as
+/// itself.
 #[tactic(auto, unfolding(crate::specs::RefusalLines::refusal_line))]
 pub fn refusal_line(alloc: Global, error: &DocError) -> Result<Vec<u8>, OutOfMemory>
     ensures { IfOk result (λ line. lines.error_line error.now ≡ Some line.items) }

@@ -10,7 +10,7 @@ use Rattle.bwe_specs.specs.Bounded.{sum_below}
 use Rattle.bwe_specs.specs.FunctionValue.{IsFunction}
 use Rattle.bwe_specs.specs.Values.{AreValues, IsShareFunction}
 use Rattle.bwe_specs.specs.Tree.{Weighted, Cluster, cluster_value}
-use Rattle.bwe_specs.specs.TreeFunctions.{IsConfigured, AreJobs, AreUsers, IsCluster, AreClusters}
+use Rattle.bwe_specs.specs.TreeFunctions.{IsConfigured, AreJobs, AreUsers, AreClusters}
 use Rattle.bwe_specs.specs.Distribution.{children_sum}
 use Rattle.bwe_specs.proofs.Bounds.{sum_below-same}
 use Rattle.bwe_specs.proofs.HandedOut.{cluster-at}

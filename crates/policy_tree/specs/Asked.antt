@@ -9,7 +9,11 @@ use Rattle.policy_tree.specs.States.{JobState, UserState, ClusterState}
 
 -- the node of a spec, with every demand 0
 abbrev pub idle_job : JobSpec → JobState
-idle_job spec = record { configured = spec.function; sum = record { function = spec.task; tasks = map without_demand spec.weights.items } }
+idle_job spec =
+    record {
+      configured = spec.function;
+      sum = record { function = spec.task; tasks = map without_demand spec.weights.items };
+    }
 
 abbrev pub idle_user : UserSpec → UserState
 idle_user spec = record { configured = spec.function; jobs = map idle_job spec.jobs.items }

@@ -13,8 +13,10 @@ numbers_from first (size ∷ sizes) = first ∷ numbers_from (first + size) size
 
 -- the children of a node with the number: nodes, or the tasks of a job
 abbrev pub child_numbers : ℕ → Node → List ℕ
-child_numbers node (OfCluster cluster) = numbers_from (node + 1) (map (λ user. length (user_nodes user)) cluster.users)
-child_numbers node (OfUser user) = numbers_from (node + 1) (map (λ job. length (job_nodes job)) user.jobs)
+child_numbers node (OfCluster cluster) =
+    numbers_from (node + 1) (map (λ user. length (user_nodes user)) cluster.users)
+child_numbers node (OfUser user) =
+    numbers_from (node + 1) (map (λ job. length (job_nodes job)) user.jobs)
 child_numbers node (OfJob job) = job_numbers job
 
 -- the children of each of the nodes, which are numbered from a number on

@@ -29,20 +29,25 @@ clusters_count clusters = sum_by users_count clusters
 pub record IsHome (clusters : List (List (List ℕ))) (number : ℕ) (home : Home) : Type 0 where
   pub cluster : home.cluster < length clusters
   pub user : home.user < length (slice_index_or clusters home.cluster [])
-  pub job : home.job < length (slice_index_or (slice_index_or clusters home.cluster []) home.user [])
-  pub task : home.task < slice_index (slice_index_or (slice_index_or clusters home.cluster []) home.user []) home.job
+  pub job : home.job
+      < length (slice_index_or (slice_index_or clusters home.cluster []) home.user [])
+  pub task : home.task
+      < slice_index (slice_index_or (slice_index_or clusters home.cluster []) home.user []) home.job
   pub counted : number ≡ clusters_count (take home.cluster clusters)
       + (users_count (take home.user (slice_index_or clusters home.cluster []))
-      + (sum (take home.job (slice_index_or (slice_index_or clusters home.cluster []) home.user [])) + home.task))
+      + (sum (take home.job (slice_index_or (slice_index_or clusters home.cluster []) home.user []))
+      + home.task))
 
 pub record AreHomes (clusters : List (List (List ℕ))) (homes : List Home) : Type 0 where
   pub size : length homes ≡ clusters_count clusters
-  pub each : (number : ℕ) (d : Home) → number < length homes → IsHome clusters number (slice_index_or homes number d)
+  pub each : (number : ℕ) (d : Home) → number < length homes
+      → IsHome clusters number (slice_index_or homes number d)
 
 -- for each cluster how many tasks come before its first
 pub record AreFirsts (clusters : List (List (List ℕ))) (firsts : List ℕ) : Type 0 where
   pub size : length firsts ≡ length clusters
-  pub each : (group : ℕ) → group < length clusters → slice_index firsts group ≡ clusters_count (take group clusters)
+  pub each : (group : ℕ) → group < length clusters
+      → slice_index firsts group ≡ clusters_count (take group clusters)
 
 -- all functions of a node have the top
 pub record HaveJobTop (top : ℕ) (job : JobState) : Type 0 where
@@ -58,7 +63,8 @@ pub record HaveClusterTop (top : ℕ) (cluster : ClusterState) : Type 0 where
   pub users : All (HaveUserTop top) cluster.users
 
 -- the nodes of a tree, the homes of its tasks, and the children of each node
-pub record IsKeptTree (top : ℕ) (clusters : List ClusterState) (homes : List Home) (firsts : List ℕ) (lists : List (List ℕ)) : Type 0 where
+pub record IsKeptTree (top : ℕ) (clusters : List ClusterState) (homes : List Home) (firsts : List ℕ)
+    (lists : List (List ℕ)) : Type 0 where
   pub low : 1 ≤ top
   pub high : top ≤ MAX_SHARE
   pub groups : length clusters < 4_294_967_296

@@ -12,13 +12,15 @@ pub record Agrees (demand : ℕ → ℕ) (first : ℕ) (demands : List ℕ) : Ty
 
 -- the cluster of a group; a group that the tree does not have has no user
 abbrev pub cluster_in : Tree → ℕ → Cluster
-cluster_in tree group = slice_index_or tree.clusters group (record { configured = None; users = [] })
+cluster_in tree group =
+    slice_index_or tree.clusters group (record { configured = None; users = [] })
 
 -- the number of a group's first task: as many tasks come before
 abbrev pub first_in : Tree → ℕ → ℕ
 first_in tree group = length (task_numbers (take group tree.clusters))
 
--- the node is the group's cluster: with the numbers from its first task on it is that cluster, and its demands are the tree's
+-- the node is the group's cluster: with the numbers from its first task on it is that cluster, and
+-- its demands are the tree's
 pub record IsClusterOf (tree : Tree) (group : ℕ) (node : ClusterState) : Type 0 where
   pub cluster : cluster_in tree group ≡ numbered_cluster (first_in tree group) node
   pub demands : Agrees (demand_in tree) (first_in tree group) (cluster_demands node)

@@ -23,19 +23,25 @@ numbered_tasks first tasks = numbered (λ task. 1) numbered_task first tasks
 
 abbrev pub numbered_job : ℕ → JobState → Job
 numbered_job first job =
-    record { configured = points_by job.configured; task = job.sum.function.points; tasks = numbered_tasks first job.sum.tasks }
+    record {
+      configured = points_by job.configured;
+      task = job.sum.function.points;
+      tasks = numbered_tasks first job.sum.tasks;
+    }
 
 abbrev pub numbered_jobs : ℕ → List JobState → List Job
 numbered_jobs first jobs = numbered job_tasks numbered_job first jobs
 
 abbrev pub numbered_user : ℕ → UserState → User
-numbered_user first user = record { configured = points_by user.configured; jobs = numbered_jobs first user.jobs }
+numbered_user first user =
+    record { configured = points_by user.configured; jobs = numbered_jobs first user.jobs }
 
 abbrev pub numbered_users : ℕ → List UserState → List User
 numbered_users first users = numbered user_tasks numbered_user first users
 
 abbrev pub numbered_cluster : ℕ → ClusterState → Cluster
-numbered_cluster first cluster = record { configured = points_by cluster.configured; users = numbered_users first cluster.users }
+numbered_cluster first cluster =
+    record { configured = points_by cluster.configured; users = numbered_users first cluster.users }
 
 -- the clusters of a tree: tasks are numbered from 0, in one walk
 abbrev pub numbered_clusters : List ClusterState → List Cluster

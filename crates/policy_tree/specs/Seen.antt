@@ -1,4 +1,5 @@
--- The nodes of a tree by their numbers: of which kind they are, and what they may have at each share.
+-- The nodes of a tree by their numbers: of which kind they are, and what they may have at each
+-- share.
 use Rattle.std.specs.Prelude.{◌≡◌, ℕ, ◌+◌, ◌<◌, List, [], ◌∷◌, length, map, flat_map, take, None, Result, Ok, Err, slice_index_or}
 use Rattle.bwe_specs.specs.Tree.{User, Cluster, task_value, task_values, job_value, user_value, cluster_value}
 use Rattle.capped_sum.specs.CappedSum.{task_at}
@@ -10,7 +11,9 @@ use Rattle.policy_tree.specs.Walk.{Node, OfCluster, OfUser, OfJob, walk}
 
 -- the node with the number; past the last one a job without tasks
 abbrev pub node_in : Tree → ℕ → Node
-node_in tree node = slice_index_or (walk tree.clusters) node (OfJob (record { configured = None; task = []; tasks = [] }))
+node_in tree node =
+    slice_index_or (walk tree.clusters) node
+    (OfJob (record { configured = None; task = []; tasks = [] }))
 
 -- the number of a group's cluster: as many nodes come before
 abbrev pub group_node_in : Tree → ℕ → ℕ
@@ -36,7 +39,9 @@ cluster_task_values demand cluster = flat_map (user_task_values demand) cluster.
 
 -- what a task of the tree may have at a share
 abbrev pub task_value_in : Tree → ℕ → ℕ → ℕ
-task_value_in tree task share = slice_index_or (flat_map (cluster_task_values (demand_in tree)) tree.clusters) task (λ share. 0) share
+task_value_in tree task share =
+    slice_index_or (flat_map (cluster_task_values (demand_in tree)) tree.clusters) task (λ share. 0)
+    share
 
 -- a node as the code has it: its kind and its value at each share
 pub record Seen : Type 0 where
@@ -48,10 +53,13 @@ abbrev pub job_seen : JobState → List Seen
 job_seen job = record { kind = kinds.Job; value = job_meaning job } ∷ []
 
 abbrev pub user_seen : UserState → List Seen
-user_seen user = record { kind = kinds.User; value = user_meaning user } ∷ flat_map job_seen user.jobs
+user_seen user =
+    record { kind = kinds.User; value = user_meaning user } ∷ flat_map job_seen user.jobs
 
 abbrev pub cluster_seen : ClusterState → List Seen
-cluster_seen cluster = record { kind = kinds.Cluster; value = cluster_meaning cluster } ∷ flat_map user_seen cluster.users
+cluster_seen cluster =
+    record { kind = kinds.Cluster; value = cluster_meaning cluster }
+    ∷ flat_map user_seen cluster.users
 
 -- a node of a list by its place
 abbrev pub seen_at : List Seen → ℕ → Seen
@@ -64,13 +72,17 @@ IsKindAt (Err past) place nodes = place ≡ length nodes + past
 
 -- its value at a share, or how far
 abbrev pub IsValueAt : ℕ → Result ℕ ℕ → ℕ → List Seen → Type 0
-IsValueAt share (Ok value) place nodes = (place < length nodes) × (value ≡ (seen_at nodes place).value share)
+IsValueAt share (Ok value) place nodes = (place < length nodes)
+    × (value ≡ (seen_at nodes place).value share)
 IsValueAt share (Err past) place nodes = place ≡ length nodes + past
 
 -- what each task of a job may have at a share, as the code has them
 abbrev pub job_task_values : JobState → List (ℕ → ℕ)
-job_task_values job = map (λ task. task_value job.sum.function.points task.weight task.demand) job.sum.tasks
+job_task_values job =
+    map (λ task. task_value job.sum.function.points task.weight task.demand) job.sum.tasks
 
 -- what a task of a job may have
 abbrev pub value_at : JobState → ℕ → ℕ → ℕ
-value_at job task share = task_value job.sum.function.points (task_at job.sum.tasks task).weight (task_at job.sum.tasks task).demand share
+value_at job task share =
+    task_value job.sum.function.points (task_at job.sum.tasks task).weight
+    (task_at job.sum.tasks task).demand share

@@ -40,7 +40,8 @@ task_numbers clusters = flat_map cluster_numbers clusters
 
 -- the tree that the nodes are
 abbrev pub tree_of : ℕ → List ClusterState → Tree
-tree_of top clusters = record { top = top; clusters = numbered_clusters clusters; demands = demands_of clusters }
+tree_of top clusters =
+    record { top = top; clusters = numbered_clusters clusters; demands = demands_of clusters }
 
 -- what is true of every tree: its functions are functions up to its top, its tasks are numbered
 -- from 0 in one walk, and its numbers are in range

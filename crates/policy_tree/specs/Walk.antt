@@ -41,7 +41,8 @@ fault_by None count = if nat_lt 20_000 count then Some (TooManyTasks count) else
 
 -- what is wrong with a tree of these clusters: a node without children comes before too many tasks
 abbrev pub tree_fault : List Cluster → Option TreeFault
-tree_fault clusters = fault_by (position is_childless (walk clusters)) (length (task_numbers clusters))
+tree_fault clusters =
+    fault_by (position is_childless (walk clusters)) (length (task_numbers clusters))
 
 -- the error names this fault, or says that memory was wanting
 abbrev pub TellsFault : Option TreeFault → TreeError → Type 0

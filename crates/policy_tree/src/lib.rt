@@ -1,21 +1,24 @@
 //! The tree of all groups: clusters, users, jobs and tasks, and what each may have at a share.
 //!
-//! The layers above build a `PolicyTree`, set what tasks ask for, and ask for the values of the groups; `push_down` goes
-//! down the nodes of one group. Contracts see a tree as its clusters in the words of the definitions, with numbered tasks,
-//! and a list of demands (`specs/Trees.antt`); why a tree is refused is one function of its clusters (`specs/Walk.antt`).
-//! `PolicyTree::top` says what is true of every tree: the groups' values are 0 at share 0, never fall, and add up to at
-//! most `MAX_TOTAL` at the top.
+//! The layers above build a `PolicyTree`, set what tasks ask for, and ask for the values of the
+//! groups; `push_down` goes down the nodes of one group. Contracts see a tree as its clusters in
+//! the words of the definitions, with numbered tasks, and a list of demands (`specs/Trees.antt`);
+//! why a tree is refused is one function of its clusters (`specs/Walk.antt`). `PolicyTree::top`
+//! says what is true of every tree: the groups' values are 0 at share 0, never fall, and add up to
+//! at most `MAX_TOTAL` at the top.
 //!
-//! What a value costs: without configured functions one sum a job, each a search in the job's order of demands. A node
-//! with a configured function looks its inner share up. A job tells it without a search, by its order of demands turned
-//! round, and so does a chain of single children over one job. Another node searches, and each look is a look at each of
-//! its children, so with functions on all three levels the looks of the levels multiply. They are few: `rematch` draws of
-//! each node's children an outline (`function_sum::Outline`), whose points are at the shares where the children's
-//! functions have theirs and where a child has all that it may have. A search begins where the outline meets the amount,
-//! and a look comes with guesses of the last share at which the value stays the same and of what it is after that. It
-//! never takes more than 62 looks. A `rematch` itself takes no search: some values of functions for each point, at most 64
-//! points a node, and a sort of the demands of each job that was told a new one.
-//! Measured by a plain model that looks as this code does, with one cluster of one user with three jobs, functions of four
+//! What a value costs: without configured functions one sum a job, each a search in the job's order
+//! of demands. A node with a configured function looks its inner share up. A job tells it without a
+//! search, by its order of demands turned round, and so does a chain of single children over one
+//! job. Another node searches, and each look is a look at each of its children, so with functions
+//! on all three levels the looks of the levels multiply. They are few: `rematch` draws of each
+//! node's children an outline (`function_sum::Outline`), whose points are at the shares where the
+//! children's functions have theirs and where a child has all that it may have. A search begins
+//! where the outline meets the amount, and a look comes with guesses of the last share at which the
+//! value stays the same and of what it is after that. It never takes more than 62 looks. A
+//! `rematch` itself takes no search: some values of functions for each point, at most 64 points a
+//! node, and a sort of the demands of each job that was told a new one. Measured by a plain model
+//! that looks as this code does, with one cluster of one user with three jobs, functions of four
 //! points on all three levels, weights from 1 to 10, at 200 shares of ten made trees for each row:
 //!
 //! | top | amounts up to some | tasks a job | sums of each job for one group value | at most |
@@ -28,12 +31,12 @@
 //! | 1,000,000,000 | 10,000,000 | 1,000 | 17 | 40 |
 //! | 1,000,000,000 | 100,000 | 20 | 15 | 48 |
 //!
-//! With weights up to 1,000 the fifth row has 18 and 90 at most, with five users 36 and 141. With four users, and nodes'
-//! functions that go up to as much as their tasks may have together, the second and the fifth row have 18 and 33, and at
-//! most 57 and 87.
-//! A changed demand makes the sum of its own job slow until the next `rematch`, and no other. A node is looked up by its
-//! number in the order of the numbers.
-//! Nothing is promised of that cost in a contract, nor of how values are kept.
+//! With weights up to 1,000 the fifth row has 18 and 90 at most, with five users 36 and 141. With
+//! four users, and nodes' functions that go up to as much as their tasks may have together, the
+//! second and the fifth row have 18 and 33, and at most 57 and 87. A changed demand makes the sum
+//! of its own job slow until the next `rematch`, and no other. A node is looked up by its number in
+//! the order of the numbers. Nothing is promised of that cost in a contract, nor of how values are
+//! kept.
 #![tactic(auto)]
 
 mod childless;

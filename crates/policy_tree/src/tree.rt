@@ -137,9 +137,9 @@ impl PolicyTree {
         self.top
     }
 
-    /// Does nothing. Who calls it knows what holds of each tree: its tasks are numbered in one walk,
-    /// 32 bits number its groups, and no group's value falls, nor are all of them together too much
-    /// to be added up.
+    /// Does nothing. Who calls it knows what holds of each tree: its tasks are numbered in one
+    /// walk, 32 bits number its groups, and no group's value falls, nor are all of them together
+    /// too much to be added up.
     pub fn what_holds(&self)
         ensures tree { IsTree self.now }
         ensures values { AreValues (length self.now.clusters) self.now.top (value_in self.now) }

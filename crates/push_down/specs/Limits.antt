@@ -15,11 +15,13 @@ limits_of_job top job amount = distribution top (tasks_values job.sum) amount
 
 abbrev pub limits_of_user : ℕ → UserState → ℕ → List ℕ
 limits_of_user top user amount =
-    flat_map (λ given. limits_of_job top given.0 given.1) (zip user.jobs (distribution top (map job_meaning user.jobs) amount))
+    flat_map (λ given. limits_of_job top given.0 given.1)
+    (zip user.jobs (distribution top (map job_meaning user.jobs) amount))
 
 abbrev pub limits_of_cluster : ℕ → ClusterState → ℕ → List ℕ
 limits_of_cluster top cluster amount =
-    flat_map (λ given. limits_of_user top given.0 given.1) (zip cluster.users (distribution top (map user_meaning cluster.users) amount))
+    flat_map (λ given. limits_of_user top given.0 given.1)
+    (zip cluster.users (distribution top (map user_meaning cluster.users) amount))
 
 -- the tasks and the limits of a list
 abbrev pub tasks_in : List TaskLimit → List ℕ

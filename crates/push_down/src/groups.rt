@@ -9,7 +9,8 @@ use bwe_specs::OutOfMemory;
 use policy_tree::PolicyTree;
 use std::alloc::{AllocError, Global};
 
-/// Each task's limit, in the order of their numbers, where the groups have these amounts. All are kilobits per second.
+/// Each task's limit, in the order of their numbers, where the groups have these amounts. All are
+/// kilobits per second.
 ///
 /// No clause says when memory is wanting.
 pub fn all_limits(
@@ -34,7 +35,8 @@ pub fn all_limits(
 
 // Puts the limits of the entries at the end.
 fn push_limits(limits: &mut Vec<u64>, entries: &[TaskLimit]) -> Result<(), AllocError>
-    ensures { OnOk result (limits.new.items ≡ limits.old.items ++ map (λ entry. entry.limit) entries.now) }
+    ensures { OnOk result
+        (limits.new.items ≡ limits.old.items ++ map (λ entry. entry.limit) entries.now) }
 {
     for entry in entries {
         limits.push(entry.limit)?;

@@ -1,13 +1,14 @@
 //! Groups' amounts, handed down to their tasks.
 //!
-//! The allocator calls `all_limits` once for a table, also for one of tiers: each group's amount is handed down by
-//! `distribute`, and the limits stand in the order of the tasks' numbers. `distribute` goes down the tree level by level:
-//! a node's amount is given to its children by the Distribution rule, and what is left over goes to them in their order.
-//! The limits add up to the amount (the Conservation law). Of a job the common share of its tasks is told by the index of
-//! their demands, without a search; of another node it is looked for along the outline of its children, with at most 62
-//! looks at them. Then each child is asked for its value there, and at the next share while something is left.
-//! It takes memory for the limits alone.
-//! Nothing is promised of which amounts groups get: that is the solvers' promise.
+//! The allocator calls `all_limits` once for a table, also for one of tiers: each group's amount is
+//! handed down by `distribute`, and the limits stand in the order of the tasks' numbers.
+//! `distribute` goes down the tree level by level: a node's amount is given to its children by the
+//! Distribution rule, and what is left over goes to them in their order. The limits add up to the
+//! amount (the Conservation law). Of a job the common share of its tasks is told by the index of
+//! their demands, without a search; of another node it is looked for along the outline of its
+//! children, with at most 62 looks at them. Then each child is asked for its value there, and at
+//! the next share while something is left. It takes memory for the limits alone. Nothing is
+//! promised of which amounts groups get: that is the solvers' promise.
 #![tactic(auto)]
 
 ghost use Rattle.std.specs.Prelude.{◌≡◌, ℕ, ◌+◌, ◌*◌, ◌<◌, ◌≤◌, length, map, sum, IfOk};
@@ -36,10 +37,11 @@ pub struct TaskLimit {
     pub limit: u64,
 }
 
-/// The limits of a group's tasks, in the order of their numbers ("Distribution rule", docs/DEFINITIONS.md).
+/// The limits of a group's tasks, in the order of their numbers ("Distribution rule",
+/// docs/DEFINITIONS.md).
 ///
-/// `amount` is what the group has, at most its value at the top, in kilobits per second. No clause says when memory is
-/// wanting.
+/// `amount` is what the group has, at most its value at the top, in kilobits per second. No clause
+/// says when memory is wanting.
 pub fn distribute(
     alloc: Global,
     tree: &PolicyTree,

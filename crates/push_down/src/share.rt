@@ -7,8 +7,8 @@ use crate::children::Children;
 use bwe_specs::{MAX_SHARE, MAX_TOTAL, OutOfMemory};
 use std::alloc::Global;
 
-/// What each child gets of an amount: its value at the common share, and of the rest at most its growth to the next
-/// share.
+/// What each child gets of an amount: its value at the common share, and of the rest at most its
+/// growth to the next share.
 pub(crate) fn shared_out<F: Children>(
     alloc: Global,
     children: &F,
@@ -19,7 +19,8 @@ pub(crate) fn shared_out<F: Children>(
     requires amount { amount ≤ 3 * MAX_TOTAL }
     ensures amounts { IfOk result (λ amounts.
         amounts.items ≡ distribution top (F.values children.now) amount) }
-    ensures bound { IfOk result (λ amounts. All (λ given. given ≤ amount + MAX_TOTAL) amounts.items) }
+    ensures bound { IfOk result
+        (λ amounts. All (λ given. given ≤ amount + MAX_TOTAL) amounts.items) }
 {
     let share = share_for(children, top, amount);
     let mut rest = amount - children.sum(share);
@@ -44,7 +45,8 @@ fn share_for<F: Children>(children: &F, top: u64, amount: u64) -> u64
     share
 }
 
-// What a child gets of the rest: at most its growth to the next share, which is asked for only where something is left.
+// What a child gets of the rest: at most its growth to the next share, which is asked for only
+// where something is left.
 fn more_for<F: Children>(children: &F, place: usize, share: u64, value: u64, rest: u64) -> u64
     requires place { place < length (F.values children.now) }
     requires share { share ≤ MAX_SHARE }

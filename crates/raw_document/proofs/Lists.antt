@@ -1,21 +1,18 @@
 -- A list that was read item by item is what the definition reads.
-use Rattle.std.proofs.Common.{◌≡◌, ℕ, suc, List, [], ◌∷◌, map, Option, Some, None, Result, Ok, Err, inl, inr, refl, sym, ap, subst, ◌∙◌}
+use Rattle.std.proofs.Common.{◌≡◌, ℕ, suc, List, [], ◌∷◌, map, Option, Some, Result, Ok, Err, inl, inr, refl, sym, ap, subst, ◌∙◌}
 use Rattle.std.specs.Prelude.{⊤}
 use Rattle.std.specs.Global.{Vec}
 use Rattle.serde_json.specs.Data.{Data, Items}
-use Rattle.serde_json.specs.Find.{get, as_array}
-use Rattle.serde_json.specs.View.{view, items_of}
+use Rattle.serde_json.specs.Find.{as_array}
+use Rattle.serde_json.specs.View.{view, items_of, items_view}
 use Rattle.serde_json.specs.declared.value.Value.{Value}
 use Rattle.raw_document.specs.declared.doc_path.PathStep.{PathStep}
 use Rattle.raw_document.specs.declared.doc_path.PathStep.TheVariants.{Index}
 use Rattle.raw_document.specs.declared.doc_path.Fault.{Fault}
 use Rattle.raw_document.specs.declared.doc_path.Fault.TheVariants.{OutOfMemory, At}
-use Rattle.raw_document.specs.Reading.{◌>>=◌, under, or_fault, each, Fails, Gives, IsFaultUnder}
-use Rattle.raw_document.specs.Shape.{list_items, list_of, field, read_found}
-use Rattle.raw_document.specs.declared.key.DocKey.{DocKey}
-use Rattle.raw_document.specs.declared.doc_path.PathStep.TheVariants as steps
-use Rattle.raw_document.specs.Words.{word}
-use Rattle.raw_document.specs.Visits.{Runs, ReadsEach, ChecksEach, ReadsItems, ReadsList, ReadsFound, ReadsListIn, IsUnder}
+use Rattle.raw_document.specs.Reading.{◌>>=◌, under, or_fault, each, Fails, Gives, IsFaultUnder, IsUnder}
+use Rattle.raw_document.specs.Shape.{list_items, list_of}
+use Rattle.raw_document.proofs.Visits.{Runs, ReadsEach, ChecksEach}
 
 module _ {V A T S : Type 0} (input_view : V → A) (output_view : T → S) (reader : A → Result S (List PathStep)) (Reads : V → Result T Fault → Type 0) (gives : (v : V) (r : Result T Fault) → Reads v r → Gives output_view r (reader (input_view v))) where
   -- what is read in turn, as the definition has it
@@ -80,48 +77,23 @@ list_items-items_of : (ds : List Data) → list_items (items_of ds) ≡ ds
 list_items-items_of [] = refl
 list_items-items_of (d ∷ ds) = ap (λ es. d ∷ es) (list_items-items_of ds)
 
-module _ {T S : Type 0} (output_view : T → S) (reader : Data → Result S (List PathStep)) (Reads : Value → Result T Fault → Type 0) (gives : (v : Value) (r : Result T Fault) → Reads v r → Gives output_view r (reader (view v))) where
-  items_give : (o : Option Items) (r : Result (Vec T) Fault) → ReadsItems Reads o r → Gives (λ (v : Vec T). map output_view v.items) r (or_fault o >>= λ items. each reader 0 (list_items items))
-  items_give None (Ok found) reads = absurd reads
-  items_give None (Err OutOfMemory) reads = tt
-  items_give None (Err (At path)) reads = ap Err (sym reads)
-  items_give (Some items) r reads =
-      let P : List Data → Type 0 = λ ds. Gives (λ (v : Vec T). map output_view v.items) r (each reader 0 ds) in
-      let same : map view reads.0 ≡ list_items items = sym (list_items-items_of (map view reads.0)) ∙ ap list_items reads.1 in
-      subst P same (each_gives view output_view reader Reads gives reads.0 r reads.2)
-
-  -- a list that was read by a function which reads an item as `reader` does
-  pub list_gives : (d : Data) (r : Result (Vec T) Fault) → ReadsList Reads d r → Gives (λ (v : Vec T). map output_view v.items) r (list_of reader d)
-  unfolding list_of
-  list_gives d r reads = items_give (as_array d) r reads
-
-  found_gives : (step : PathStep) (o : Option Data) (r : Result (Vec T) Fault) → ReadsFound Reads step o r → Gives (λ (v : Vec T). map output_view v.items) r (under step (read_found (list_of reader) o))
-  found_gives step None (Ok found) reads = absurd reads
-  found_gives step None (Err OutOfMemory) reads = tt
-  found_gives step None (Err (At path)) reads = ap Err (sym reads)
-  found_gives step (Some d) r reads = under_gives (λ (v : Vec T). map output_view v.items) step (list_of reader d) reads.0 r (list_gives d reads.0 reads.1) reads.2
-
-  -- the same of a list that is a required member
-  pub list_in_gives : (key : DocKey) (d : Data) (r : Result (Vec T) Fault) → ReadsListIn Reads key d r → Gives (λ (v : Vec T). map output_view v.items) r (field key (list_of reader) d)
-  unfolding field
-  list_in_gives key d r reads = found_gives (steps.Key key) (get (word key) d) r reads
+-- a list of values whose items are read in turn
+pub list_gives : {T S : Type 0} (output_view : T → S) (reader : Data → Result S (List PathStep)) (d : Data) (vs : List Value) (r : Result (Vec T) Fault) → Some (items_view vs) ≡ as_array d
+    → Gives (λ (v : Vec T). map output_view v.items) r (each reader 0 (map view vs)) → Gives (λ (v : Vec T). map output_view v.items) r (list_of reader d)
+unfolding list_of
+list_gives {T} output_view reader d vs r is gives =
+    let P : List Data → Type 0 = λ ds. Gives (λ (v : Vec T). map output_view v.items) r (each reader 0 ds) in
+    let Q : Option Items → Type 0 = λ o. Gives (λ (v : Vec T). map output_view v.items) r (or_fault o >>= λ items. each reader 0 (list_items items)) in
+    subst Q is (subst P (sym (list_items-items_of (map view vs))) gives)
 
 map_itself : {T : Type 0} (xs : List T) → map (λ x. x) xs ≡ xs
 map_itself [] = refl
 map_itself (x ∷ xs) = ap (λ ys. x ∷ ys) (map_itself xs)
 
-gives_itself : {T : Type 0} (r : Result (Vec T) Fault) (q : Result (List T) (List PathStep)) → Gives (λ (v : Vec T). map (λ x. x) v.items) r q → Gives (λ (v : Vec T). v.items) r q
+-- items that are shown as they are
+pub gives_itself : {T : Type 0} (r : Result (Vec T) Fault) (q : Result (List T) (List PathStep)) → Gives (λ (v : Vec T). map (λ x. x) v.items) r q → Gives (λ (v : Vec T). v.items) r q
 gives_itself (Ok v) q gives = gives ∙ ap Ok (map_itself v.items)
 gives_itself (Err fault) q gives = gives
-
--- where items are shown as they are
-pub list_gives_itself : {T : Type 0} (reader : Data → Result T (List PathStep)) (Reads : Value → Result T Fault → Type 0) → ((v : Value) (r : Result T Fault) → Reads v r → Gives (λ x. x) r (reader (view v)))
-    → (d : Data) (r : Result (Vec T) Fault) → ReadsList Reads d r → Gives (λ (v : Vec T). v.items) r (list_of reader d)
-list_gives_itself reader Reads gives d r reads = gives_itself r (list_of reader d) (list_gives (λ x. x) reader Reads gives d r reads)
-
-pub list_in_gives_itself : {T : Type 0} (reader : Data → Result T (List PathStep)) (Reads : Value → Result T Fault → Type 0) → ((v : Value) (r : Result T Fault) → Reads v r → Gives (λ x. x) r (reader (view v)))
-    → (key : DocKey) (d : Data) (r : Result (Vec T) Fault) → ReadsListIn Reads key d r → Gives (λ (v : Vec T). v.items) r (field key (list_of reader) d)
-list_in_gives_itself reader Reads gives key d r reads = gives_itself r (field key (list_of reader) d) (list_in_gives (λ x. x) reader Reads gives key d r reads)
 
 -- a list that was read item by item, and whose items are shown as they are
 pub each_gives_itself : {V A T : Type 0} (input_view : V → A) (reader : A → Result T (List PathStep)) (Reads : V → Result T Fault → Type 0) → ((v : V) (r : Result T Fault) → Reads v r → Gives (λ x. x) r (reader (input_view v)))

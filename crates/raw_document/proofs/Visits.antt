@@ -1,11 +1,34 @@
 -- Going through a list, item by item.
 use Rattle.std.proofs.Common.{◌≡◌, ℕ, suc, ◌+◌, ◌<◌, List, [], ◌∷◌, ◌++◌, length, drop, get_or, Result, Ok, Err, refl, sym, ap, subst, ◌∙◌, append_assoc, inl, inr, add-one, drop-cons}
+use Rattle.std.specs.Prelude.{◌⊎◌, ⊤}
+use Rattle.std.specs.Global.{Vec}
 use Rattle.std.proofs.lemmas.List.{append-nil}
 use Rattle.raw_document.specs.declared.doc_path.PathStep.TheVariants.{Index}
 use Rattle.raw_document.specs.declared.doc_path.Fault.{Fault}
 use Rattle.raw_document.specs.Reading.{IsFaultUnder}
 use Rattle.raw_document.specs.declared.doc_path.Fault.TheVariants.{OutOfMemory, At}
-use Rattle.raw_document.specs.Visits.{Runs, ReadsEach, ChecksEach}
+
+-- Reading the items, of which the first stands at this place, ends so, where Reads says what the reading of one item may give.
+unfoldable pub Runs : {V T : Type 0} → (V → Result T Fault → Type 0) → ℕ → List V → Result (List T) Fault → Type 0
+Runs Reads place [] (Ok []) = Unit {0}
+Runs Reads place [] (Ok (x ∷ xs)) = ⊥
+Runs Reads place [] (Err fault) = ⊥
+Runs Reads place (v ∷ vs) (Ok []) = ⊥
+Runs Reads place (v ∷ vs) (Ok (x ∷ xs)) = Reads v (Ok x) × Runs Reads (suc place) vs (Ok xs)
+Runs {V} {T} Reads place (v ∷ vs) (Err fault) =
+    ((inner : Fault) × Reads v (Err inner) × IsFaultUnder (Index place) inner fault) ⊎ ((x : T) × Reads v (Ok x) × Runs Reads (suc place) vs (Err fault))
+
+-- the same of what a function returned, unless memory ran out
+abbrev pub ReadsEach : {V T : Type 0} → (V → Result T Fault → Type 0) → List V → Result (Vec T) Fault → Type 0
+ReadsEach Reads vs (Ok found) = Runs Reads 0 vs (Ok found.items)
+ReadsEach Reads vs (Err OutOfMemory) = Unit {0}
+ReadsEach Reads vs (Err (At path)) = Runs Reads 0 vs (Err (At path))
+
+-- the same where nothing is kept of the items
+abbrev pub ChecksEach : {V T : Type 0} → (V → Result T Fault → Type 0) → List V → Result ⊤ Fault → Type 0
+ChecksEach {V} {T} Reads vs (Ok u) = (found : List T) × Runs Reads 0 vs (Ok found)
+ChecksEach Reads vs (Err OutOfMemory) = Unit {0}
+ChecksEach Reads vs (Err (At path)) = Runs Reads 0 vs (Err (At path))
 
 -- what was read before, and what is still read
 abbrev pub front : {T : Type 0} → List T → Result (List T) Fault → Result (List T) Fault

@@ -70,20 +70,29 @@ user_at version d = do
 
 unfoldable pub group_at : ℕ → Data → Result Group (List PathStep)
 group_at version d = do
-  object_ok ← object (keys.Name ∷ keys.From ∷ keys.To ∷ keys.Paths ∷ keys.Users ∷ []) (keys.Function ∷ []) d
+  object_ok ← object (keys.Name ∷ keys.From ∷ keys.To ∷ keys.Paths ∷ keys.Users ∷ [])
+      (keys.Function ∷ []) d
   name ← field keys.Name text d
   from ← field keys.From text d
   to ← field keys.To text d
   configured ← optional keys.Function function d
   path_groups ← field keys.Paths (list_of (list_of path_at)) d
   users ← field keys.Users (list_of (user_at version)) d
-  Ok (record { name = name; from = from; to = to; function = configured; path_groups = path_groups; users = users })
+  Ok (record {
+    name = name;
+    from = from;
+    to = to;
+    function = configured;
+    path_groups = path_groups;
+    users = users;
+  })
 
 -- ---- an entry of the script
 
 -- From version 2 on, one of these keys alone makes an entry a report of a capacity.
 unfoldable pub is_of_link : ℕ → Data → Bool
-is_of_link version d = not (version == 1) && (is_some (get (word keys.Link) d) || is_some (get (word keys.Capacity) d))
+is_of_link version d =
+    not (version == 1) && (is_some (get (word keys.Link) d) || is_some (get (word keys.Capacity) d))
 
 unfoldable pub demand_at : Data → Result Report (List PathStep)
 demand_at d = do
@@ -113,13 +122,15 @@ closing_at d = do
 
 -- closings that are absent are none
 abbrev pub closings_at : Data → Result (List Closing) (List PathStep)
-closings_at d = optional keys.Closings (list_of closing_at) d >>= λ closings. Ok (unwrap_or closings [])
+closings_at d =
+    optional keys.Closings (list_of closing_at) d >>= λ closings. Ok (unwrap_or closings [])
 
 -- ---- the document
 
 unfoldable pub document_at : Data → Result Raw (List PathStep)
 document_at d = do
-  object_ok ← object (keys.Version ∷ keys.Top ∷ keys.Links ∷ keys.Groups ∷ keys.Reporters ∷ keys.Script ∷ [])
+  object_ok ← object
+      (keys.Version ∷ keys.Top ∷ keys.Links ∷ keys.Groups ∷ keys.Reporters ∷ keys.Script ∷ [])
       (keys.Closings ∷ []) d
   version ← field keys.Version whole d
   top ← field keys.Top whole d

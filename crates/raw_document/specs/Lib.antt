@@ -2,6 +2,5 @@ pub mod Words
 pub mod Reading
 pub mod Shape
 pub mod Raw
-pub mod Visits
 pub mod Forms
 pub mod Json

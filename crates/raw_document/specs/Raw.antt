@@ -1,4 +1,5 @@
--- A document with its shape found, and nothing else looked at. Names are bytes, and a function is a list of shares and amounts.
+-- A document with its shape found, and nothing else looked at. Names are bytes, and a function is a
+-- list of shares and amounts.
 use Rattle.std.specs.Prelude.{ℕ, List, Option, option_map}
 use denote.Ref.{Bor}
 use Rattle.std.specs.Global.{Vec}
@@ -78,7 +79,14 @@ abbrev pub name_view : Bor (List ℕ) → List ℕ
 name_view name = name.now
 
 abbrev pub link_view : RawLink → Link
-link_view link = record { name = link.name.now; from = link.from.now; to = link.to.now; capacity = link.capacity; owner = option_map name_view link.owner }
+link_view link =
+    record {
+      name = link.name.now;
+      from = link.from.now;
+      to = link.to.now;
+      capacity = link.capacity;
+      owner = option_map name_view link.owner;
+    }
 
 abbrev pub path_view : RawPath → Path
 path_view path = record { weight = path.weight; links = each_view name_view path.links }
@@ -93,10 +101,21 @@ abbrev pub function_view : Option (Vec (ℕ × ℕ)) → Option (List (ℕ × �
 function_view function = option_map (λ points. points.items) function
 
 abbrev pub job_view : RawJob → Job
-job_view job = record { name = job.name.now; function = function_view job.function; task = job.task.items; tasks = each_view task_view job.tasks }
+job_view job =
+    record {
+      name = job.name.now;
+      function = function_view job.function;
+      task = job.task.items;
+      tasks = each_view task_view job.tasks;
+    }
 
 abbrev pub user_view : RawUser → User
-user_view user = record { name = user.name.now; function = function_view user.function; jobs = each_view job_view user.jobs }
+user_view user =
+    record {
+      name = user.name.now;
+      function = function_view user.function;
+      jobs = each_view job_view user.jobs;
+    }
 
 abbrev pub group_view : RawGroup → Group
 group_view group = record {
@@ -113,7 +132,12 @@ target_view (targets.Task name) = of_task name.now
 target_view (targets.Link name) = of_link name.now
 
 abbrev pub report_view : RawReport → Report
-report_view report = record { reporter = report.reporter.now; target = target_view report.target; amount = report.amount }
+report_view report =
+    record {
+      reporter = report.reporter.now;
+      target = target_view report.target;
+      amount = report.amount;
+    }
 
 abbrev pub closing_view : RawClosing → Closing
 closing_view closing = record { link = closing.link.now; share = closing.share }

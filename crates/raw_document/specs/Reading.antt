@@ -9,7 +9,8 @@ use Rattle.raw_document.specs.declared.doc_path.Fault.TheVariants.{OutOfMemory, 
 -- ---- reading, which goes on after a value and stops at the first fault
 
 infixl 10 ◌>>=◌
-abbrev pub ◌>>=◌ : {A B : Type 0} → Result A (List PathStep) → (A → Result B (List PathStep)) → Result B (List PathStep)
+abbrev pub ◌>>=◌ : {A B : Type 0} → Result A (List PathStep) → (A → Result B (List PathStep))
+    → Result B (List PathStep)
 (Ok x) >>= f = f x
 (Err path) >>= f = Err path
 
@@ -29,18 +30,23 @@ check true = Ok tt
 check false = Err []
 
 -- each item in turn, of which the first stands at this place
-unfoldable pub each : {A B : Type 0} → (A → Result B (List PathStep)) → ℕ → List A → Result (List B) (List PathStep)
+unfoldable pub each : {A B : Type 0} → (A → Result B (List PathStep)) → ℕ → List A
+    → Result (List B) (List PathStep)
 each read place [] = Ok []
-each read place (item ∷ items) = under (Index place) (read item) >>= λ x. each read (suc place) items >>= λ xs. Ok (x ∷ xs)
+each read place (item ∷ items) =
+    under (Index place) (read item) >>= λ x. each read (suc place) items >>= λ xs. Ok (x ∷ xs)
 
 -- nothing wrong in any item, or the path of the first fault
-abbrev pub check_each : {A : Type 0} → (A → Result ⊤ (List PathStep)) → List A → Result ⊤ (List PathStep)
+abbrev pub check_each : {A : Type 0} → (A → Result ⊤ (List PathStep)) → List A
+    → Result ⊤ (List PathStep)
 check_each check items = each check 0 items >>= λ _. Ok tt
 
 -- each item in turn, where a state goes from one to the next
-unfoldable pub fold_each : {S A : Type 0} → (S → A → Result S (List PathStep)) → ℕ → S → List A → Result S (List PathStep)
+unfoldable pub fold_each : {S A : Type 0} → (S → A → Result S (List PathStep)) → ℕ → S → List A
+    → Result S (List PathStep)
 fold_each step place state [] = Ok state
-fold_each step place state (item ∷ items) = under (Index place) (step state item) >>= λ next. fold_each step (suc place) next items
+fold_each step place state (item ∷ items) =
+    under (Index place) (step state item) >>= λ next. fold_each step (suc place) next items
 
 -- ---- what the code answers
 
@@ -68,3 +74,10 @@ abbrev pub IsFaultUnder : PathStep → Fault → Fault → Type 0
 IsFaultUnder step below OutOfMemory = Unit {0}
 IsFaultUnder step OutOfMemory (At path) = ⊥
 IsFaultUnder step (At below) (At path) = path.steps.items ≡ step ∷ below.steps.items
+
+-- what was read, told from one step above
+abbrev pub IsUnder : {T : Type 0} → PathStep → Result T Fault → Result T Fault → Type 0
+IsUnder step (Ok x) (Ok y) = y ≡ x
+IsUnder step (Ok x) (Err fault) = ⊥
+IsUnder step (Err inner) (Ok y) = ⊥
+IsUnder step (Err inner) (Err fault) = IsFaultUnder step inner fault

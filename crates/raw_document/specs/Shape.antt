@@ -24,7 +24,8 @@ text d = or_fault (as_str d)
 
 -- exactly two whole numbers
 unfoldable pub pair_of : Items → Option (ℕ × ℕ)
-pair_of (item a (item b no_items)) = option_and_then (λ x. option_map (λ y. (x, y)) (number_of b)) (number_of a)
+pair_of (item a (item b no_items)) =
+    option_and_then (λ x. option_map (λ y. (x, y)) (number_of b)) (number_of a)
 pair_of _ = None
 
 -- a share and an amount; whatever is wrong with it is a fault of the point itself
@@ -33,20 +34,24 @@ point d = or_fault (option_and_then pair_of (as_array d))
 
 -- ---- members of an object
 
-abbrev pub read_found : {A : Type 0} → (Data → Result A (List PathStep)) → Option Data → Result A (List PathStep)
+abbrev pub read_found : {A : Type 0} → (Data → Result A (List PathStep)) → Option Data
+    → Result A (List PathStep)
 read_found read None = Err []
 read_found read (Some d) = read d
 
-abbrev pub read_some : {A : Type 0} → (Data → Result A (List PathStep)) → Option Data → Result (Option A) (List PathStep)
+abbrev pub read_some : {A : Type 0} → (Data → Result A (List PathStep)) → Option Data
+    → Result (Option A) (List PathStep)
 read_some read None = Ok None
 read_some read (Some d) = read d >>= λ x. Ok (Some x)
 
 -- a required member
-unfoldable pub field : {A : Type 0} → DocKey → (Data → Result A (List PathStep)) → Data → Result A (List PathStep)
+unfoldable pub field : {A : Type 0} → DocKey → (Data → Result A (List PathStep)) → Data
+    → Result A (List PathStep)
 field key read d = under (Key key) (read_found read (get (word key) d))
 
 -- a member that may be absent
-unfoldable pub optional : {A : Type 0} → DocKey → (Data → Result A (List PathStep)) → Data → Result (Option A) (List PathStep)
+unfoldable pub optional : {A : Type 0} → DocKey → (Data → Result A (List PathStep)) → Data
+    → Result (Option A) (List PathStep)
 optional key read d = under (Key key) (read_some read (get (word key) d))
 
 -- the name is one of the keys
@@ -56,7 +61,8 @@ is_one_of keys name = list_any (λ key. bytes_eq (word key) name) keys
 -- no member has another name
 unfoldable pub has_only : List DocKey → List DocKey → Members → Bool
 has_only required others no_members = true
-has_only required others (member name d rest) = (is_one_of required name || is_one_of others name) && has_only required others rest
+has_only required others (member name d rest) =
+    (is_one_of required name || is_one_of others name) && has_only required others rest
 
 -- each key is there
 unfoldable pub has_all : List DocKey → Data → Bool
@@ -64,7 +70,9 @@ has_all keys d = list_all (λ key. is_some (get (word key) d)) keys
 
 -- an object with all required keys, and none outside the table
 unfoldable pub object : List DocKey → List DocKey → Data → Result ⊤ (List PathStep)
-object required others d = or_fault (as_object d) >>= λ members. check (has_all required d && has_only required others members)
+object required others d =
+    or_fault (as_object d)
+    >>= λ members. check (has_all required d && has_only required others members)
 
 -- ---- items of a list
 
@@ -72,7 +80,8 @@ abbrev pub list_items : Items → List Data
 list_items no_items = []
 list_items (item d rest) = d ∷ list_items rest
 
-unfoldable pub list_of : {A : Type 0} → (Data → Result A (List PathStep)) → Data → Result (List A) (List PathStep)
+unfoldable pub list_of : {A : Type 0} → (Data → Result A (List PathStep)) → Data
+    → Result (List A) (List PathStep)
 list_of read d = or_fault (as_array d) >>= λ items. each read 0 (list_items items)
 
 -- a function is a list of points

@@ -13,7 +13,8 @@ pub enum PathStep {
     Index { place: u64 },
 }
 
-/// The steps from where one stands to a value below it, outermost first. Without a step it is the value itself.
+/// The steps from where one stands to a value below it, outermost first. Without a step it is the
+/// value itself.
 #[derive(Drop)]
 pub struct DocPath {
     pub steps: Vec<PathStep>,
@@ -55,7 +56,8 @@ impl Fault {
         })
     }
 
-    /// The same fault, seen from one step above. A fault is moved at most nine times, so the cost is small.
+    /// The same fault, seen from one step above. A fault is moved at most nine times, so the cost
+    /// is small.
     pub fn under(self, step: PathStep) -> Fault
         ensures { IsFaultUnder step self result }
     {

@@ -1,6 +1,7 @@
 //! A document with its shape found, and nothing else looked at. Names are lent by the JSON value.
 //!
-//! Functions are points of share and amount. Amounts, demands and capacities are kilobits per second.
+//! Functions are points of share and amount. Amounts, demands and capacities are kilobits per
+//! second.
 
 #[derive(Drop)]
 pub struct RawLink<'a> {

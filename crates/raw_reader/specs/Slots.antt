@@ -20,7 +20,8 @@ use Rattle.raw_reader.specs.declared.document.DocumentSlots.{DocumentSlots}
 use Rattle.raw_reader.specs.declared.entries.ReportSlots.{ReportSlots}
 
 -- the slot has what the member of the key shows
-abbrev pub Slot : {X Y : Type 0} → DocKey → (X → Y) → (Data → Result Y (List PathStep)) → Members → Option X → Type 0
+abbrev pub Slot : {X Y : Type 0} → DocKey → (X → Y) → (Data → Result Y (List PathStep)) → Members
+    → Option X → Type 0
 Slot key view read found slot = optional key read (object found) ≡ Ok (option_map view slot)
 
 abbrev pub number_view : ℕ → ℕ
@@ -36,7 +37,8 @@ LinkHolds version s found =
     × Slot keys.To name_view text found s.to
     × Slot keys.Capacity number_view whole found s.capacity
     × Slot keys.Owner name_view text found s.owner
-    × (has_only (keys.Name ∷ keys.From ∷ keys.To ∷ keys.Capacity ∷ []) (link_others version) found ≡ true)
+    × (has_only (keys.Name ∷ keys.From ∷ keys.To ∷ keys.Capacity ∷ []) (link_others version) found
+    ≡ true)
 
 abbrev pub PathHolds : ℕ → PathSlots → Members → Type 0
 PathHolds version s found =
@@ -74,7 +76,8 @@ GroupHolds version s found =
     × Slot keys.Function points_view function found s.function
     × Slot keys.Paths (each_view path_group_view) (list_of (list_of path_at)) found s.path_groups
     × Slot keys.Users (each_view user_view) (list_of (user_at version)) found s.users
-    × (has_only (keys.Name ∷ keys.From ∷ keys.To ∷ keys.Paths ∷ keys.Users ∷ []) (keys.Function ∷ []) found ≡ true)
+    × (has_only (keys.Name ∷ keys.From ∷ keys.To ∷ keys.Paths ∷ keys.Users ∷ [])
+    (keys.Function ∷ []) found ≡ true)
 
 abbrev pub ClosingHolds : ℕ → ClosingSlots → Members → Type 0
 ClosingHolds version s found =
@@ -91,7 +94,8 @@ DocumentHolds version s found =
     × Slot keys.Reporters (each_view name_view) (list_of text) found s.reporters
     × Slot keys.Script (each_view report_view) (list_of (report_at version)) found s.script
     × Slot keys.Closings (each_view closing_view) (list_of closing_at) found s.closings
-    × (has_only (keys.Version ∷ keys.Top ∷ keys.Links ∷ keys.Groups ∷ keys.Reporters ∷ keys.Script ∷ []) (keys.Closings ∷ []) found ≡ true)
+    × (has_only (keys.Version ∷ keys.Top ∷ keys.Links ∷ keys.Groups ∷ keys.Reporters ∷ keys.Script
+    ∷ []) (keys.Closings ∷ []) found ≡ true)
 
 abbrev pub ReportHolds : ℕ → ReportSlots → Members → Type 0
 ReportHolds version s found =
@@ -100,5 +104,7 @@ ReportHolds version s found =
     × Slot keys.Demand number_view whole found s.demand
     × Slot keys.Link name_view text found s.link
     × Slot keys.Capacity number_view whole found s.capacity
-    × (s.link ≡ None → s.capacity ≡ None → has_only (keys.Reporter ∷ keys.Task ∷ keys.Demand ∷ []) [] found ≡ true)
-    × (s.task ≡ None → s.demand ≡ None → has_only (keys.Reporter ∷ keys.Link ∷ keys.Capacity ∷ []) [] found ≡ true)
+    × (s.link ≡ None → s.capacity ≡ None
+    → has_only (keys.Reporter ∷ keys.Task ∷ keys.Demand ∷ []) [] found ≡ true)
+    × (s.task ≡ None → s.demand ≡ None
+    → has_only (keys.Reporter ∷ keys.Link ∷ keys.Capacity ∷ []) [] found ≡ true)

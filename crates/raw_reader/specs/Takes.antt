@@ -8,7 +8,8 @@ use Rattle.raw_document.specs.Shape.{list_items}
 
 -- a value was taken, whose data are such
 abbrev pub Takes : ℕ → List Token → List Token → (Data → Type 0) → Type 0
-Takes depth old new Such = (d : Data) × (converted of_json (value depth old) ≡ Some (d, new)) × Such d
+Takes depth old new Such = (d : Data) × (converted of_json (value depth old) ≡ Some (d, new))
+    × Such d
 
 -- each item was read so
 abbrev pub EachRead : {T : Type 0} → (Data → T → Type 0) → List Data → List T → Type 0
@@ -21,10 +22,14 @@ EachRead IsRead (d ∷ ds) (x ∷ xs) = IsRead d x × EachRead IsRead ds xs
 abbrev pub ListRead : {T : Type 0} → (Data → T → Type 0) → Data → List T → Type 0
 ListRead IsRead d xs = (items : Items) × (d ≡ array items) × EachRead IsRead (list_items items) xs
 
--- The value of a member of this key was taken: what held of the members before holds, as it then is, of them with this one.
-abbrev pub TakesMember : ℕ → List ℕ → List Token → List Token → (Members → Type 0) → (Members → Type 0) → Type 0
-TakesMember depth key old new Before After = Takes depth old new (λ d. (found : Members) → Before found → After (put key d found))
+-- The value of a member of this key was taken: what held of the members before holds, as it then
+-- is, of them with this one.
+abbrev pub TakesMember : ℕ → List ℕ → List Token → List Token → (Members → Type 0)
+    → (Members → Type 0) → Type 0
+TakesMember depth key old new Before After =
+    Takes depth old new (λ d. (found : Members) → Before found → After (put key d found))
 
 -- an object was taken, and this holds of its members
 abbrev pub TakesObject : ℕ → List Token → List Token → (Members → Type 0) → Type 0
-TakesObject depth old new Holds = Takes depth old new (λ d. (found : Members) × (d ≡ object found) × Holds found)
+TakesObject depth old new Holds =
+    Takes depth old new (λ d. (found : Members) × (d ≡ object found) × Holds found)

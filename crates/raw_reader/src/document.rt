@@ -125,7 +125,8 @@ fn guess_version(text: &str, scratch: &mut Scratch) -> Option<u64> {
     None
 }
 
-/// The document of a JSON text in UTF-8, where it can be read straight from its tokens: mostly where its shape has no fault.
+/// The document of a JSON text in UTF-8, where it can be read straight from its tokens: mostly
+/// where its shape has no fault.
 pub fn read_straight<'a>(
     alloc: Global,
     bytes: &'a [u8],

@@ -1,7 +1,8 @@
 //! A document straight from the tokens of its text, with no tree of values between.
 //!
-//! `plan_doc` above asks `read_straight` first. What it gives is what `raw_shape` reads of the same bytes by their tree; where
-//! it gives nothing, which is promised of no text, the tree is read, and finds the first fault.
+//! `plan_doc` above asks `read_straight` first. What it gives is what `raw_shape` reads of the same
+//! bytes by their tree; where it gives nothing, which is promised of no text, the tree is read, and
+//! finds the first fault.
 #![tactic(auto)]
 
 mod document;

@@ -1,3 +1,1 @@
 pub mod Members
-pub mod Counting
-pub mod Parts

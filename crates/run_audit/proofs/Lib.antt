@@ -6,3 +6,4 @@ pub mod Takes
 mod Pursues
 mod Fits
 mod Verdicts
+mod AskedTotals

@@ -18,4 +18,5 @@ cause_text causes.Table = codes "table"
 -- that the text is legal, or its first line at fault and why
 unfoldable pub verdict_line : AuditVerdict → List ℕ
 verdict_line Legal = codes "legal\n"
-verdict_line (Wrong line cause) = codes "wrong at line " ++ decimal line ++ codes ": " ++ cause_text cause ++ codes "\n"
+verdict_line (Wrong line cause) =
+    codes "wrong at line " ++ decimal line ++ codes ": " ++ cause_text cause ++ codes "\n"

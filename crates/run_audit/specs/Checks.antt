@@ -1,5 +1,5 @@
 -- The totals that lines show, apart from the other causes.
-use Rattle.std.specs.Prelude.{ℕ, ◌==◌, ◌+◌, ◌++◌, List, [], ◌∷◌, Option, Some, None, Result, Ok, Err, if◌then◌else◌}
+use Rattle.std.specs.Prelude.{◌≡◌, ℕ, ◌<◌, ◌==◌, ◌+◌, ◌++◌, Bool, true, false, List, [], ◌∷◌, Option, Some, None, Result, Ok, Err, slice_index, slice_index_or, if◌then◌else◌}
 use Rattle.bwe_specs.specs.declared.report.Report.{Report}
 use Rattle.doc_names.specs.NameTexts.{NameTexts}
 use Rattle.run_audit.specs.Walk.{Walk, Walked, after_line, is_over}
@@ -22,7 +22,8 @@ found_of pursued = record { checks = pursued.checks.items; verdict = pursued.ver
 
 abbrev pub checks_of : ℕ → Option Shown → List Check
 checks_of number None = []
-checks_of number (Some shown) = record { line = number; prefix = shown.prefix; total = shown.total } ∷ []
+checks_of number (Some shown) =
+    record { line = number; prefix = shown.prefix; total = shown.total } ∷ []
 
 abbrev pub with_checks : List Check → Found → Found
 with_checks checks found = record { checks = checks ++ found.checks; verdict = found.verdict }
@@ -32,12 +33,20 @@ find_on number next (Err cause) = record { checks = []; verdict = Wrong number c
 find_on number next (Ok walked) = with_checks (checks_of number walked.shown) (next walked.walk)
 
 unfoldable pub pursue : NameTexts → List (List Report) → List ℕ → Walk → ℕ → List (List ℕ) → Found
-pursue names scripts left walk number [] = record { checks = []; verdict = at_end (is_over walk) number left }
+pursue names scripts left walk number [] =
+    record { checks = []; verdict = at_end (is_over walk) number left }
 pursue names scripts left walk number (line ∷ lines) =
-    find_on number (λ next. pursue names scripts left next (number + 1) lines) (after_line names scripts walk line)
+    find_on number (λ next. pursue names scripts left next (number + 1) lines)
+    (after_line names scripts walk line)
 
 -- the first total that is not the one of its prefix, or else the verdict
 abbrev pub first_wrong : (ℕ → ℕ) → AuditVerdict → List Check → AuditVerdict
 first_wrong total_at verdict [] = verdict
 first_wrong total_at verdict (check ∷ checks) =
-    if total_at check.prefix == check.total then first_wrong total_at verdict checks else Wrong check.line causes.Total
+    if total_at check.prefix == check.total then first_wrong total_at verdict checks
+    else Wrong check.line causes.Total
+
+-- each of so many first numbers is the total of its prefix, where that is asked for
+abbrev pub AreTotals : List Bool → ℕ → (ℕ → ℕ) → List ℕ → Type 0
+AreTotals asked count total_at totals = (prefix : ℕ) → prefix < count
+    → slice_index_or asked prefix false ≡ true → slice_index totals prefix ≡ total_at prefix

@@ -9,7 +9,8 @@ use Rattle.run_audit.specs.declared.forms.Shown.{Shown}
 
 -- `history <number of reports>`
 unfoldable pub history_of : List (List ℕ) → Option ℕ
-history_of words = if (length words == 2) && is_word words 0 (codes "history") then number_at words 1 else None
+history_of words =
+    if (length words == 2) && is_word words 0 (codes "history") then number_at words 1 else None
 
 -- the first word goes with the name in the fourth: a task's in a report, a link's in a capacity
 unfoldable pub is_of_known : NameTexts → List (List ℕ) → Bool
@@ -21,18 +22,22 @@ abbrev pub report_words : Option ℕ → Option ℕ → Option ℕ → Option Re
 report_words None reporter amount = None
 report_words (Some place) None amount = None
 report_words (Some place) (Some reporter) None = None
-report_words (Some place) (Some reporter) (Some amount) = Some (record { place = place; reporter = reporter; amount = amount })
+report_words (Some place) (Some reporter) (Some amount) =
+    Some (record { place = place; reporter = reporter; amount = amount })
 
 -- `report <place> <reporter> <task> <demand>`, or `capacity <place> <reporter> <link> <capacity>`
 unfoldable pub report_of : NameTexts → List (List ℕ) → Option ReportWords
 report_of names words =
     if (length words == 5) && is_of_known names words
-    then report_words (number_at words 1) (position (bytes_eq (word_at words 2)) names.reporters) (number_at words 4) else None
+    then report_words (number_at words 1) (position (bytes_eq (word_at words 2)) names.reporters)
+    (number_at words 4) else None
 
 -- the number in `reporter <reporter> sent <number>`
 unfoldable pub sent_of : NameTexts → List (List ℕ) → Option ℕ
 sent_of names words =
-    if (length words == 4) && (is_word words 0 (codes "reporter") && (is_word words 2 (codes "sent") && is_known names.reporters (word_at words 1)))
+    if (length words == 4)
+    && (is_word words 0 (codes "reporter")
+    && (is_word words 2 (codes "sent") && is_known names.reporters (word_at words 1)))
     then number_at words 3 else None
 
 abbrev pub reader_words : Option ℕ → Option ℕ → Option ReaderWords
@@ -50,10 +55,14 @@ abbrev pub shown_words : Option ℕ → Option ℕ → Option ℕ → Option Sho
 shown_words None prefix total = None
 shown_words (Some floor) None total = None
 shown_words (Some floor) (Some prefix) None = None
-shown_words (Some floor) (Some prefix) (Some total) = Some (record { floor = floor; prefix = prefix; total = total })
+shown_words (Some floor) (Some prefix) (Some total) =
+    Some (record { floor = floor; prefix = prefix; total = total })
 
 -- `<kind> floor <floor> prefix <prefix> total <total>`
 unfoldable pub shown_of : List ℕ → List (List ℕ) → Option Shown
 shown_of kind words =
-    if (length words == 7) && (is_word words 0 kind && (is_word words 1 (codes "floor") && (is_word words 3 (codes "prefix") && is_word words 5 (codes "total"))))
+    if (length words == 7)
+    && (is_word words 0 kind
+    && (is_word words 1 (codes "floor")
+    && (is_word words 3 (codes "prefix") && is_word words 5 (codes "total"))))
     then shown_words (number_at words 2) (number_at words 4) (number_at words 6) else None

@@ -41,12 +41,15 @@ begins total (Some number) next = if number == total then next else fault 0 Scri
 
 -- the report of the reporter's script that comes next
 abbrev pub next_of : List (List Report) → List ℕ → ℕ → Option Report
-next_of scripts taken reporter = slice_get (slice_index_or scripts reporter []) (slice_index taken reporter)
+next_of scripts taken reporter =
+    slice_get (slice_index_or scripts reporter []) (slice_index taken reporter)
 
 -- the line is of this task or link
 unfoldable pub is_of : NameTexts → List (List ℕ) → Target → Bool
-is_of names words (Task number) = is_word words 0 (codes "report") && bytes_eq (word_at words 3) (word_at names.tasks number)
-is_of names words (Link number) = is_word words 0 (codes "capacity") && bytes_eq (word_at words 3) (word_at names.links number)
+is_of names words (Task number) =
+    is_word words 0 (codes "report") && bytes_eq (word_at words 3) (word_at names.tasks number)
+is_of names words (Link number) =
+    is_word words 0 (codes "capacity") && bytes_eq (word_at words 3) (word_at names.links number)
 
 -- the line is of this report, and in its place
 unfoldable pub is_line_of : NameTexts → List (List ℕ) → ReportWords → ℕ → Report → Bool
@@ -64,18 +67,21 @@ with_report printed reporter report = record {
 abbrev pub line_after : Printed → ℕ
 line_after printed = length printed.reports + 1
 
-unfoldable pub take_next : NameTexts → Printed → List (List ℕ) → ReportWords → Option Report → Result Printed Fault
+unfoldable pub take_next : NameTexts → Printed → List (List ℕ) → ReportWords → Option Report
+    → Result Printed Fault
 take_next names printed words told None = fault (line_after printed) Script
 take_next names printed words told (Some report) =
     if is_line_of names words told (length printed.reports) report
     then Ok (with_report printed told.reporter report) else fault (line_after printed) Script
 
-unfoldable pub take_words : NameTexts → List (List Report) → Printed → List (List ℕ) → Option ReportWords → Result Printed Fault
+unfoldable pub take_words : NameTexts → List (List Report) → Printed → List (List ℕ)
+    → Option ReportWords → Result Printed Fault
 take_words names scripts printed words None = fault (line_after printed) Form
 take_words names scripts printed words (Some told) =
     take_next names printed words told (next_of scripts printed.taken told.reporter)
 
--- the line of a report has to be that of the next report of its reporter's script, with the next place
+-- the line of a report has to be that of the next report of its reporter's script, with the next
+-- place
 unfoldable pub take_line : NameTexts → List (List Report) → Printed → List ℕ → Result Printed Fault
 take_line names scripts printed line =
     take_words names scripts printed (words_of line) (report_of names (words_of line))
@@ -85,18 +91,21 @@ pub record Reported : Type 0 where
   pub reports : List Report
   pub lines : List (List ℕ)
 
-abbrev pub continue_with : (Printed → Result Reported Fault) → Result Printed Fault → Result Reported Fault
+abbrev pub continue_with : (Printed → Result Reported Fault) → Result Printed Fault
+    → Result Reported Fault
 continue_with next (Ok printed) = next printed
 continue_with next (Err error) = Err error
 
 -- lines, until there are as many reports as the scripts have
-unfoldable pub take_lines : NameTexts → List (List Report) → Printed → List (List ℕ) → Result Reported Fault
+unfoldable pub take_lines : NameTexts → List (List Report) → Printed → List (List ℕ)
+    → Result Reported Fault
 take_lines names scripts printed [] =
     if nat_lt (length printed.reports) (total_of scripts)
     then fault (line_after printed) Form else Ok (record { reports = printed.reports; lines = [] })
 take_lines names scripts printed (line ∷ lines) =
     if nat_lt (length printed.reports) (total_of scripts)
-    then continue_with (λ next. take_lines names scripts next lines) (take_line names scripts printed line)
+    then continue_with (λ next. take_lines names scripts next lines)
+    (take_line names scripts printed line)
     else Ok (record { reports = printed.reports; lines = line ∷ lines })
 
 abbrev pub none_printed : List (List Report) → Printed
@@ -106,7 +115,8 @@ none_printed scripts = record { reports = []; taken = replicate (length scripts)
 unfoldable pub history_in : NameTexts → List (List Report) → List (List ℕ) → Result Reported Fault
 history_in names scripts [] = fault 0 Form
 history_in names scripts (line ∷ lines) =
-    begins (total_of scripts) (history_of (words_of line)) (take_lines names scripts (none_printed scripts) lines)
+    begins (total_of scripts) (history_of (words_of line))
+    (take_lines names scripts (none_printed scripts) lines)
 
 -- ---- what the code answers
 

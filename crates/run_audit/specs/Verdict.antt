@@ -30,24 +30,32 @@ is_total total_at (Some shown) = total_at shown.prefix == shown.total
 
 abbrev pub go_on : (ℕ → ℕ) → ℕ → (Walk → AuditVerdict) → Result Walked AuditCause → AuditVerdict
 go_on total_at number next (Err cause) = Wrong number cause
-go_on total_at number next (Ok walked) = if is_total total_at walked.shown then next walked.walk else Wrong number causes.Total
+go_on total_at number next (Ok walked) =
+    if is_total total_at walked.shown then next walked.walk else Wrong number causes.Total
 
 -- the first fault of the lines from this number on
-unfoldable pub judge : NameTexts → List (List Report) → (ℕ → ℕ) → List ℕ → Walk → ℕ → List (List ℕ) → AuditVerdict
+unfoldable pub judge : NameTexts → List (List Report) → (ℕ → ℕ) → List ℕ → Walk → ℕ → List (List ℕ)
+    → AuditVerdict
 judge names scripts total_at left walk number [] = at_end (is_over walk) number left
 judge names scripts total_at left walk number (line ∷ lines) =
-    go_on total_at number (λ next. judge names scripts total_at left next (number + 1) lines) (after_line names scripts walk line)
+    go_on total_at number (λ next. judge names scripts total_at left next (number + 1) lines)
+    (after_line names scripts walk line)
 
-abbrev pub judge_rest : NameTexts → List (List Report) → (List Report → ℕ) → List (List ℕ) → List ℕ → Result Reported Fault → AuditVerdict
+abbrev pub judge_rest : NameTexts → List (List Report) → (List Report → ℕ) → List (List ℕ) → List ℕ
+    → Result Reported Fault → AuditVerdict
 judge_rest names scripts total table left (Err fault) = Wrong fault.line fault.cause
 judge_rest names scripts total table left (Ok reported) =
     judge names scripts (λ prefix. total (take prefix reported.reports)) left
-    (record { due = due_from scripts 0; table = table }) (length reported.reports + 1) reported.lines
+    (record { due = due_from scripts 0; table = table }) (length reported.reports + 1)
+    reported.lines
 
--- the first fault of a text: the history, then what is behind it, where `total` gives the total of the table of some reports
-unfoldable pub verdict_of : NameTexts → List (List Report) → (List Report → ℕ) → List ℕ → List ℕ → AuditVerdict
+-- the first fault of a text: the history, then what is behind it, where `total` gives the total of
+-- the table of some reports
+unfoldable pub verdict_of : NameTexts → List (List Report) → (List Report → ℕ) → List ℕ → List ℕ
+    → AuditVerdict
 verdict_of names scripts total table text =
-    judge_rest names scripts total (lines_of table) (left_of text) (history_in names scripts (lines_of text))
+    judge_rest names scripts total (lines_of table) (left_of text)
+    (history_in names scripts (lines_of text))
 
 -- ---- what an audit asks of its scripts
 

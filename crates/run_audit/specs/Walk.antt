@@ -27,14 +27,17 @@ leads_to due = Ok (record { due = due; shown = None })
 abbrev pub due_from : List (List Report) → ℕ → Due
 due_from scripts next = if nat_lt next (length scripts) then Reporter next else Reader
 
-abbrev pub sent_leads : NameTexts → List (List Report) → ℕ → List (List ℕ) → Option ℕ → Result Step AuditCause
+abbrev pub sent_leads : NameTexts → List (List Report) → ℕ → List (List ℕ) → Option ℕ
+    → Result Step AuditCause
 sent_leads names scripts next words None = Err causes.Form
 sent_leads names scripts next words (Some sent) =
-    if bytes_eq (word_at words 1) (word_at names.reporters next) && (sent == length (slice_index_or scripts next []))
+    if bytes_eq (word_at words 1) (word_at names.reporters next)
+    && (sent == length (slice_index_or scripts next []))
     then leads_to (due_from scripts (next + 1)) else Err causes.Sent
 
 -- the reporter's line has to have its name and the length of its script
-unfoldable pub after_reporter : NameTexts → List (List Report) → ℕ → List (List ℕ) → Result Step AuditCause
+unfoldable pub after_reporter : NameTexts → List (List Report) → ℕ → List (List ℕ)
+    → Result Step AuditCause
 after_reporter names scripts next words = sent_leads names scripts next words (sent_of names words)
 
 -- ---- readers
@@ -46,7 +49,8 @@ abbrev pub reader_leads : ℕ → ℕ → Option ℕ → Option ReaderWords → 
 reader_leads total number wanted None = Err causes.Form
 reader_leads total number wanted (Some reader) =
     if (reader.number == number) && nat_lt reader.number 64
-    then (if reader.length == total then leads_to (Line (new_block number wanted)) else Err causes.Length)
+    then (if reader.length == total then leads_to (Line (new_block number wanted))
+    else Err causes.Length)
     else Err causes.Reader
 
 -- the reader's line has to have the next number, and the length of the history
@@ -56,13 +60,17 @@ after_reader total number wanted words = reader_leads total number wanted (reade
 -- no floor is below the prefix before it, no prefix below its floor or above the history's length
 abbrev pub goes_on : ℕ → Block → Shown → Bool
 goes_on total block shown =
-    nat_le block.prefix shown.floor && (nat_le shown.floor shown.prefix && nat_le shown.prefix total)
+    nat_le block.prefix shown.floor
+    && (nat_le shown.floor shown.prefix && nat_le shown.prefix total)
 
 unfoldable pub after_read : ℕ → Block → Shown → Result Step AuditCause
 after_read total block shown =
     if nat_lt block.reads 1000
     then (if goes_on total block shown
-    then Ok (record { due = Line (record block { reads = block.reads + 1; prefix = shown.prefix }); shown = Some shown })
+    then Ok (record {
+      due = Line (record block { reads = block.reads + 1; prefix = shown.prefix });
+      shown = Some shown;
+    })
     else Err causes.Prefix)
     else Err causes.Reader
 
@@ -86,7 +94,8 @@ shown_leads total block None None = Err causes.Form
 
 -- a line of a reader's block: a read, or the final line, which ends the block
 unfoldable pub after_shown : ℕ → Block → List (List ℕ) → Result Step AuditCause
-after_shown total block words = shown_leads total block (shown_of (codes "read") words) (shown_of (codes "final") words)
+after_shown total block words =
+    shown_leads total block (shown_of (codes "read") words) (shown_of (codes "final") words)
 
 -- ---- the table
 
@@ -101,14 +110,17 @@ pub record Walked : Type 0 where
   pub shown : Option Shown
 
 abbrev pub with_table : List (List ℕ) → Result Step AuditCause → Result Walked AuditCause
-with_table table (Ok step) = Ok (record { walk = record { due = step.due; table = table }; shown = step.shown })
+with_table table (Ok step) =
+    Ok (record { walk = record { due = step.due; table = table }; shown = step.shown })
 with_table table (Err cause) = Err cause
 
 -- a line of the table has to be the one in its place
 abbrev pub after_table : List (List ℕ) → List ℕ → Result Walked AuditCause
 after_table [] line = Err causes.Table
 after_table (wanted ∷ table) line =
-    if bytes_eq line wanted then Ok (record { walk = record { due = Table; table = table }; shown = None }) else Err causes.Table
+    if bytes_eq line wanted
+    then Ok (record { walk = record { due = Table; table = table }; shown = None })
+    else Err causes.Table
 
 -- the line begins as one of a reader
 abbrev pub is_reader : List ℕ → Bool
@@ -117,11 +129,13 @@ is_reader line = starts_with nat_eq line (codes "reader ")
 -- ---- any line
 
 -- where a line leads that is not of the table
-unfoldable pub step_from : NameTexts → List (List Report) → Due → List (List ℕ) → Result Step AuditCause
+unfoldable pub step_from : NameTexts → List (List Report) → Due → List (List ℕ)
+    → Result Step AuditCause
 step_from names scripts (Reporter next) words = after_reporter names scripts next words
 step_from names scripts Reader words = after_reader (total_of scripts) 0 None words
 step_from names scripts (Line block) words = after_shown (total_of scripts) block words
-step_from names scripts (Next readers reads) words = after_reader (total_of scripts) readers (Some reads) words
+step_from names scripts (Next readers reads) words =
+    after_reader (total_of scripts) readers (Some reads) words
 step_from names scripts Table words = Err causes.Table
 
 -- behind a block a line that does not begin as a reader's is the table's first
@@ -132,7 +146,8 @@ is_table_line (Line block) line = false
 is_table_line (Next readers reads) line = not (is_reader line)
 is_table_line Table line = true
 
-unfoldable pub after_line : NameTexts → List (List Report) → Walk → List ℕ → Result Walked AuditCause
+unfoldable pub after_line : NameTexts → List (List Report) → Walk → List ℕ
+    → Result Walked AuditCause
 after_line names scripts walk line =
     if is_table_line walk.due line then after_table walk.table line
     else with_table walk.table (step_from names scripts walk.due (words_of line))
@@ -162,4 +177,5 @@ IsDue scripts Table = Unit {0}
 
 -- what is due stays so, and the prefix that a line shows is not above the history's length
 abbrev pub IsStep : ℕ → Step → Type 0
-IsStep total step = ((scripts : ℕ) → IsDue scripts step.due) × IfSome step.shown (λ shown. shown.prefix ≤ total)
+IsStep total step = ((scripts : ℕ) → IsDue scripts step.due)
+    × IfSome step.shown (λ shown. shown.prefix ≤ total)

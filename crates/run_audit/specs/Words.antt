@@ -1,4 +1,5 @@
--- The words of a line by their places, and the numbers and names among them. A text is the list of its bytes.
+-- The words of a line by their places, and the numbers and names among them. A text is the list of
+-- its bytes.
 use Rattle.std.specs.Prelude.{ℕ, Bool, List, [], Option, slice_index_or}
 use Rattle.std.specs.List.{list_any}
 use Rattle.std.specs.Str.{bytes_eq}

@@ -72,7 +72,8 @@ fn after_reporter(
     line: &LineWords<'_>,
 ) -> Result<Step, AuditCause>
     requires next { next < length scripts.now }
-    ensures step { result ≡ walk.after_reporter (texts_of names.now) (scripts_of scripts.now) next line.now }
+    ensures step { result
+        ≡ walk.after_reporter (texts_of names.now) (scripts_of scripts.now) next line.now }
     ensures due { IfOk result (λ step. walk.IsDue (length scripts.now) step.due) }
     ensures shown { IfOk result (λ step. IsNone step.shown) }
 {
@@ -204,7 +205,8 @@ pub(crate) fn step_from(
 ) -> Result<Step, AuditCause>
     requires total { total ≡ total_of (scripts_of scripts.now) }
     requires due { walk.IsDue (length scripts.now) due }
-    ensures step { result ≡ walk.step_from (texts_of names.now) (scripts_of scripts.now) due line.now }
+    ensures step { result
+        ≡ walk.step_from (texts_of names.now) (scripts_of scripts.now) due line.now }
     ensures due { IfOk result (λ step. walk.IsDue (length scripts.now) step.due) }
     ensures shown { IfOk result (λ step. IfSome step.shown (λ shown. shown.prefix ≤ total)) }
 {

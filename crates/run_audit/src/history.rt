@@ -27,7 +27,8 @@ impl Model for PrintedHistory {
 
     ghost Value = { Printed };
 
-    ghost view = { λ printed. record { reports = printed.reports.items; taken = printed.taken.items } };
+    ghost view = { λ printed.
+        record { reports = printed.reports.items; taken = printed.taken.items } };
 }
 
 impl PrintedHistory {
@@ -69,9 +70,11 @@ impl PrintedHistory {
     fn take_line(&mut self, names: &Names, scripts: &[Vec<Report>], line: &[u8]) -> Result<(), Stop>
         requires taken { length self.old.taken ≡ length scripts.now }
         ensures ok { OnOk result
-            (history.take_line (texts_of names.now) (scripts_of scripts.now) self.old line.now ≡ Ok self.new) }
+            (history.take_line (texts_of names.now) (scripts_of scripts.now) self.old line.now
+            ≡ Ok self.new) }
         ensures stop { IfErr result
-            (IsStop (history.take_line (texts_of names.now) (scripts_of scripts.now) self.old line.now)) }
+            (IsStop (history.take_line (texts_of names.now) (scripts_of scripts.now) self.old
+            line.now)) }
         ensures taken { OnOk result (length self.new.taken ≡ length scripts.now) }
         ensures grows { OnOk result (length self.new.reports ≡ length self.old.reports + 1) }
     {
@@ -92,7 +95,8 @@ impl PrintedHistory {
         requires taken { length self.old.taken ≡ length scripts.now }
         ensures ok { OnOk result (history.take_words (texts_of names.now) (scripts_of scripts.now)
             self.old line.now (report_words (texts_of names.now) line.now) ≡ Ok self.new) }
-        ensures stop { IfErr result (IsStop (history.take_words (texts_of names.now) (scripts_of scripts.now)
+        ensures stop { IfErr result
+            (IsStop (history.take_words (texts_of names.now) (scripts_of scripts.now)
             self.old line.now (report_words (texts_of names.now) line.now))) }
         ensures taken { OnOk result (length self.new.taken ≡ length scripts.now) }
         ensures grows { OnOk result (length self.new.reports ≡ length self.old.reports + 1) }
@@ -126,10 +130,12 @@ impl PrintedHistory {
         requires within { length self.old.reports ≤ total }
         requires number { text.old.number ≡ history.line_after self.old }
         ensures ok { OnOk result
-            (history.take_lines (texts_of names.now) (scripts_of scripts.now) self.old text.old.lines
+            (history.take_lines (texts_of names.now) (scripts_of scripts.now) self.old
+            text.old.lines
             ≡ Ok (record { reports = self.new.reports; lines = text.new.lines })) }
         ensures stop { IfErr result
-            (IsStop (history.take_lines (texts_of names.now) (scripts_of scripts.now) self.old text.old.lines)) }
+            (IsStop (history.take_lines (texts_of names.now) (scripts_of scripts.now) self.old
+            text.old.lines)) }
         ensures all { OnOk result (length self.new.reports ≡ total) }
         ensures left { OnOk result (text.new.left ≡ text.old.left) }
         ensures number { OnOk result (text.new.number ≡ history.line_after self.new) }

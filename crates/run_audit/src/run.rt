@@ -21,9 +21,10 @@ use text_scan::Lines;
 
 /// The first fault of a printed run, or that it is legal ("Audit", docs/DEFINITIONS.md).
 ///
-/// `scripts` has the reports of each reporter, in the order of their numbers, and `table` is the table's text, of whole lines.
-/// The maker absorbs the printed history once, in its order, and makes a table for each prefix that a line names.
-/// It absorbs nothing where the history is at fault. A line costs the time to go over its bytes a few times.
+/// `scripts` has the reports of each reporter, in the order of their numbers, and `table` is the
+/// table's text, of whole lines. The maker absorbs the printed history once, in its order, and
+/// makes a table for each prefix that a line names. It absorbs nothing where the history is at
+/// fault. A line costs the time to go over its bytes a few times.
 pub fn audit<M: Maker>(
     alloc: Global,
     maker: M,
@@ -36,7 +37,8 @@ pub fn audit<M: Maker>(
     requires fit { AreFit (M.plan_tasks (M.plan maker)) (M.plan_links (M.plan maker)) scripts.now }
     requires few { total_of (scripts_of scripts.now) ≤ 200_000 }
     ensures { IfOk result (λ verdict. verdict
-        ≡ verdict_of (texts_of names.now) (scripts_of scripts.now) (λ reports. M.Table.total_of (M.table_of (M.plan maker) reports)) table.now text.now) }
+        ≡ verdict_of (texts_of names.now) (scripts_of scripts.now)
+        (λ reports. M.Table.total_of (M.table_of (M.plan maker) reports)) table.now text.now) }
 {
     let total = total_reports(scripts);
     let mut lines = Lines::new(text);
@@ -91,11 +93,14 @@ fn audit_rest<M: Maker>(
 ) -> Result<AuditVerdict, OutOfMemory>
     requires first { M.absorbed maker [] }
     requires few { length history.now ≤ 200_000 }
-    requires fit { All (IsFit (M.plan_tasks (M.plan maker)) (M.plan_links (M.plan maker))) history.now }
+    requires fit { All (IsFit (M.plan_tasks (M.plan maker)) (M.plan_links (M.plan maker)))
+        history.now }
     requires all { length history.now ≡ total_of (scripts_of scripts.now) }
     ensures { IfOk result (λ verdict. verdict ≡ judge (texts_of names.now) (scripts_of scripts.now)
-        (λ prefix. M.Table.total_of (M.table_of (M.plan maker) (take prefix history.now))) text.old.left
-        (record { due = first_due (scripts_of scripts.now) 0; table = table.entry.lines }) text.old.number text.old.lines) }
+        (λ prefix. M.Table.total_of (M.table_of (M.plan maker) (take prefix history.now)))
+        text.old.left
+        (record { due = first_due (scripts_of scripts.now) 0; table = table.entry.lines })
+        text.old.number text.old.lines) }
 {
     let mut walk = Walk {
         due: due_from(scripts, 0),

@@ -36,7 +36,9 @@ fn push_fault(
     cause: AuditCause,
 ) -> Result<(), AllocError>
     ensures { OnOk result
-        (string_bytes text.new ≡ string_bytes text.old ++ (words.now ++ decimal line ++ codes ": " ++ cause_text cause ++ codes "\n")) }
+        (string_bytes text.new
+        ≡ string_bytes text.old
+        ++ (words.now ++ decimal line ++ codes ": " ++ cause_text cause ++ codes "\n")) }
 {
     push_word_and_number(alloc, text, words, line)?;
     text.push_str(": ")?;

@@ -14,7 +14,8 @@ pub enum AuditCause {
     Script,
     /// The line is not that of the next reporter with the length of its script.
     Sent,
-    /// A reader's number is not the next, or its block has too many reads, or not as many as the first.
+    /// A reader's number is not the next, or its block has too many reads, or not as many as the
+    /// first.
     Reader,
     /// A reader's length is not that of the history.
     Length,

@@ -64,7 +64,8 @@ impl<'a> Walk<'a> {
     fn take_table_line(&mut self, line: &[u8]) -> Result<Option<Shown>, AuditCause>
         ensures ok { IfOk result (λ shown.
             steps.after_table self.old.table line.now ≡ Ok (record { walk = self.new; shown = shown })) }
-        ensures fault { IfErr result (λ cause. steps.after_table self.old.table line.now ≡ Err cause) }
+        ensures fault { IfErr result
+            (λ cause. steps.after_table self.old.table line.now ≡ Err cause) }
         ensures due { OnOk result (self.new.due ≡ Table) }
         ensures shown { IfOk result (λ shown. shown ≡ None) }
     {
@@ -168,7 +169,8 @@ pub(crate) fn pursue(
     requires due { steps.IsDue (length scripts.now) walk.old.due }
     ensures pursued { IfOk result (λ pursued.
         found_of pursued ≡ pursue_lines (texts_of names.now) (scripts_of scripts.now) text.old.left walk.old text.old.number text.old.lines) }
-    ensures prefixes { IfOk result (λ pursued. All (λ check. check.prefix ≤ total) pursued.checks.items) }
+    ensures prefixes { IfOk result
+        (λ pursued. All (λ check. check.prefix ≤ total) pursued.checks.items) }
 {
     let mut checks = Vec::new(alloc);
     loop {

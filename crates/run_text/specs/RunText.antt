@@ -33,7 +33,8 @@ target_name names (Link number) = name_at names.links number
 -- a report's place, reporter, target and amount
 abbrev pub told : NameTexts → ℕ → Report → List ℕ
 told names place report =
-    decimal place ++ codes " " ++ name_at names.reporters report.reporter ++ codes " " ++ target_name names report.target ++ codes " " ++ decimal report.amount ++ codes "\n"
+    decimal place ++ codes " " ++ name_at names.reporters report.reporter ++ codes " "
+    ++ target_name names report.target ++ codes " " ++ decimal report.amount ++ codes "\n"
 
 -- a report of the history
 abbrev pub report_line : NameTexts → ℕ → Report → List ℕ
@@ -45,11 +46,14 @@ beyond_line names place report = beyond_word report.target ++ told names place r
 
 -- how many reports a reporter sent
 abbrev pub sent_line : NameTexts → ℕ → ℕ → List ℕ
-sent_line names number sent = codes "reporter " ++ name_at names.reporters number ++ codes " sent " ++ decimal sent ++ codes "\n"
+sent_line names number sent =
+    codes "reporter " ++ name_at names.reporters number ++ codes " sent " ++ decimal sent
+    ++ codes "\n"
 
 -- what one read showed
 abbrev pub shown : ReadLine → List ℕ
-shown line = codes "floor " ++ decimal line.floor ++ codes " prefix " ++ decimal line.prefix ++ codes " total " ++ decimal line.total ++ codes "\n"
+shown line = codes "floor " ++ decimal line.floor ++ codes " prefix " ++ decimal line.prefix
+    ++ codes " total " ++ decimal line.total ++ codes "\n"
 
 abbrev pub read_line : ReadLine → List ℕ
 read_line line = codes "read " ++ shown line
@@ -57,7 +61,8 @@ read_line line = codes "read " ++ shown line
 abbrev pub final_line : ReadLine → List ℕ
 final_line line = codes "final " ++ shown line
 
--- what a reader saw: how long its final log is, what that has beyond the history, its reads, and the last one
+-- what a reader saw: how long its final log is, what that has beyond the history, its reads, and
+-- the last one
 abbrev pub reader_lines : NameTexts → ℕ → ℕ → ReaderLog → List ℕ
 reader_lines names history number reader =
     codes "reader " ++ decimal number ++ codes " length " ++ decimal reader.length ++ codes "\n"

@@ -35,7 +35,8 @@ fn push_final(text: &mut String, line: ReadLine) -> Result<(), AllocError>
 }
 
 fn push_reads(text: &mut String, lines: &[ReadLine]) -> Result<(), AllocError>
-    ensures { OnOk result (string_bytes text.new ≡ string_bytes text.old ++ flat_map read_line lines.now) }
+    ensures { OnOk result
+        (string_bytes text.new ≡ string_bytes text.old ++ flat_map read_line lines.now) }
 {
     for line in lines {
         push_read(text, *line)?;
@@ -52,7 +53,9 @@ fn push_reader(
 ) -> Result<(), AllocError>
     requires places { history + length reader.now.beyond.items < 2 ^ 64 }
     ensures { OnOk result
-        (string_bytes text.new ≡ string_bytes text.old ++ reader_lines (texts_of names.now) history number reader.now) }
+        (string_bytes text.new
+        ≡ string_bytes text.old
+        ++ reader_lines (texts_of names.now) history number reader.now) }
 {
     let length = reader.length;
     write!(text, "reader {number} length {length}\n")?;
@@ -71,7 +74,9 @@ pub(crate) fn push_readers(
 ) -> Result<(), AllocError>
     requires places { All (λ reader. history + length reader.beyond.items < 2 ^ 64) readers.now }
     ensures { OnOk result
-        (string_bytes text.new ≡ string_bytes text.old ++ numbered (reader_lines (texts_of names.now) history) 0 readers.now) }
+        (string_bytes text.new
+        ≡ string_bytes text.old
+        ++ numbered (reader_lines (texts_of names.now) history) 0 readers.now) }
 {
     for (number, reader) in readers.iter().enumerate() {
         push_reader(text, names, history, number as u64, reader)?;

@@ -55,7 +55,8 @@ fn push_report(
     report: Report,
 ) -> Result<(), AllocError>
     ensures { OnOk result
-        (string_bytes text.new ≡ string_bytes text.old ++ report_line (texts_of names.now) place report) }
+        (string_bytes text.new
+        ≡ string_bytes text.old ++ report_line (texts_of names.now) place report) }
 {
     push_report_word(text, report.target)?;
     push_told(text, names, place, report)
@@ -68,7 +69,8 @@ fn push_report_beyond(
     report: Report,
 ) -> Result<(), AllocError>
     ensures { OnOk result
-        (string_bytes text.new ≡ string_bytes text.old ++ beyond_line (texts_of names.now) place report) }
+        (string_bytes text.new
+        ≡ string_bytes text.old ++ beyond_line (texts_of names.now) place report) }
 {
     push_beyond_word(text, report.target)?;
     push_told(text, names, place, report)
@@ -82,7 +84,8 @@ pub(crate) fn push_history(
     history: &[Report],
 ) -> Result<(), AllocError>
     ensures { OnOk result
-        (string_bytes text.new ≡ string_bytes text.old ++ numbered (report_line (texts_of names.now)) 0 history.now) }
+        (string_bytes text.new
+        ≡ string_bytes text.old ++ numbered (report_line (texts_of names.now)) 0 history.now) }
 {
     for (place, report) in history.iter().enumerate() {
         push_report(text, names, place as u64, *report)?;
@@ -100,7 +103,9 @@ pub(crate) fn push_beyond(
 ) -> Result<(), AllocError>
     requires places { history + length beyond.now < 2 ^ 64 }
     ensures { OnOk result
-        (string_bytes text.new ≡ string_bytes text.old ++ numbered (beyond_line (texts_of names.now)) history beyond.now) }
+        (string_bytes text.new
+        ≡ string_bytes text.old
+        ++ numbered (beyond_line (texts_of names.now)) history beyond.now) }
 {
     for (number, report) in beyond.iter().enumerate() {
         push_report_beyond(text, names, history + number as u64, *report)?;

@@ -13,9 +13,11 @@ use limit_table::LimitTable;
 use std::alloc::{AllocError, Global};
 use table_text::{name_of, table_text};
 
-/// The text of the run: its history, what each reporter sent, what each reader saw, and the table of the history.
+/// The text of the run: its history, what each reporter sent, what each reader saw, and the table
+/// of the history.
 ///
-/// A number that has no name is printed as an empty text; the names of a document have one for each number of its runs.
+/// A number that has no name is printed as an empty text; the names of a document have one for each
+/// number of its runs.
 #[tactic(auto, unfolding(crate::specs::RunText::run_text_of))]
 pub fn run_text(
     alloc: Global,
@@ -23,7 +25,9 @@ pub fn run_text(
     names: &Names,
 ) -> Result<Vec<u8>, OutOfMemory>
     requires reporters { length log.now.sent.items < 2 ^ 32 }
-    requires places { All (λ reader. length log.now.history.items + length reader.beyond.items < 2 ^ 64) log.now.readers.items }
+    requires places { All
+        (λ reader. length log.now.history.items + length reader.beyond.items < 2 ^ 64)
+        log.now.readers.items }
     ensures { IfOk result (λ text. text.items ≡ run_text_of (texts_of names.now) log.now) }
 {
     let mut text = String::new(alloc);
@@ -40,7 +44,8 @@ pub fn run_text(
 
 fn push_sent_by(text: &mut String, names: &Names, number: u32, sent: u64) -> Result<(), AllocError>
     ensures { OnOk result
-        (string_bytes text.new ≡ string_bytes text.old ++ sent_line (texts_of names.now) number sent) }
+        (string_bytes text.new
+        ≡ string_bytes text.old ++ sent_line (texts_of names.now) number sent) }
 {
     let reporter = name_of(&names.reporters, number);
     write!(text, "reporter {reporter} sent {sent}\n")
@@ -50,7 +55,8 @@ fn push_sent_by(text: &mut String, names: &Names, number: u32, sent: u64) -> Res
 fn push_sent(text: &mut String, names: &Names, sent: &[u64]) -> Result<(), AllocError>
     requires reporters { length sent.now < 2 ^ 32 }
     ensures { OnOk result
-        (string_bytes text.new ≡ string_bytes text.old ++ numbered (sent_line (texts_of names.now)) 0 sent.now) }
+        (string_bytes text.new
+        ≡ string_bytes text.old ++ numbered (sent_line (texts_of names.now)) 0 sent.now) }
 {
     for (number, reports) in sent.iter().enumerate() {
         push_sent_by(text, names, number as u32, *reports)?;

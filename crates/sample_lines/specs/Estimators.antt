@@ -23,4 +23,5 @@ IsBehindIfAny window headroom amounts (Some estimator) = IsBehind window headroo
 
 -- each task's estimator has had that task's samples
 abbrev pub AreBehind : ℕ → ℕ → List Sample → Estimators → Type 0
-AreBehind window headroom samples estimators = (task : ℕ) → IsBehindIfAny window headroom (amounts_of task samples) (get nat_eq estimators task)
+AreBehind window headroom samples estimators = (task : ℕ)
+    → IsBehindIfAny window headroom (amounts_of task samples) (get nat_eq estimators task)

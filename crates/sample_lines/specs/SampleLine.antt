@@ -41,4 +41,5 @@ sample_of known text = do
   reporter ← number_of_name known.names.reporters fields.reporter
   task ← number_of_name known.names.tasks fields.task
   amount ← amount_of fields.amount
-  if is_owner (slice_get known.task_owners task) reporter then Some (record { reporter = reporter; task = task; amount = amount }) else None
+  if is_owner (slice_get known.task_owners task) reporter
+      then Some (record { reporter = reporter; task = task; amount = amount }) else None

@@ -10,7 +10,8 @@ use Rattle.sample_lines.specs.SampleLine.{Text, sample_of}
 
 -- the sample of the next line, where there is room for one more
 abbrev pub next_sample : Known → ℕ → List Sample → Text → Option Sample
-next_sample known room before line = if nat_lt (length before) room then sample_of known line else None
+next_sample known room before line =
+    if nat_lt (length before) room then sample_of known line else None
 
 -- the samples of a part behind a script, or the number of the first line at fault
 abbrev pub samples_in : Known → ℕ → Text → Result (List Sample) ℕ

@@ -10,7 +10,8 @@ use Rattle.sample_lines.specs.SampleLines.{samples_in}
 
 -- the amounts of one task's samples, in order
 abbrev pub amounts_of : ℕ → List Sample → List ℕ
-amounts_of task samples = map (λ sample. sample.amount) (filter (λ sample. sample.task == task) samples)
+amounts_of task samples =
+    map (λ sample. sample.amount) (filter (λ sample. sample.task == task) samples)
 
 -- the report of a sample behind others: of the estimate of its task's samples so far
 abbrev pub report_of : ℕ → ℕ → List Sample → Sample → Report
@@ -24,7 +25,8 @@ report_of window headroom before sample = record {
 unfoldable pub reports_behind : ℕ → ℕ → List Sample → List Sample → List Report
 reports_behind window headroom before [] = []
 reports_behind window headroom before (sample ∷ samples) =
-    report_of window headroom before sample ∷ reports_behind window headroom (before ++ sample ∷ []) samples
+    report_of window headroom before sample
+    ∷ reports_behind window headroom (before ++ sample ∷ []) samples
 
 -- the reports of samples
 abbrev pub reports_of : ℕ → ℕ → List Sample → List Report
@@ -37,4 +39,5 @@ reported window headroom (Err line) = Err line
 
 -- the reports of a part behind a script, or the number of the first line at fault
 abbrev pub reports_in : Known → ℕ → ℕ → ℕ → Text → Result (List Report) ℕ
-reports_in known script window headroom part = reported window headroom (samples_in known script part)
+reports_in known script window headroom part =
+    reported window headroom (samples_in known script part)

@@ -33,10 +33,12 @@ pub use refusal_line::sample_refusal_line;
 pub use sample::Sample;
 use std::alloc::Global;
 
-/// The reports of the estimates of the part's samples, in order ("Two-part inputs", docs/FORMAT.md), or the first line at fault.
+/// The reports of the estimates of the part's samples, in order ("Two-part inputs",
+/// docs/FORMAT.md), or the first line at fault.
 ///
-/// `script_length` is the number of reports that stand before, and `task_owners` has the number of each task's owner.
-/// Each task of which there is a sample has an estimator of its own, with memory for `window` samples.
+/// `script_length` is the number of reports that stand before, and `task_owners` has the number of
+/// each task's owner. Each task of which there is a sample has an estimator of its own, with memory
+/// for `window` samples.
 pub fn estimate_reports(
     alloc: Global,
     part: &[u8],

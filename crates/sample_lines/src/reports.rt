@@ -14,7 +14,8 @@ use demand_estimate::Estimator;
 use std::alloc::Global;
 use std::collections::HashMap;
 
-/// The reports of the samples' estimates, in order. Each task with a sample has an estimator of its own.
+/// The reports of the samples' estimates, in order. Each task with a sample has an estimator of its
+/// own.
 pub(crate) fn estimate_samples(
     alloc: Global,
     samples: &[Sample],

@@ -95,7 +95,12 @@ impl<'a> Model for Fields<'a> {
 
     ghost Value = { Fields };
 
-    ghost view = { λ fields. record { reporter = fields.reporter.now; task = fields.task.now; amount = fields.amount.now } };
+    ghost view = { λ fields.
+        record {
+          reporter = fields.reporter.now;
+          task = fields.task.now;
+          amount = fields.amount.now;
+        } };
 }
 
 #[tactic(auto, unfolding(crate::specs::SampleLine::fields_of))]

@@ -2,8 +2,6 @@
 //! not show. Nothing stands on this crate.
 //!
 //! - `devices`: a source or a sink that fails, a source that stays as it was, `bwe_once`.
-//! - `told`: the case "Told and untold readers", a board over the tables of the allocator.
-//! - `driven`: the case "Driven board", a board that the test opens and lends to `drive`.
 //! - `held`: the case "Three holds". It refuses what no clause can. Two of its holds need two calls
 //!   that are both under way, so a run that does all its work on one thread runs out of turns; and
 //!   each printed line is compared with the view that the gate was shown, so a run that shows the

@@ -2,7 +2,8 @@
 use Rattle.std.specs.Prelude.{◌≡◌, ℕ, ◌+◌, ◌<◌, ◌≤◌, ◌⊎◌}
 use Rattle.share_transform.specs.declared.ends.Ends.{Ends}
 
--- the sum is at most the amount at the low end, and above it at the high one unless that is past the top
+-- the sum is at most the amount at the low end, and above it at the high one unless that is past
+-- the top
 pub record AreEnds (sum : ℕ → ℕ) (amount : ℕ) (ends : Ends) : Type 0 where
   pub order : ends.low < ends.high
   pub upto : ends.high ≤ ends.top + 1
@@ -12,4 +13,5 @@ pub record AreEnds (sum : ℕ → ℕ) (amount : ℕ) (ends : Ends) : Type 0 whe
 
 -- one of the ends has moved to a share
 abbrev pub HasMoved : Ends → Ends → ℕ → Type 0
-HasMoved old new share = ((new.low ≡ share) × (new.high ≡ old.high)) ⊎ ((new.low ≡ old.low) × (new.high ≡ share))
+HasMoved old new share = ((new.low ≡ share) × (new.high ≡ old.high))
+    ⊎ ((new.low ≡ old.low) × (new.high ≡ share))

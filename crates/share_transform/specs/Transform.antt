@@ -1,4 +1,5 @@
--- What contracts see of a transformation: a configured function, and matched shares, each with an inner share.
+-- What contracts see of a transformation: a configured function, and matched shares, each with an
+-- inner share.
 use Rattle.std.specs.Prelude.{ℕ, ◌*◌, ◌/◌, ◌≤◌, List, ◌++◌, map, All}
 use Rattle.std.specs.List.{range_with_len}
 use Rattle.std.specs.List.Sorted.{IsStrictlyIncreasing}
@@ -35,7 +36,8 @@ pub record ArePairs (pairs : List (ℕ × ℕ)) (top : ℕ) : Type 0 where
 -- the parent is a function of a document, and the pairs are at the wanted shares
 pub record IsTransformation (transformation : Transformation) : Type 0 where
   pub parent : IsBwFunction transformation.parent
-  pub matched : AreMerged (wanted_shares transformation.parent) (matched_shares transformation.pairs)
+  pub matched : AreMerged (wanted_shares transformation.parent)
+      (matched_shares transformation.pairs)
   pub pairs : ArePairs transformation.pairs transformation.parent.top
 
 -- a matched share whose inner share was not yet found

@@ -7,7 +7,8 @@ use Rattle.bwe_specs.specs.Filling.{Wan, current_path_group_of}
 use Rattle.bwe_specs.specs.RightClosings.{amounts_at}
 
 -- the closing is one of the list, which has the newest first; those before it are the earlier ones
-pub record StandsIn (closings : List Closing) (closing : Closing) (earlier : List Closing) : Type 0 where
+pub record StandsIn (closings : List Closing) (closing : Closing) (earlier : List Closing)
+    : Type 0 where
   pub later : List Closing
   pub stands : closings ≡ later ++ closing ∷ earlier
 
@@ -17,9 +18,12 @@ pub record GrowsOver (wan : Wan) (closings : List Closing) (group link : ℕ) : 
   pub current : current_path_group_of wan closings group ≡ Some place
   pub used : uses (path_group_at wan.groups group place) link ≡ true
 
--- the load that the group would put on the link with the next whole share, beyond what it has put there at the share
+-- the load that the group would put on the link with the next whole share, beyond what it has put
+-- there at the share
 abbrev pub added_load : Wan → List Closing → ℕ → ℕ → ℕ → ℕ
 added_load wan closings share link group =
     sum_below (path_group_count wan.groups group) (λ place.
-    load_on (path_group_at wan.groups group place) link (amounts_at wan closings (suc share) group place)
-    - load_on (path_group_at wan.groups group place) link (amounts_at wan closings share group place))
+    load_on (path_group_at wan.groups group place) link
+    (amounts_at wan closings (suc share) group place)
+    - load_on (path_group_at wan.groups group place) link
+    (amounts_at wan closings share group place))

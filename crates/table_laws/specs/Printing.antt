@@ -8,7 +8,8 @@ use Rattle.table_text.specs.TableText.{name_at, text_of}
 -- no name of a link has a line feed (10) or a space (32), and no two links have one name
 pub record AreTelling (names : NameTexts) : Type 0 where
   pub plain : All (λ name. All (λ byte. (byte ≢ 10) × (byte ≢ 32)) name) names.links
-  pub apart : (number other : ℕ) → number < other → other < length names.links → name_at names.links number ≢ name_at names.links other
+  pub apart : (number other : ℕ) → number < other → other < length names.links
+      → name_at names.links number ≢ name_at names.links other
 
 -- the link has a name, and each number has 64 bits
 pub record IsNamedClosing (names : NameTexts) (closing : Closing) : Type 0 where
@@ -31,10 +32,14 @@ pub record IsNamed (names : NameTexts) (table : Table) : Type 0 where
   pub groups : All (IsNamedLine names) table.groups
   pub limits : All (λ limit. limit < 2 ^ 64) table.limits
 
--- One text, one table: under names that tell so many links apart, each table that is written as the same text is this one,
--- and no text of a table goes on behind this one's, nor this one's behind it
+-- One text, one table: under names that tell so many links apart, each table that is written as the
+-- same text is this one, and no text of a table goes on behind this one's, nor this one's behind it
 pub record IsToldByItsText (links : ℕ) (table : Table) : Type 0 where
-  pub alone : (names : NameTexts) → AreTelling names → links ≤ length names.links → (other : Table) → IsNamed names other
-      → (more : List ℕ) → text_of names table ≡ text_of names other ++ more → (table ≡ other) × (more ≡ [])
-  pub whole : (names : NameTexts) → AreTelling names → links ≤ length names.links → (other : Table) → IsNamed names other
-      → (more : List ℕ) → text_of names other ≡ text_of names table ++ more → (other ≡ table) × (more ≡ [])
+  pub alone : (names : NameTexts) → AreTelling names → links ≤ length names.links → (other : Table)
+      → IsNamed names other
+      → (more : List ℕ) → text_of names table ≡ text_of names other ++ more
+      → (table ≡ other) × (more ≡ [])
+  pub whole : (names : NameTexts) → AreTelling names → links ≤ length names.links → (other : Table)
+      → IsNamed names other
+      → (more : List ℕ) → text_of names other ≡ text_of names table ++ more
+      → (other ≡ table) × (more ≡ [])

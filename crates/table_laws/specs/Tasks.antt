@@ -24,12 +24,15 @@ tasks_of clusters = flat_map tasks_of_cluster clusters
 
 -- the tasks are numbered from 0 in one walk
 abbrev pub AreNumbered : List Cluster → Type 0
-AreNumbered clusters = map (λ given. given.task.number) (tasks_of clusters) ≡ numbers (length (tasks_of clusters))
+AreNumbered clusters =
+    map (λ given. given.task.number) (tasks_of clusters) ≡ numbers (length (tasks_of clusters))
 
--- the task's limit is at most its demand, and at most its weight times what its job's task function gives at the top
+-- the task's limit is at most its demand, and at most its weight times what its job's task function
+-- gives at the top
 pub record IsAskedFor (top : ℕ) (demand : ℕ → ℕ) (limits : List ℕ) (given : JobTask) : Type 0 where
   pub demanded : slice_index limits given.task.number ≤ demand given.task.number
-  pub weighted : slice_index limits given.task.number ≤ given.task.weight * function_value given.function top
+  pub weighted : slice_index limits given.task.number
+      ≤ given.task.weight * function_value given.function top
 
 -- that is so of each task's limit
 abbrev pub AreAskedFor : ℕ → (ℕ → ℕ) → List Cluster → List ℕ → Type 0

@@ -1,7 +1,8 @@
 //! The laws of a table that an operator asks for first.
 //!
-//! `specs/Laws.antt` states the laws over the definitions of `bwe_specs`; each is the contract of a function of its name
-//! here, and those functions do nothing. The makers of tables carry them as clauses.
+//! `specs/Laws.antt` states the laws over the definitions of `bwe_specs`; each is the contract of a
+//! function of its name here, and those functions do nothing. The makers of tables carry them as
+//! clauses.
 #![tactic(auto)]
 
 mod laws;

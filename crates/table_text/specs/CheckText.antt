@@ -13,12 +13,16 @@ cause_text names NoSuchLink = codes "no such link"
 cause_text names Reclosed = codes "link closed before"
 cause_text names ShareFalls = codes "share falls"
 cause_text names ShareAtTop = codes "share at top"
-cause_text names (OverBefore link) = codes "link " ++ name_at names.links link ++ codes " is over at the share"
+cause_text names (OverBefore link) =
+    codes "link " ++ name_at names.links link ++ codes " is over at the share"
 cause_text names FitsAfter = codes "link fits at the next share"
-cause_text names (LowerLink link) = codes "lower link " ++ name_at names.links link ++ codes " is over"
-cause_text names (OverAtTop link) = codes "link " ++ name_at names.links link ++ codes " is over at top"
+cause_text names (LowerLink link) =
+    codes "lower link " ++ name_at names.links link ++ codes " is over"
+cause_text names (OverAtTop link) =
+    codes "link " ++ name_at names.links link ++ codes " is over at top"
 
 -- that the closings are right, or which is wrong and why
 unfoldable pub verdict_line : NameTexts → Verdict → List ℕ
 verdict_line names Right = codes "right\n"
-verdict_line names (Wrong at cause) = codes "wrong at " ++ decimal at ++ codes ": " ++ cause_text names cause ++ codes "\n"
+verdict_line names (Wrong at cause) =
+    codes "wrong at " ++ decimal at ++ codes ": " ++ cause_text names cause ++ codes "\n"

@@ -12,7 +12,8 @@ name_at names number = slice_index_or names number []
 -- where and when a link closed
 abbrev pub closing_line : NameTexts → Closing → List ℕ
 closing_line names closing =
-    codes "closing " ++ name_at names.links closing.link ++ codes " at " ++ decimal closing.share ++ codes "\n"
+    codes "closing " ++ name_at names.links closing.link ++ codes " at " ++ decimal closing.share
+    ++ codes "\n"
 
 -- a word, the name of a number, a second word, and what the number has
 abbrev pub value_line : List ℕ → List ℕ → List (List ℕ) → List ℕ → ℕ → List ℕ
@@ -32,13 +33,15 @@ closed_text names (Some link) = codes " closed by " ++ name_at names.links link 
 abbrev pub place_line : NameTexts → List PlaceLine → ℕ → List ℕ
 place_line names lines place =
     let line = slice_index_or lines place (record { amount = 0; closed = None }) in
-    codes "place " ++ decimal place ++ codes " amount " ++ decimal line.amount ++ closed_text names line.closed
+    codes "place " ++ decimal place ++ codes " amount " ++ decimal line.amount
+    ++ closed_text names line.closed
 
 -- where a group stopped, what it got, and a line for each of its path groups
 abbrev pub group_lines : NameTexts → List GroupLine → ℕ → List ℕ
 group_lines names lines group =
     let line = slice_index_or lines group (record { share = 0; amount = 0; places = [] }) in
-    codes "group " ++ name_at names.groups group ++ codes " share " ++ decimal line.share ++ codes " amount " ++ decimal line.amount ++ codes "\n"
+    codes "group " ++ name_at names.groups group ++ codes " share " ++ decimal line.share
+    ++ codes " amount " ++ decimal line.amount ++ codes "\n"
     ++ flat_map (place_line names line.places) (numbers (length line.places))
 
 -- a task's limit
@@ -57,4 +60,5 @@ with_limits names loads groups limits text =
 unfoldable pub text_of : NameTexts → Table → List ℕ
 text_of names table =
     with_limits names table.loads table.groups table.limits
-    (codes "table " ++ decimal table.prefix ++ codes "\n" ++ flat_map (closing_line names) table.closings)
+    (codes "table " ++ decimal table.prefix ++ codes "\n"
+    ++ flat_map (closing_line names) table.closings)

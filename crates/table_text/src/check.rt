@@ -9,7 +9,8 @@ use bwe_specs::{Cause, OutOfMemory, Verdict};
 use doc_names::Names;
 use std::alloc::{AllocError, Global};
 
-/// The line that says the verdict on a document's closings, with the names of its links ("Check text", docs/FORMAT.md).
+/// The line that says the verdict on a document's closings, with the names of its links ("Check
+/// text", docs/FORMAT.md).
 ///
 /// A link that has no name is printed as an empty text.
 pub fn check_text(alloc: Global, verdict: &Verdict, names: &Names) -> Result<Vec<u8>, OutOfMemory>
@@ -23,7 +24,8 @@ pub fn check_text(alloc: Global, verdict: &Verdict, names: &Names) -> Result<Vec
 #[tactic(auto, unfolding(crate::specs::CheckText::verdict_line))]
 fn push_verdict(text: &mut String, names: &Names, verdict: Verdict) -> Result<(), AllocError>
     ensures { OnOk result
-        (string_bytes text.new ≡ string_bytes text.old ++ verdict_line (texts_of names.now) verdict) }
+        (string_bytes text.new
+        ≡ string_bytes text.old ++ verdict_line (texts_of names.now) verdict) }
 {
     match verdict {
         Verdict::Right => text.push_str("right\n"),

@@ -24,7 +24,8 @@ pub fn levels_text(
 ) -> Result<Vec<u8>, OutOfMemory>
     requires few { length values.now < 2 ^ 32 }
     requires total { sum values.now ≤ MAX_TOTAL }
-    ensures { IfOk result (λ text. text.items ≡ levels_text_of (texts_of names.now) share values.now) }
+    ensures { IfOk result
+        (λ text. text.items ≡ levels_text_of (texts_of names.now) share values.now) }
 {
     let mut text = String::new(alloc);
     end_with_number(&mut text, "levels ", share)?;

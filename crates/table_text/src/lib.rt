@@ -1,12 +1,12 @@
-//! The texts of a table of limits, of its summary, of a verdict on closings and of what the groups may
-//! have at a share: the bytes that `bwe solve`, `bwe bulk`, `bwe check` and `bwe levels` write.
+//! The texts of a table of limits, of its summary, of a verdict on closings and of what the groups
+//! may have at a share: the bytes that `bwe solve`, `bwe bulk`, `bwe check` and `bwe levels` write.
 //!
-//! The top call uses `table_text`, `bulk_text`, `check_text` and `levels_text`, whose clauses are the
-//! whole texts ("Table text", "Bulk text", "Check text" and "Levels text", docs/FORMAT.md).
+//! The top call uses `table_text`, `bulk_text`, `check_text` and `levels_text`, whose clauses are
+//! the whole texts ("Table text", "Bulk text", "Check text" and "Levels text", docs/FORMAT.md).
 //! `name_of` is the name that a text prints for a number. Texts that share lines with a table's put
-//! them by `push_closings` and `push_limits`, and single lines by `push_value` and its like.
-//! Texts are made whole before anything is written, so a want of memory is met before the first byte
-//! goes out.
+//! them by `push_closings` and `push_limits`, and single lines by `push_value` and its like. Texts
+//! are made whole before anything is written, so a want of memory is met before the first byte goes
+//! out.
 #![tactic(auto)]
 
 mod bulk;

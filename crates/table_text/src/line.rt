@@ -16,7 +16,8 @@ pub fn push_number(text: &mut String, word: &str, number: u64) -> Result<(), All
 /// Puts a word, a number and the end of a line at the end of the text.
 pub fn end_with_number(text: &mut String, word: &str, number: u64) -> Result<(), AllocError>
     ensures { OnOk result
-        (string_bytes text.new ≡ string_bytes text.old ++ word.now ++ decimal number ++ codes "\n") }
+        (string_bytes text.new
+        ≡ string_bytes text.old ++ word.now ++ decimal number ++ codes "\n") }
 {
     write!(text, "{word}{number}\n")
 }

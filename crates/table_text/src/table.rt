@@ -41,7 +41,8 @@ pub fn push_limits(
     requires tasks { length limits.now < 2 ^ 32 }
     requires total { sum_by (λ line. line.amount) groups.now ≤ MAX_TOTAL }
     ensures { OnOk result (string_bytes text.new
-        ≡ with_limits (texts_of names.now) loads.now groups.now limits.now (string_bytes text.old)) }
+        ≡ with_limits (texts_of names.now) loads.now groups.now limits.now
+        (string_bytes text.old)) }
 {
     push_values(text, "link ", &names.links, " load ", loads)?;
     push_groups(text, names, groups)?;
@@ -63,7 +64,8 @@ pub fn total(lines: &[GroupLine]) -> u64
 
 fn push_closing(text: &mut String, names: &Names, closing: Closing) -> Result<(), AllocError>
     ensures { OnOk result
-        (string_bytes text.new ≡ string_bytes text.old ++ closing_line (texts_of names.now) closing) }
+        (string_bytes text.new
+        ≡ string_bytes text.old ++ closing_line (texts_of names.now) closing) }
 {
     let link = name_of(&names.links, closing.link);
     let share = closing.share;
@@ -77,7 +79,8 @@ pub fn push_closings(
     closings: &[Closing],
 ) -> Result<(), AllocError>
     ensures { OnOk result
-        (string_bytes text.new ≡ string_bytes text.old ++ flat_map (closing_line (texts_of names.now)) closings.now) }
+        (string_bytes text.new
+        ≡ string_bytes text.old ++ flat_map (closing_line (texts_of names.now)) closings.now) }
 {
     for closing in closings {
         push_closing(text, names, *closing)?;
@@ -85,8 +88,8 @@ pub fn push_closings(
     Ok(())
 }
 
-/// Puts a line at the end of the text: a word, the name of a number, a second word, and what the number
-/// has.
+/// Puts a line at the end of the text: a word, the name of a number, a second word, and what the
+/// number has.
 pub fn push_value(
     text: &mut String,
     word: &str,
@@ -147,7 +150,8 @@ fn push_place(
 ) -> Result<(), AllocError>
     requires place { place < length lines.now }
     ensures { OnOk result
-        (string_bytes text.new ≡ string_bytes text.old ++ place_line (texts_of names.now) lines.now place) }
+        (string_bytes text.new
+        ≡ string_bytes text.old ++ place_line (texts_of names.now) lines.now place) }
 {
     let line = lines[place];
     let amount = line.amount;
@@ -158,7 +162,9 @@ fn push_place(
 #[tactic(auto, using(crate::proofs::Lines::one_line_more))]
 fn push_places(text: &mut String, names: &Names, lines: &[PlaceLine]) -> Result<(), AllocError>
     ensures { OnOk result
-        (string_bytes text.new ≡ string_bytes text.old ++ flat_map (place_line (texts_of names.now) lines.now) (numbers (length lines.now))) }
+        (string_bytes text.new
+        ≡ string_bytes text.old
+        ++ flat_map (place_line (texts_of names.now) lines.now) (numbers (length lines.now))) }
 {
     for place in 0..lines.len() {
         push_place(text, names, lines, place)?;
@@ -176,7 +182,8 @@ pub fn push_group(
     requires group { group < length lines.now }
     requires few { length lines.now < 2 ^ 32 }
     ensures { OnOk result
-        (string_bytes text.new ≡ string_bytes text.old ++ group_lines (texts_of names.now) lines.now group) }
+        (string_bytes text.new
+        ≡ string_bytes text.old ++ group_lines (texts_of names.now) lines.now group) }
 {
     let line = &lines[group];
     let name = name_of(&names.groups, group as u32);
@@ -190,7 +197,9 @@ pub fn push_group(
 fn push_groups(text: &mut String, names: &Names, lines: &[GroupLine]) -> Result<(), AllocError>
     requires few { length lines.now < 2 ^ 32 }
     ensures { OnOk result
-        (string_bytes text.new ≡ string_bytes text.old ++ flat_map (group_lines (texts_of names.now) lines.now) (numbers (length lines.now))) }
+        (string_bytes text.new
+        ≡ string_bytes text.old
+        ++ flat_map (group_lines (texts_of names.now) lines.now) (numbers (length lines.now))) }
 {
     for group in 0..lines.len() {
         push_group(text, names, lines, group)?;

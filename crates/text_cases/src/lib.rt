@@ -1,8 +1,8 @@
-//! Documents, lines, texts, tables and devices, as tests, for what no clause of `bwe_io`,
-//! `command_line`, `text_scan`, `raw_reader`, `demand_book`, `limit_table`, `table_text`,
-//! `run_text`, `live_lines`, `live_stream`, `live_run` and `live_session` can say: that calls
-//! succeed, and printed bytes from outside. Nothing stands on this crate. It is one of its own,
-//! since a crate with tests is proved twice.
+//! Documents, words, texts, books and devices, as tests, for what no clause of `bwe_io`,
+//! `command_line`, `raw_reader`, `demand_book`, `table_text`, `run_text` and `live_run` says and no
+//! whole case of `cases/` shows: calls that the program does not make, devices that fail, and lines
+//! that no document gets. Nothing stands on this crate. It is one of its own, since a crate with
+//! tests is proved twice.
 #![tactic(auto)]
 
 #[cfg(test)]

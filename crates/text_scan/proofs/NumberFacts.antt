@@ -12,8 +12,8 @@ use Rattle.std.proofs.lemmas.Str.{IsUtf8-from_ascii}
 use Rattle.std.proofs.lemmas.Str.Parse.{IsNumeralModel, numerals_by_value, tells_all_ascii_digits, digit_at, parse_digits}
 use Rattle.text_scan.specs.Numbers.{is_number, is_padded, number_of, printed_number_of}
 
-own : IsNumeralModel (λ ds. all_ascii_digits ds ≡ true) (digits_value 10)
-own = numerals_by_value (λ ds. all_ascii_digits ds ≡ true) tells_all_ascii_digits
+pub ascii_numerals : IsNumeralModel (λ ds. all_ascii_digits ds ≡ true) (digits_value 10)
+ascii_numerals = numerals_by_value (λ ds. all_ascii_digits ds ≡ true) tells_all_ascii_digits
 
 digits_alone : (text : List ℕ) → is_number text ≡ true → all_ascii_digits text ≡ true
 digits_alone text e = (and_parts (all_ascii_digits text) (nat_le 1 (length text) && nat_le (length text) 20) e).0
@@ -21,7 +21,7 @@ digits_alone text e = (and_parts (all_ascii_digits text) (nat_le 1 (length text)
 -- digits are ASCII, and so are text
 are_ascii : (text : List ℕ) → all_ascii_digits text ≡ true → IsAscii text
 are_ascii text e i = elim (cases_lt i (length text)) [
-  | inl within ↦ let range = digit_at text i (own.to text e) within in omega (arith, range.1)
+  | inl within ↦ let range = digit_at text i (ascii_numerals.to text e) within in omega (arith, range.1)
   | inr past ↦ omega (arith, get_or_past text i 0 past)
 ]
 
@@ -31,14 +31,14 @@ are_text text e = IsUtf8-from_ascii text (are_ascii text (digits_alone text e))
 pub parsed : {E : Type 0} (text : List ℕ) (number : ℕ) (r : Result ℕ E) → is_number text ≡ true → ParsesUnsigned 64 10 text r → r ≡ Ok number → Some number ≡ number_of text
 unfolding number_of
 parsed text number r e h is =
-    let found = rw is at (parse_digits own 64 text r h (digits_alone text e)) in
+    let found = rw is at (parse_digits ascii_numerals 64 text r h (digits_alone text e)) in
     rw (e, lt-ltb (digits_value 10 text) 18446744073709551616 found.0.1) (ap Some found.1)
 
 pub not_parsed : {E : Type 0} (text : List ℕ) (error : E) (r : Result ℕ E) → is_number text ≡ true → ParsesUnsigned 64 10 text r → r ≡ Err error → None ≡ number_of text
 unfolding number_of
 not_parsed text error r e h is =
     let lengths = and_parts (nat_le 1 (length text)) (nat_le (length text) 20) (and_parts (all_ascii_digits text) (nat_le 1 (length text) && nat_le (length text) 20) e).1 in
-    let refused = rw is at (parse_digits own 64 text r h (digits_alone text e)) in
+    let refused = rw is at (parse_digits ascii_numerals 64 text r h (digits_alone text e)) in
     elim (cases_lt (digits_value 10 text) 18446744073709551616) [
       | inl low ↦ absurd (refused (omega (arith, leb-true 1 (length text) lengths.0), low))
       | inr high ↦ rw (e, le-ltb (digits_value 10 text) 18446744073709551616 high) refl
@@ -64,10 +64,10 @@ not_padded text one = elim (cases_lt 1 (length text)) [
 pub number_printed : (number : ℕ) → number < 2 ^ 64 → printed_number_of (decimal number) ≡ Some number
 unfolding printed_number_of number_of
 number_printed number small =
-    let digits : all_ascii_digits (decimal number) ≡ true = digits_decimal own number small in
+    let digits : all_ascii_digits (decimal number) ≡ true = digits_decimal ascii_numerals number small in
     let some : nat_le 1 (length (decimal number)) ≡ true = le-leb 1 (length (decimal number)) (decimal_nonempty number small) in
     let few : nat_le (length (decimal number)) 20 ≡ true = le-leb (length (decimal number)) 20 (length-decimal-le 20 number (omega arith) (omega (arith, small)) small) in
-    let value : digits_value 10 (decimal number) ≡ number = digits_value-decimal own number small in
+    let value : digits_value 10 (decimal number) ≡ number = digits_value-decimal ascii_numerals number small in
     rw (not_padded (decimal number) (first_zero number small), digits, some, few, value, lt-ltb number 18446744073709551616 small) refl
 
 -- what is read as a printed number is its print
@@ -90,7 +90,7 @@ number_read word number is = go (is_padded word) refl is
         let some : 1 ≤ length word = leb-true 1 (length word) lengths.0 in
         let small : digits_value 10 word < 2 ^ 64 = ltb-true (digits_value 10 word) 18446744073709551616 parts.1 in
         let same : digits_value 10 word ≡ number = cc in (
-          sym (decimal-digits_value own word (digits_alone word parts.0) some (one_digit whole some) small) ∙ ap (λ (n : ℕ). decimal n) same,
+          sym (decimal-digits_value ascii_numerals word (digits_alone word parts.0) some (one_digit whole some) small) ∙ ap (λ (n : ℕ). decimal n) same,
           omega (arith, same, small),
         )
 

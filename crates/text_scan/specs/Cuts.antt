@@ -9,4 +9,5 @@ pub record Cut : Type 0 where
 -- the text at the first such byte, where it has one
 unfoldable pub cut_at : ℕ → List ℕ → Option Cut
 cut_at byte text =
-    option_map (λ place. record { before = take place text; behind = drop (place + 1) text }) (position (λ other. other == byte) text)
+    option_map (λ place. record { before = take place text; behind = drop (place + 1) text })
+    (position (λ other. other == byte) text)

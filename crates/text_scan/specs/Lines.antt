@@ -25,7 +25,8 @@ lines_of text = all_but_last (pieces_of text)
 unfoldable pub left_of : List ℕ → List ℕ
 left_of text = last_of (pieces_of text)
 
--- the lines that are left of a text, what follows the last line feed, and the number of the next line
+-- the lines that are left of a text, what follows the last line feed, and the number of the next
+-- line
 pub record LinesLeft : Type 0 where
   pub lines : List (List ℕ)
   pub left : List ℕ

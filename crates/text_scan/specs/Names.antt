@@ -20,4 +20,5 @@ IsIndexOf names index = (name : List ℕ) → number_in index name ≡ number_of
 -- the number that a name has among any names of which this is the index
 abbrev pub IsNumberOf : NameIndex → List ℕ → Option ℕ → Type 0
 IsNumberOf index name number =
-    (names : List (String Global)) → IsIndexOf (map string_bytes names) index → number ≡ number_of_name (map string_bytes names) name
+    (names : List (String Global)) → IsIndexOf (map string_bytes names) index
+    → number ≡ number_of_name (map string_bytes names) name

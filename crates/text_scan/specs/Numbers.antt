@@ -11,7 +11,8 @@ is_number text = all_ascii_digits text && (nat_le 1 (length text) && nat_le (len
 -- the number that they are, where 64 bits hold it
 unfoldable pub number_of : List ℕ → Option ℕ
 number_of text =
-    if is_number text && nat_lt (digits_value 10 text) 18446744073709551616 then Some (digits_value 10 text) else None
+    if is_number text && nat_lt (digits_value 10 text) 18446744073709551616
+    then Some (digits_value 10 text) else None
 
 -- the first of more than one digit is a zero (48)
 abbrev pub is_padded : List ℕ → Bool

@@ -19,14 +19,24 @@ impl<'a> Model for Lines<'a> {
 
     ghost Value = { LinesLeft };
 
-    ghost view = { λ text. record { lines = lines_of text.rest.now; left = left_of text.rest.now; number = text.number } };
+    ghost view = { λ text.
+        record {
+          lines = lines_of text.rest.now;
+          left = left_of text.rest.now;
+          number = text.number;
+        } };
 
     ghost invariant = { λ text. text.number + length text.rest.now < 2 ^ 64 };
 }
 
 impl<'a> Lines<'a> {
     pub fn new(text: &'a [u8]) -> Lines<'a>
-        ensures { result ≡ record { lines = lines_of text.entry.now; left = left_of text.entry.now; number = 0 } }
+        ensures { result
+            ≡ record {
+              lines = lines_of text.entry.now;
+              left = left_of text.entry.now;
+              number = 0;
+            } }
     {
         Lines {
             rest: text,

@@ -7,14 +7,16 @@ ghost use Rattle.text_scan.specs.Numbers as spec;
 
 use bwe_specs::MAX_AMOUNT;
 
-/// Whether the text is one to 20 ASCII digits. Leading zeros are allowed, and so are numbers above 64 bits.
+/// Whether the text is one to 20 ASCII digits. Leading zeros are allowed, and so are numbers above
+/// 64 bits.
 pub fn is_number(text: &[u8]) -> bool
     ensures { result ≡ spec.is_number text.now }
 {
     are_digits(text) && !text.is_empty() && text.len() <= 20
 }
 
-/// The number of one to 20 ASCII digits, `None` also where 64 bits do not hold it. Leading zeros are allowed.
+/// The number of one to 20 ASCII digits, `None` also where 64 bits do not hold it. Leading zeros
+/// are allowed.
 #[tactic(auto, unfolding(crate::specs::Numbers::number_of))]
 pub fn number_of(text: &[u8]) -> Option<u64>
     ensures { result ≡ spec.number_of text.now }
@@ -25,7 +27,8 @@ pub fn number_of(text: &[u8]) -> Option<u64>
     number_of_digits(text)
 }
 
-/// The number of a text as numbers are printed: digits without leading zeros, at most 18,446,744,073,709,551,615.
+/// The number of a text as numbers are printed: digits without leading zeros, at most
+/// 18,446,744,073,709,551,615.
 #[tactic(auto, unfolding(crate::specs::Numbers::printed_number_of))]
 pub fn printed_number_of(text: &[u8]) -> Option<u64>
     ensures { result ≡ spec.printed_number_of text.now }

@@ -5,7 +5,8 @@ ghost use Rattle.text_scan.specs.Words.{words_of};
 
 use std::marker::Model;
 
-/// The words of a line that are left. Words stand with one space between them: two spaces have an empty word between them.
+/// The words of a line that are left. Words stand with one space between them: two spaces have an
+/// empty word between them.
 #[derive(Drop)]
 pub struct Words<'a> {
     rest: Option<&'a str>,

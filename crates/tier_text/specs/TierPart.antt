@@ -1,4 +1,5 @@
--- The part of an input that gives each group its tier: a digit from 0 to 7 for each group, and one line feed.
+-- The part of an input that gives each group its tier: a digit from 0 to 7 for each group, and one
+-- line feed.
 use Rattle.std.specs.Prelude.{◌≡◌, ℕ, ◌+◌, ◌-◌, Bool, not, ◌&&◌, ◌==◌, nat_lt, nat_le, if◌then◌else◌, List, length, map, slice_index, Option, Some, ◌++◌, codes, decimal}
 use Rattle.bwe_specs.specs.Bounded.{lowest_below}
 use Rattle.bwe_specs.specs.Reports.{numbers}
@@ -9,11 +10,14 @@ use Rattle.tier_text.specs.declared.part.TiersError.TheVariants.{Refused, OutOfM
 abbrev pub is_tier_digit : ℕ → Bool
 is_tier_digit byte = nat_le 48 byte && nat_lt byte 56
 
--- the part has at this place what is due there: a digit for each group, then a line feed, then nothing
+-- the part has at this place what is due there: a digit for each group, then a line feed, then
+-- nothing
 abbrev pub is_due : ℕ → List ℕ → ℕ → Bool
 is_due groups part at =
     if nat_lt groups at then nat_le (length part) at else
-    (nat_lt at (length part) && (if nat_lt at groups then is_tier_digit (slice_index part at) else slice_index part at == 10))
+    (nat_lt at (length part)
+    && (if nat_lt at groups then is_tier_digit (slice_index part at)
+    else slice_index part at == 10))
 
 -- the first byte at fault; the part's length where it ends early
 unfoldable pub part_fault : ℕ → List ℕ → Option ℕ

@@ -28,7 +28,8 @@ impl<T: Drop> From<AllocFailed<T>> for TiersError {
     }
 }
 
-/// The tier of each of so many groups: the part is one digit from 0 to 7 for each group and one line feed.
+/// The tier of each of so many groups: the part is one digit from 0 to 7 for each group and one
+/// line feed.
 ///
 /// It stops at the first byte at fault.
 pub fn read_tiers(alloc: Global, part: &[u8], groups: u32) -> Result<Vec<u8>, TiersError>

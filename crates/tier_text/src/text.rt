@@ -30,7 +30,10 @@ pub fn tier_text(alloc: Global, table: &TierTable, names: &Names) -> Result<Vec<
 #[tactic(auto, using(table_text::proofs::Lines::one_line_more))]
 fn push_tiers(text: &mut String, names: &Names, tiers: &[Vec<Closing>]) -> Result<(), AllocError>
     ensures { OnOk result
-        (string_bytes text.new ≡ string_bytes text.old ++ flat_map (tier_lines (texts_of names.now) (lists_in tiers.now)) (numbers (length (lists_in tiers.now)))) }
+        (string_bytes text.new
+        ≡ string_bytes text.old
+        ++ flat_map (tier_lines (texts_of names.now) (lists_in tiers.now))
+        (numbers (length (lists_in tiers.now)))) }
 {
     for tier in 0..tiers.len() {
         push_tier(text, names, tiers, tier)?;
@@ -46,7 +49,8 @@ fn push_tier(
 ) -> Result<(), AllocError>
     requires tier { tier < length tiers.now }
     ensures { OnOk result
-        (string_bytes text.new ≡ string_bytes text.old ++ tier_lines (texts_of names.now) (lists_in tiers.now) tier) }
+        (string_bytes text.new
+        ≡ string_bytes text.old ++ tier_lines (texts_of names.now) (lists_in tiers.now) tier) }
 {
     end_with_number(text, "tier ", tier as u64)?;
     push_closings(text, names, &tiers[tier])

@@ -13,15 +13,10 @@ use Rattle.path_groups.specs.Plan.{IsBuiltOn}
 use Rattle.policy_tree.specs.Trees.{Tree, value_in}
 use Rattle.wan_topology.specs.Network.{Network, IsNetwork}
 use Rattle.tiers.specs.Tiered.{free_under, amounts_below, wan_of_tier}
-use Rattle.tiers.specs.Fillings.{Fillings, AreFilled, values_of_tier, wan_by, with_filling}
+use Rattle.tiers.specs.Fillings.{Fillings, IsFilledTo, values_of_tier, wan_by, with_filling}
 use Rattle.tiers.proofs.Tiers.{free-none, length-free}
 use Rattle.tiers.proofs.Kept.{filled-none, filled-more, next-shaped, next-total, next-links, next-fit, next-free, take-links, take-fit}
 use Rattle.tiers.proofs.Lowered.{with_capacities, built_on-same}
-
--- the tiers below one are filled, and the network has what they leave free
-pub record IsFilledTo (tree : Tree) (initial : Network) (groups : List PathGroups) (tiers : List ℕ) (tier : ℕ) (now : Network) (fillings : Fillings) : Type 0 where
-  pub filled : AreFilled (wan_by tree initial groups) tiers tier fillings
-  pub network : now ≡ with_capacities initial (free_under groups initial.capacities (amounts_below (wan_by tree initial groups) tiers tier))
 
 module _ (tree : Tree) (initial : Network) (groups : List PathGroups) (tiers : List ℕ) (clusters : length tree.clusters ≡ length groups)
     (values : AreValues (length tree.clusters) tree.top (value_in tree)) where

@@ -18,24 +18,32 @@ AgreeUpTo plan tiers last demand other =
 
 -- the line of a group in a table
 abbrev pub line_at : Tiered → ℕ → GroupLine
-line_at table group = slice_index_or table.groups group (record { share = 0; amount = 0; places = [] })
+line_at table group =
+    slice_index_or table.groups group (record { share = 0; amount = 0; places = [] })
 
 -- the limits of a group's tasks in a table
 abbrev pub limits_at : Plan → Tiered → ℕ → List ℕ
-limits_at plan table group = map (slice_index table.limits) (cluster_numbers (cluster_at plan.clusters group))
+limits_at plan table group =
+    map (slice_index table.limits) (cluster_numbers (cluster_at plan.clusters group))
 
 -- the tables agree on the closings, the group lines and the limits of tiers up to one
-pub record AreEqualUpTo (plan : Plan) (tiers : List ℕ) (last : ℕ) (table other : Tiered) : Type 0 where
-  pub closings : (tier : ℕ) → tier ≤ last → slice_index_or table.tiers tier [] ≡ slice_index_or other.tiers tier []
-  pub lines : (group : ℕ) → group < length plan.groups → slice_index tiers group ≤ last → line_at table group ≡ line_at other group
-  pub limits : (group : ℕ) → group < length plan.groups → slice_index tiers group ≤ last → limits_at plan table group ≡ limits_at plan other group
+pub record AreEqualUpTo (plan : Plan) (tiers : List ℕ) (last : ℕ) (table other : Tiered)
+    : Type 0 where
+  pub closings : (tier : ℕ) → tier ≤ last
+      → slice_index_or table.tiers tier [] ≡ slice_index_or other.tiers tier []
+  pub lines : (group : ℕ) → group < length plan.groups → slice_index tiers group ≤ last
+      → line_at table group ≡ line_at other group
+  pub limits : (group : ℕ) → group < length plan.groups → slice_index tiers group ≤ last
+      → limits_at plan table group ≡ limits_at plan other group
 
--- no demand of a higher tier matters: two worlds of one plan and tiers that agree on the capacities, and on the demands of all tasks
--- in tiers up to one, agree on the closings, group lines and limits of these tiers
+-- no demand of a higher tier matters: two worlds of one plan and tiers that agree on the
+-- capacities, and on the demands of all tasks in tiers up to one, agree on the closings, group
+-- lines and limits of these tiers
 abbrev pub TierPromise : Type 0
 TierPromise =
     (plan : Plan) (tiers : List ℕ) (last prefix : ℕ) (capacities : List ℕ) (demand other : ℕ → ℕ)
     → length plan.clusters ≡ length plan.groups → length tiers ≡ length plan.groups
     → task_numbers plan.clusters ≡ range_with_len 0 (length (task_numbers plan.clusters))
     → AgreeUpTo plan tiers last demand other
-    → AreEqualUpTo plan tiers last (tiered_under plan prefix demand capacities tiers) (tiered_under plan prefix other capacities tiers)
+    → AreEqualUpTo plan tiers last (tiered_under plan prefix demand capacities tiers)
+    (tiered_under plan prefix other capacities tiers)

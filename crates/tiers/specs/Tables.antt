@@ -16,8 +16,15 @@ pub record IsTierTable (table : Tiered) : Type 0 where
 
 -- the plan that a tree, a network and path groups are
 abbrev pub plan_of : Tree → Network → List PathGroups → Plan
-plan_of tree network groups = record { top = tree.top; clusters = tree.clusters; groups = groups; capacities = network.capacities }
+plan_of tree network groups =
+    record {
+      top = tree.top;
+      clusters = tree.clusters;
+      groups = groups;
+      capacities = network.capacities;
+    }
 
 -- no link's load exceeds its capacity
 abbrev pub IsFeasible : List ℕ → Tiered → Type 0
-IsFeasible capacities table = (link : ℕ) → link < length capacities → slice_index table.loads link ≤ slice_index capacities link
+IsFeasible capacities table = (link : ℕ) → link < length capacities
+    → slice_index table.loads link ≤ slice_index capacities link

@@ -13,11 +13,14 @@ is_in_tier tiers tier group = nat_lt group (length tiers) && slice_index tiers g
 
 -- each group of the tier has its value, every other group has 0 at every share
 abbrev pub value_in_tier : List ℕ → ℕ → (ℕ → ℕ → ℕ) → ℕ → ℕ → ℕ
-value_in_tier tiers tier value group share = if is_in_tier tiers tier group then value group share else 0
+value_in_tier tiers tier value group share =
+    if is_in_tier tiers tier group then value group share else 0
 
 -- each link's capacity less its load under the amounts
 abbrev pub free_under : List PathGroups → List ℕ → (ℕ → ℕ → ℕ) → List ℕ
-free_under groups capacities amounts = map (λ link. slice_index capacities link - link_load groups amounts link) (numbers (length capacities))
+free_under groups capacities amounts =
+    map (λ link. slice_index capacities link - link_load groups amounts link)
+    (numbers (length capacities))
 
 -- what is filled for a tier, over what the amounts leave free
 abbrev pub wan_over : Wan → List ℕ → ℕ → (ℕ → ℕ → ℕ) → Wan
@@ -32,7 +35,8 @@ wan_over wan tiers tier amounts = record {
 unfoldable pub amounts_below : Wan → List ℕ → ℕ → ℕ → ℕ → ℕ
 amounts_below wan tiers zero = λ group place. 0
 amounts_below wan tiers (suc tier) =
-    λ group place. amounts_below wan tiers tier group place + (filling (wan_over wan tiers tier (amounts_below wan tiers tier))).amounts group place
+    λ group place. amounts_below wan tiers tier group place
+    + (filling (wan_over wan tiers tier (amounts_below wan tiers tier))).amounts group place
 
 -- what is filled for a tier, and its filling
 abbrev pub wan_of_tier : Wan → List ℕ → ℕ → Wan
@@ -52,13 +56,15 @@ tiered_amounts wan tiers group = (filling_of_tier wan tiers (slice_index tiers g
 -- the line of a group in the filling of its own tier
 abbrev pub tiered_line : Wan → List ℕ → ℕ → GroupLine
 tiered_line wan tiers group =
-    group_line (wan_of_tier wan tiers (slice_index tiers group)) (filling_of_tier wan tiers (slice_index tiers group)) group
+    group_line (wan_of_tier wan tiers (slice_index tiers group))
+    (filling_of_tier wan tiers (slice_index tiers group)) group
 
 -- the closings of a tier, in their order
 abbrev pub tier_closings : Wan → List ℕ → ℕ → List Closing
 tier_closings wan tiers tier = reverse (filling_of_tier wan tiers tier).closings
 
--- a table of tiers: how many reports it covers, the closings of each tier, each task's limit, each group's line, each link's load
+-- a table of tiers: how many reports it covers, the closings of each tier, each task's limit, each
+-- group's line, each link's load
 pub record Tiered : Type 0 where
   pub prefix : ℕ
   pub tiers : List (List Closing)
@@ -73,11 +79,13 @@ tiered_of wan clusters demand tiers prefix = record {
   tiers = map (tier_closings wan tiers) (numbers (tier_count tiers));
   limits =
       flat_map (λ given. cluster_limits wan.top demand given.0 given.1)
-      (zip clusters (map (group_amount wan (tiered_amounts wan tiers)) (numbers (length clusters))));
+      (zip clusters
+      (map (group_amount wan (tiered_amounts wan tiers)) (numbers (length clusters))));
   groups = map (tiered_line wan tiers) (numbers (length wan.groups));
   loads = map (link_load wan.groups (tiered_amounts wan tiers)) (numbers (length wan.capacities));
 }
 
 -- the Tiered allocation of a plan under these demands and capacities
 unfoldable pub tiered_under : Plan → ℕ → (ℕ → ℕ) → List ℕ → List ℕ → Tiered
-tiered_under plan prefix demand capacities tiers = tiered_of (wan_under plan demand capacities) plan.clusters demand tiers prefix
+tiered_under plan prefix demand capacities tiers =
+    tiered_of (wan_under plan demand capacities) plan.clusters demand tiers prefix

@@ -20,8 +20,9 @@ use policy_tree::PolicyTree;
 use std::alloc::Global;
 use wan_topology::Topology;
 
-/// The Tiered allocation under the demands of the tree and the capacities of the topology ("Tiered allocation",
-/// docs/DEFINITIONS.md): `tiers` has the tier of each group. It makes one filling for each tier up to the greatest.
+/// The Tiered allocation under the demands of the tree and the capacities of the topology ("Tiered
+/// allocation", docs/DEFINITIONS.md): `tiers` has the tier of each group. It makes one filling for
+/// each tier up to the greatest.
 ///
 /// The table covers `prefix` reports, as the caller counts them.
 pub fn fill_tiers(
@@ -41,18 +42,20 @@ pub fn fill_tiers(
     // Feasibility law: no link's load exceeds its capacity
     ensures feasible { IfOk result (IsFeasible topology.capacities) }
 
-    // No more than asked: no limit is above its task's demand, nor above its weight times its function at the top
+    // No more than asked: no limit is above its task's demand, nor above its weight times its
+    // function at the top
     ensures asked { IfOk result (IsNoMoreThanAsked tree.now) }
 
-    // The same share: a group has what its function gives at its stop share, and groups of a tier that grow over a
-    // link when it closes stand at one share
+    // The same share: a group has what its function gives at its stop share, and groups of a tier
+    // that grow over a link when it closes stand at one share
     ensures shared { IfOk result (IsShared (wan_by tree.now topology plan.now) tiers.now) }
 
-    // No waste: a closed link has less free than those of the tier who grew over it would have put there with one
-    // share more
+    // No waste: a closed link has less free than those of the tier who grew over it would have put
+    // there with one share more
     ensures unwasted { IfOk result (IsUnwasted (wan_by tree.now topology plan.now) tiers.now) }
 
-    // Nobody's place matters: the table of tiers of the plan with its groups in another order is this one in that order
+    // Nobody's place matters: the table of tiers of the plan with its groups in another order is
+    // this one in that order
     ensures in_any_order { IfOk result (IsInAnyOrder (plan_of tree.now topology plan.now) prefix
         (demand_in tree.now) topology.capacities tiers.now) }
 {
@@ -79,9 +82,11 @@ fn tiered_lines(
     fillings: &Fillings,
 ) -> Result<Vec<GroupLine>, OutOfMemory>
     requires one_each { length tiers.now ≡ length plan.now }
-    requires has { (group : ℕ) → group < length plan.now → HasLine plan.now fillings.now (slice_index tiers.now group) group }
+    requires has { (group : ℕ) → group < length plan.now
+        → HasLine plan.now fillings.now (slice_index tiers.now group) group }
     ensures { IfOk result (λ lines. lines.items
-        ≡ map (λ group. line_in_tier plan.now fillings.now (slice_index tiers.now group) group) (numbers (length plan.now))) }
+        ≡ map (λ group. line_in_tier plan.now fillings.now (slice_index tiers.now group) group)
+        (numbers (length plan.now))) }
 {
     let mut lines = Vec::new(alloc);
     for group in 0..plan.groups() {

@@ -8,7 +8,9 @@ ghost use Rattle.policy_tree.specs.Trees.{IsTree, value_in};
 ghost use Rattle.mpfa_fill.specs.Filling.{IsFilling};
 ghost use Rattle.mpfa_fill.specs.GroupValues.{wan_of};
 ghost use Rattle.tiers.specs.Tiered.{tier_count};
-ghost use Rattle.tiers.specs.Fillings.{AreFilled, HasLine, line_in_tier, values_of_tier, wan_by, with_filling};
+ghost use Rattle.wan_topology.specs.Network.{Network};
+ghost use Rattle.tiers.specs.Fillings.{AreFilled, HasLine, IsFilledSome, IsFilledTo, line_in_tier};
+ghost use Rattle.tiers.specs.Fillings.{values_of_tier, wan_by, with_filling};
 
 use crate::values::TierValues;
 use allocator::{group_line, loads_of};
@@ -22,8 +24,9 @@ use std::alloc::Global;
 use std::marker::Model;
 use wan_topology::Topology;
 
-/// By tier: the closings in their order, the amounts by group and place, and each group's stop share. And the load of each
-/// link under all of these amounts. Amounts and loads are kilobits per second.
+/// By tier: the closings in their order, the amounts by group and place, and each group's stop
+/// share. And the load of each link under all of these amounts. Amounts and loads are kilobits per
+/// second.
 #[derive(Drop)]
 pub(crate) struct Fillings {
     pub(crate) closings: Vec<Vec<Closing>>,
@@ -111,18 +114,41 @@ pub(crate) fn fill_each(
     requires built_on { IsBuiltOn topology plan.now }
     requires groups { length tree.now.clusters ≡ length plan.now }
     requires one_each { length tiers.now ≡ length plan.now }
-    ensures { IfOk result (AreFilled (wan_by tree.now topology plan.now) tiers.now (tier_count tiers.now)) }
+    ensures { IfOk result
+        (AreFilled (wan_by tree.now topology plan.now) tiers.now (tier_count tiers.now)) }
 {
     tree.what_holds();
     let mut topology = topology;
     let mut fillings = Fillings::none(alloc, topology.links())?;
     for tier in 0..count_of(tiers) {
-        let filling = fill_tier(alloc, tree, &topology, plan, tiers, tier)?;
-        let loads = loads_of(alloc, &topology, plan, &filling.amounts)?;
-        lower(&mut topology, &loads);
-        fillings.take(filling, &loads)?;
+        fill_next(alloc, tree, &mut topology, plan, tiers, tier, &mut fillings)?;
     }
     Ok(fillings)
+}
+
+// Fills a tier over what the lower ones left, and takes its loads from the links.
+fn fill_next(
+    alloc: Global,
+    tree: &PolicyTree,
+    topology: &mut Topology,
+    plan: &PathPlan,
+    tiers: &[u8],
+    tier: u32,
+    fillings: &mut Fillings,
+) -> Result<(), OutOfMemory>
+    requires built_on { IsBuiltOn topology.old plan.now }
+    requires groups { length tree.now.clusters ≡ length plan.now }
+    requires filled { IsFilledSome tree.now plan.now tiers.now tier topology.old fillings.old }
+    ensures { OnOk result ((initial : Network)
+        → IsFilledTo tree.now initial plan.now tiers.now tier topology.old fillings.old
+        → IsFilledTo tree.now initial plan.now tiers.now (tier + 1) topology.new fillings.new) }
+{
+    tree.what_holds();
+    let filling = fill_tier(alloc, tree, topology, plan, tiers, tier)?;
+    let loads = loads_of(alloc, topology, plan, &filling.amounts)?;
+    lower(topology, &loads);
+    fillings.take(filling, &loads)?;
+    Ok(())
 }
 
 // The filling of a tier between the capacities of the topology.
@@ -137,7 +163,8 @@ fn fill_tier(
     requires built_on { IsBuiltOn topology.now plan.now }
     requires groups { length tree.now.clusters ≡ length plan.now }
     ensures { IfOk result
-        (IsFilling (wan_of (values_of_tier tree.now tiers.now tier) plan.now topology.now.capacities)) }
+        (IsFilling (wan_of (values_of_tier tree.now tiers.now tier) plan.now
+        topology.now.capacities)) }
 {
     let values = TierValues { tree, tiers, tier };
     solve_by_links(alloc, &values, topology, plan)
@@ -161,7 +188,8 @@ fn lower(topology: &mut Topology, loads: &[u64])
     requires fit { (link : ℕ) → link < length loads.now
         → slice_index loads.now link ≤ slice_index topology.old.capacities link }
     ensures { topology.new ≡ record topology.old {
-      capacities = map (λ link. slice_index topology.old.capacities link - slice_index loads.now link)
+      capacities = map
+          (λ link. slice_index topology.old.capacities link - slice_index loads.now link)
           (numbers (length topology.old.capacities));
     } }
 {

@@ -1,8 +1,9 @@
 //! Strict tiers of groups: each tier is filled over what the tiers below it left free.
 //!
-//! The text of tiers and the top call use `fill_tiers` and `TierTable`. `fill_tiers` answers the Tiered allocation, and no
-//! link's load exceeds its capacity. `tier_promise` is the law that no demand of a higher tier matters to a lower one.
-//! Nothing is promised of time: it is that of one filling for each tier.
+//! The text of tiers and the top call use `fill_tiers` and `TierTable`. `fill_tiers` answers the
+//! Tiered allocation, and no link's load exceeds its capacity. `tier_promise` is the law that no
+//! demand of a higher tier matters to a lower one. Nothing is promised of time: it is that of one
+//! filling for each tier.
 #![tactic(auto)]
 
 mod fill;

@@ -7,8 +7,8 @@ ghost use Rattle.tiers.specs.Fillings.{values_of_tier};
 use mpfa_fill::GroupValues;
 use policy_tree::PolicyTree;
 
-/// What each group may have at a share in the filling of one tier, under the demands of a tree: its value where it is one
-/// of the tier, and 0 else.
+/// What each group may have at a share in the filling of one tier, under the demands of a tree: its
+/// value where it is one of the tier, and 0 else.
 #[derive(Drop)]
 pub(crate) struct TierValues<'a> {
     pub(crate) tree: &'a PolicyTree,

@@ -6,7 +6,8 @@ use Rattle.std.specs.Str.Parse.{digits_value}
 use Rattle.text_scan.specs.Numbers.{is_number}
 use Rattle.two_part.specs.declared.Parts.{Parts}
 
--- The bytes are one to 20 ASCII digits, a line feed (10), as many bytes as that number, which are the document, and the rest.
+-- The bytes are one to 20 ASCII digits, a line feed (10), as many bytes as that number, which are
+-- the document, and the rest.
 pub record IsTwoPart (bytes digits document rest : List ℕ) : Type 0 where
   pub in_order : bytes ≡ digits ++ 10 ∷ (document ++ rest)
   pub digits_alone : all_ascii_digits digits ≡ true
@@ -16,7 +17,8 @@ pub record IsTwoPart (bytes digits document rest : List ℕ) : Type 0 where
 
 -- the document lies behind these digits and their line feed
 abbrev pub parts_behind : List ℕ → ℕ → Parts
-parts_behind digits document_length = record { start = length digits + 1; end = length digits + 1 + document_length }
+parts_behind digits document_length =
+    record { start = length digits + 1; end = length digits + 1 + document_length }
 
 -- the parts lie where some digits, a document and a rest of the bytes say
 pub record AreParts (bytes : List ℕ) (parts : Parts) : Type 0 where
@@ -37,4 +39,5 @@ parts_within bytes digits =
 -- the digits are what stands before the first line feed
 unfoldable pub parts_of : List ℕ → Option Parts
 parts_of bytes =
-    option_and_then (λ line_feed. parts_within bytes (take line_feed bytes)) (position (λ byte. byte == 10) bytes)
+    option_and_then (λ line_feed. parts_within bytes (take line_feed bytes))
+    (position (λ byte. byte == 10) bytes)

@@ -1,9 +1,9 @@
 //! Where the document lies in an input of two parts.
 //!
-//! The lines that read a document and a second part ask `find_parts` before anything else, and read the document from
-//! `start` to before `end` and the second part from `end` on. `exact` says which answer comes; `found` and `complete`
-//! say that it is the one of the format's sentence (`specs/TwoPart.antt`). It takes no memory.
-//! Nothing is promised of what the two parts hold.
+//! The lines that read a document and a second part ask `find_parts` before anything else, and read
+//! the document from `start` to before `end` and the second part from `end` on. `exact` says which
+//! answer comes; `found` and `complete` say that it is the one of the format's sentence
+//! (`specs/TwoPart.antt`). It takes no memory. Nothing is promised of what the two parts hold.
 #![tactic(auto)]
 
 ghost use Rattle.std.specs.Prelude.{◌≡◌, ◌==◌, List, ℕ, length, position, Some, IfSome};
@@ -11,7 +11,8 @@ ghost use Rattle.two_part.specs.TwoPart.{AreParts, IsTwoPart, parts_behind, part
 
 use text_scan::number_of;
 
-/// Where the document lies, in bytes from the start of the input. The second part is what follows `end`.
+/// Where the document lies, in bytes from the start of the input. The second part is what follows
+/// `end`.
 #[derive(Clone, Copy, Debug, PartialEq, Eq, Drop)]
 pub struct Parts {
     pub start: u64,

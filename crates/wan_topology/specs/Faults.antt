@@ -24,11 +24,14 @@ fault_or None later = later
 unfoldable pub first_link_fault : List (List ℕ) → ℕ → List Link → Option TopologyFault
 first_link_fault names number [] = None
 first_link_fault names number (link ∷ later) =
-    fault_or (link_fault names number link) (first_link_fault (names ++ link.name ∷ []) (suc number) later)
+    fault_or (link_fault names number link)
+    (first_link_fault (names ++ link.name ∷ []) (suc number) later)
 
 -- the fault of the links of an input: their number is looked at first
 unfoldable pub topology_fault : List Link → Option TopologyFault
-topology_fault links = if nat_lt 4_096 (length links) then Some (TooManyLinks (length links)) else first_link_fault [] 0 links
+topology_fault links =
+    if nat_lt 4_096 (length links) then Some (TooManyLinks (length links))
+    else first_link_fault [] 0 links
 
 -- the error names this fault, or says that memory was wanting
 abbrev pub TellsFault : Option TopologyFault → TopologyError → Type 0

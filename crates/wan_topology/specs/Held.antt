@@ -8,7 +8,13 @@ use Rattle.wan_topology.specs.Network.{Link, Sites, Network}
 
 -- the link that is given
 abbrev pub link_of : LinkSpec → Link
-link_of spec = record { name = string_bytes spec.name; from = string_bytes spec.from; to = string_bytes spec.to; capacity = spec.capacity }
+link_of spec =
+    record {
+      name = string_bytes spec.name;
+      from = string_bytes spec.from;
+      to = string_bytes spec.to;
+      capacity = spec.capacity;
+    }
 
 -- the links that are given, in their order
 abbrev pub links_of : List LinkSpec → List Link
@@ -24,4 +30,5 @@ sites_held sites = record { from = string_bytes sites.from; to = string_bytes si
 
 -- the network that is held
 abbrev pub network_held : List (String Global) → List LinkSites → List ℕ → Network
-network_held names sites capacities = record { names = texts names; sites = map sites_held sites; capacities = capacities }
+network_held names sites capacities =
+    record { names = texts names; sites = map sites_held sites; capacities = capacities }

@@ -1,7 +1,9 @@
--- What contracts see of links. A text is the list of its bytes, a link's number is its place in each list.
+-- What contracts see of links. A text is the list of its bytes, a link's number is its place in
+-- each list.
 use Rattle.std.specs.Prelude.{◌≡◌, ℕ, ◌≤◌, List, [], ◌∷◌, ◌++◌, length, map, All, slice_index_or}
 
--- a link as it is given: its name, the sites where it starts and ends, and what it can carry, in kilobits per second
+-- a link as it is given: its name, the sites where it starts and ends, and what it can carry, in
+-- kilobits per second
 pub record Link : Type 0 where
   pub name : List ℕ
   pub from : List ℕ
@@ -35,7 +37,8 @@ network_with network link = record {
   capacities = network.capacities ++ link.capacity ∷ [];
 }
 
--- there are few links, each has a name, sites and a capacity, and no capacity is above the greatest amount
+-- there are few links, each has a name, sites and a capacity, and no capacity is above the greatest
+-- amount
 pub record IsNetwork (network : Network) : Type 0 where
   pub few_links : length network.capacities ≤ 4_096
   pub each_named : length network.names ≡ length network.capacities

@@ -1,36 +1,39 @@
 //! Why links are refused.
 
 use std::alloc::{AllocError, AllocFailed};
-use thiserror::Error;
+use std::fmt;
 
 /// What is wrong with the links, in the order in which it is looked for.
 ///
-/// The number of links comes first. Then the first link at fault is named, with the first of the other three that it has.
-#[derive(Clone, Copy, Debug, PartialEq, Eq, Error)]
+/// The number of links comes first. Then the first link at fault is named, with the first of the
+/// other three that it has.
+#[derive(Clone, Copy)]
 pub enum TopologyFault {
     /// There are more than 4,096 links.
-    #[error("there are {count} links")]
     TooManyLinks { count: u64 },
     /// The link's name stood before.
-    #[error("the name of link {link} stood before")]
     RepeatedLink { link: u32 },
     /// The link ends where it starts.
-    #[error("link {link} ends where it starts")]
     SelfLink { link: u32 },
     /// The link's capacity is above 1,000,000,000,000 kilobits per second.
-    #[error("the capacity of link {link} is too great")]
     CapacityOverMax { link: u32 },
 }
 
 /// Why `Topology::build` made no topology.
-#[derive(Clone, Copy, Debug, PartialEq, Eq, Error)]
+#[derive(Clone, Copy)]
 pub enum TopologyError {
     /// The links have this fault.
-    #[error("{fault}")]
     Refused { fault: TopologyFault },
     /// Memory was wanting.
-    #[error("out of memory")]
     OutOfMemory,
+}
+
+// Says only that there is an error, as is owed to a test that fails: `plan_doc` has the words of
+// each refusal.
+impl fmt::Debug for TopologyError {
+    fn fmt<W: fmt::Write>(&self, f: &mut fmt::Formatter<W>) -> fmt::Result {
+        f.write_str("no topology was made")
+    }
 }
 
 impl From<AllocError> for TopologyError {

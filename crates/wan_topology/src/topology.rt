@@ -1,9 +1,14 @@
 //! A topology: links by their numbers.
 
-ghost use Rattle.std.specs.Prelude.{◌≡◌, ℕ, ◌+◌, ◌<◌, ◌≤◌, ◌↔◌, List, [], ◌∷◌, ◌++◌, length, map, slice_index, slice_set, IfOk, IfErr, OnOk, IsNone, Contains, position};
+ghost use Rattle.std.specs.Prelude.{◌≡◌, ℕ, ◌+◌, ◌<◌, ◌≤◌, ◌↔◌, List, [], ◌∷◌, ◌++◌};
+ghost use Rattle.std.specs.Prelude.{false, length, map, slice_index, slice_set, IfOk, IfErr, OnOk, IsNone, Contains, position};
+ghost use Rattle.std.specs.List.{list_any};
 ghost use Rattle.std.specs.Str.{bytes_eq};
+ghost use Rattle.std.specs.String.{string_bytes};
 ghost use Rattle.wan_topology.specs.Network.{network_of, network_with, sites_of, IsNetwork};
+ghost use Rattle.wan_topology.specs.declared.fault.TopologyError.TheVariants.{OutOfMemory};
 ghost use Rattle.wan_topology.specs.Faults.{link_fault, topology_fault, TellsFault};
+ghost use Rattle.wan_topology.specs.Held.{link_of, network_held, texts};
 
 use crate::fault::{TopologyError, TopologyFault};
 use bwe_specs::{MAX_AMOUNT, MAX_LINKS};
@@ -27,7 +32,8 @@ struct LinkSites {
     to: String,
 }
 
-/// The links of the network, by their numbers. Contracts see the record of their names, sites and capacities.
+/// The links of the network, by their numbers. Contracts see the record of their names, sites and
+/// capacities.
 ///
 /// Which links there are, with their names and sites, never changes. A capacity can.
 #[derive(Drop)]
@@ -44,9 +50,11 @@ impl Model for Topology {
 
     ghost use Rattle.wan_topology.specs.Held.{network_held};
 
-    ghost view = { λ topology. network_held topology.names.keys topology.sites.items topology.capacities.items };
+    ghost view = { λ topology. network_held topology.names.keys topology.sites.items
+        topology.capacities.items };
 
-    ghost invariant = { λ topology. IsNetwork (network_held topology.names.keys topology.sites.items topology.capacities.items) };
+    ghost invariant = { λ topology. IsNetwork
+        (network_held topology.names.keys topology.sites.items topology.capacities.items) };
 }
 
 impl Topology {
@@ -54,7 +62,8 @@ impl Topology {
 
     /// The topology of these links, numbered in their order.
     ///
-    /// The fault that is told is the first one in the order of `TopologyFault`. It costs one look-up of a name for each link.
+    /// The fault that is told is the first one in the order of `TopologyFault`. It costs one
+    /// look-up of a name for each link.
     pub fn build(alloc: Global, links: Vec<LinkSpec>) -> Result<Topology, TopologyError>
         ensures built { IfOk result (λ topology. topology ≡ network_of (links_of links.items)) }
         ensures accepted { OnOk result (topology_fault (links_of links.items) ≡ None) }
@@ -120,11 +129,13 @@ impl Topology {
         Some(self.names.get_index_of(name)? as u32)
     }
 
-    /// Sets what the link can carry, in kilobits per second, and changes nothing else. It takes no memory.
+    /// Sets what the link can carry, in kilobits per second, and changes nothing else. It takes no
+    /// memory.
     pub fn set_capacity(&mut self, link: u32, capacity: u64)
         requires link { link < length self.old.capacities }
         requires capacity { capacity ≤ MAX_AMOUNT }
-        ensures { self.new ≡ record self.old { capacities = slice_set self.old.capacities link capacity } }
+        ensures { self.new
+            ≡ record self.old { capacities = slice_set self.old.capacities link capacity } }
     {
         self.capacities[link as usize] = capacity;
     }
@@ -144,8 +155,10 @@ impl Topology {
     fn with_link(self, link: LinkSpec) -> Result<Topology, TopologyError>
         requires { length self.capacities < MAX_LINKS }
         ensures built { IfOk result (λ topology. topology ≡ network_with self (link_of link)) }
-        ensures accepted { OnOk result (link_fault self.names (length self.capacities) (link_of link) ≡ None) }
-        ensures refused { IfErr result (TellsFault (link_fault self.names (length self.capacities) (link_of link))) }
+        ensures accepted { OnOk result
+            (link_fault self.names (length self.capacities) (link_of link) ≡ None) }
+        ensures refused { IfErr result
+            (TellsFault (link_fault self.names (length self.capacities) (link_of link))) }
     {
         let number = self.capacities.len() as u32;
         if let Some(fault) = self.fault_of(number, &link) {
@@ -156,12 +169,7 @@ impl Topology {
             mut sites,
             mut capacities,
         } = self;
-        names.insert(link.name)?;
-        sites.push(LinkSites {
-            from: link.from,
-            to: link.to,
-        })?;
-        capacities.push(link.capacity)?;
+        put_link(&mut names, &mut sites, &mut capacities, link)?;
         Ok(Topology {
             names,
             sites,
@@ -185,4 +193,26 @@ impl Topology {
         }
         None
     }
+}
+
+// Puts a link of a new name behind those that are held.
+fn put_link(
+    names: &mut IndexSet<String>,
+    sites: &mut Vec<LinkSites>,
+    capacities: &mut Vec<u64>,
+    link: LinkSpec,
+) -> Result<(), TopologyError>
+    requires { list_any (bytes_eq (string_bytes link.name)) (texts names.old.keys) ≡ false }
+    ensures put { OnOk result (network_held names.new.keys sites.new.items capacities.new.items
+        ≡ network_with (network_held names.old.keys sites.old.items capacities.old.items)
+        (link_of link)) }
+    ensures refused { IfErr result (λ error. error ≡ OutOfMemory) }
+{
+    names.insert(link.name)?;
+    sites.push(LinkSites {
+        from: link.from,
+        to: link.to,
+    })?;
+    capacities.push(link.capacity)?;
+    Ok(())
 }

@@ -8,6 +8,7 @@ use board_core::{CoreAnswer, CoreError, CoreEvent, CoreState, Piece};
 use bwe_specs::{MAX_AMOUNT, OutOfMemory};
 use demand_book::{Maker, Report, SmallMaker, Target};
 use std::alloc::Global;
+use std::process::Abort;
 use std::test::Fail;
 
 // A piece of so many reports of the first task, by the first reporter.
@@ -26,12 +27,23 @@ fn reported(alloc: Global, amount: u64, count: usize) -> Result<CoreEvent, OutOf
     })
 }
 
-// A step of a core with one reporter and one reader, on a plan of two tasks and one link.
-fn answer<M: Maker>(
-    core: &mut CoreState<M>,
+fn seen(prefix: u64, total: u64) -> Result<CoreAnswer, CoreError> {
+    Ok(CoreAnswer::Seen { prefix, total })
+}
+
+fn posted(prefix: u64) -> Result<CoreAnswer, CoreError> {
+    Ok(CoreAnswer::Posted { prefix })
+}
+
+// Takes a step of a core with one reporter and one reader, on a plan of two tasks and one link, and
+// asserts its answer.
+fn answers<M: Maker, R: Abort>(
+    rt: &R,
     alloc: Global,
+    core: &mut CoreState<M>,
     event: CoreEvent,
-) -> Result<CoreAnswer, CoreError>
+    answer: Result<CoreAnswer, CoreError>,
+)
     requires sizes { (core.old.reporters ≡ 1) × (length core.old.state.floors ≡ 1) }
     requires plan { (M.plan_tasks (M.plan core.old.maker) ≡ 2)
         × (M.plan_links (M.plan core.old.maker) ≡ 1) }
@@ -40,7 +52,7 @@ fn answer<M: Maker>(
     ensures plan { (M.plan_tasks (M.plan core.new.maker) ≡ 2)
         × (M.plan_links (M.plan core.new.maker) ≡ 1) }
 {
-    core.step(alloc, event)
+    assert_eq!(rt; core.step(alloc, event), answer);
 }
 
 // The case "Core walk", with a small maker in place of the allocator: nothing here depends on which
@@ -49,45 +61,25 @@ fn answer<M: Maker>(
 fn a_walk_of_the_core_with_a_small_maker(rt: HostRuntime) -> Result<(), Fail> {
     let alloc = rt.alloc();
     let mut core = CoreState::new(alloc, SmallMaker::new(2, 1), 1, 1)?;
+    walk(&rt, alloc, &mut core)
+}
+
+fn walk<M: Maker, R: Abort>(rt: &R, alloc: Global, core: &mut CoreState<M>) -> Result<(), Fail>
+    requires sizes { (core.old.reporters ≡ 1) × (length core.old.state.floors ≡ 1) }
+    requires plan { (M.plan_tasks (M.plan core.old.maker) ≡ 2)
+        × (M.plan_links (M.plan core.old.maker) ≡ 1) }
+{
     let piece = reported(alloc, 80, 1)?;
-    assert_eq!(rt;
-        answer(&mut core, alloc, piece),
-        Ok(CoreAnswer::Placed { first: 0 })
-    );
-    let read = CoreEvent::Read { reader: 0 };
-    assert_eq!(rt;
-        answer(&mut core, alloc, read),
-        Ok(CoreAnswer::Seen {
-            prefix: 0,
-            total: 0
-        })
-    );
-    let post = CoreEvent::Post { upto: 1 };
-    assert_eq!(rt;
-        answer(&mut core, alloc, post),
-        Ok(CoreAnswer::Posted { prefix: 1 })
-    );
+    answers(rt, alloc, core, piece, Ok(CoreAnswer::Placed { first: 0 }));
+    answers(rt, alloc, core, CoreEvent::Read { reader: 0 }, seen(0, 0));
+    answers(rt, alloc, core, CoreEvent::Post { upto: 1 }, posted(1));
     let tell = CoreEvent::Tell {
         reader: 0,
         prefix: 1,
     };
-    assert_eq!(rt;
-        answer(&mut core, alloc, tell),
-        Ok(CoreAnswer::Told { prefix: 1 })
-    );
-    let read = CoreEvent::Read { reader: 0 };
-    assert_eq!(rt;
-        answer(&mut core, alloc, read),
-        Ok(CoreAnswer::Seen {
-            prefix: 1,
-            total: 80
-        })
-    );
-    let post = CoreEvent::Post { upto: 0 };
-    assert_eq!(rt;
-        answer(&mut core, alloc, post),
-        Ok(CoreAnswer::Posted { prefix: 1 })
-    );
+    answers(rt, alloc, core, tell, Ok(CoreAnswer::Told { prefix: 1 }));
+    answers(rt, alloc, core, CoreEvent::Read { reader: 0 }, seen(1, 80));
+    answers(rt, alloc, core, CoreEvent::Post { upto: 0 }, posted(1));
     assert_eq!(rt; (core.log_length(), core.entry(1)), (1, None));
     Ok(())
 }
@@ -97,16 +89,19 @@ fn a_walk_of_the_core_with_a_small_maker(rt: HostRuntime) -> Result<(), Fail> {
 fn a_piece_past_the_limit_changes_nothing(rt: HostRuntime) -> Result<(), Fail> {
     let alloc = rt.alloc();
     let mut core = CoreState::new(alloc, SmallMaker::new(2, 1), 1, 1)?;
+    fill(&rt, alloc, &mut core)
+}
+
+fn fill<M: Maker, R: Abort>(rt: &R, alloc: Global, core: &mut CoreState<M>) -> Result<(), Fail>
+    requires sizes { (core.old.reporters ≡ 1) × (length core.old.state.floors ≡ 1) }
+    requires plan { (M.plan_tasks (M.plan core.old.maker) ≡ 2)
+        × (M.plan_links (M.plan core.old.maker) ≡ 1) }
+{
     let piece = reported(alloc, 80, 199_999)?;
-    assert_eq!(rt;
-        answer(&mut core, alloc, piece),
-        Ok(CoreAnswer::Placed { first: 0 })
-    );
+    answers(rt, alloc, core, piece, Ok(CoreAnswer::Placed { first: 0 }));
     let piece = reported(alloc, 80, 2)?;
-    assert_eq!(rt;
-        answer(&mut core, alloc, piece),
-        Err(CoreError::Full { held: 199_999 })
-    );
+    let full = Err(CoreError::Full { held: 199_999 });
+    answers(rt, alloc, core, piece, full);
     assert_eq!(rt;
         (core.log_length(), core.posted(), core.floor(0)),
         (199_999, 0, 0)
@@ -119,18 +114,19 @@ fn a_piece_past_the_limit_changes_nothing(rt: HostRuntime) -> Result<(), Fail> {
 fn a_refused_table_leaves_what_was_taken_in(rt: HostRuntime) -> Result<(), Fail> {
     let alloc = rt.alloc();
     let mut core = CoreState::new(alloc, BalkyMaker::new(SmallMaker::new(2, 1)), 1, 1)?;
+    refuse(&rt, alloc, &mut core)
+}
+
+fn refuse<M: Maker, R: Abort>(rt: &R, alloc: Global, core: &mut CoreState<M>) -> Result<(), Fail>
+    requires sizes { (core.old.reporters ≡ 1) × (length core.old.state.floors ≡ 1) }
+    requires plan { (M.plan_tasks (M.plan core.old.maker) ≡ 2)
+        × (M.plan_links (M.plan core.old.maker) ≡ 1) }
+{
     let piece = reported(alloc, 80, 2)?;
-    assert_eq!(rt;
-        answer(&mut core, alloc, piece),
-        Ok(CoreAnswer::Placed { first: 0 })
-    );
+    answers(rt, alloc, core, piece, Ok(CoreAnswer::Placed { first: 0 }));
     let post = CoreEvent::Post { upto: 2 };
-    assert_eq!(rt; answer(&mut core, alloc, post), Err(CoreError::OutOfMemory));
+    answers(rt, alloc, core, post, Err(CoreError::OutOfMemory));
     assert_eq!(rt; (core.posted(), core.taken()), (0, 2));
-    let post = CoreEvent::Post { upto: 1 };
-    assert_eq!(rt;
-        answer(&mut core, alloc, post),
-        Ok(CoreAnswer::Posted { prefix: 2 })
-    );
+    answers(rt, alloc, core, CoreEvent::Post { upto: 1 }, posted(2));
     Ok(())
 }

@@ -22,15 +22,10 @@ fn compared<B: Bases, R: Abort>(rt: &R, alloc: Global, opened: OpenedLog) -> Res
     assert!(rt; log.append(&piece).is_ok());
     let two = log.first(2);
     let one = two.first(1);
-    assert_eq!(rt; (none.len(), one.len(), two.len()), (0, 1, 2));
+    let begins = none.begins(&one) && one.begins(&two) && two.begins(&two.copy());
     assert_eq!(rt;
-        (
-            none.begins(&one),
-            one.begins(&two),
-            two.begins(&one),
-            two.begins(&two.copy())
-        ),
-        (true, true, false, true)
+        (none.len(), one.len(), two.len(), begins, two.begins(&one)),
+        (0, 1, 2, true, false)
     );
     Ok(())
 }

@@ -4,8 +4,8 @@ use crate::tests::demand_by;
 use crate::tests::held_gate::ToldGate;
 use crew::run_crew;
 use crew_actors::OpenGate;
-use crew_log::ReadLine;
-use demand_book::SmallMaker;
+use crew_log::{CrewLog, ReadLine};
+use demand_book::{SmallMaker, SmallTable};
 use std::test::*;
 
 // How often each run is made.
@@ -22,20 +22,21 @@ fn a_run_ends_with_the_history_each_time(rt: HostRuntime) -> Result<(), Fail> {
     ];
     for _ in 0..RUNS {
         let log = run_crew(&rt, alloc, SmallMaker::new(2, 1), &scripts, 2, 3, &OpenGate)?;
-        assert_eq!(rt;
-            (log.history.len(), log.sent.len(), log.table.total),
-            (2, 2, 120)
-        );
-        assert_eq!(rt; log.readers.len(), 2);
-        for reader in &log.readers {
-            assert_eq!(rt;
-                (reader.reads.len(), reader.length, reader.beyond.len()),
-                (3, 2, 0)
-            );
-            assert_eq!(rt; (reader.last.prefix, reader.last.total), (2, 120));
-        }
+        assert!(rt; is_whole(&log));
     }
     Ok(())
+}
+
+// Whether the log has both demands, and each of the two readers has seen them at its end.
+fn is_whole(log: &CrewLog<SmallTable>) -> bool {
+    for reader in &log.readers {
+        if (reader.reads.len(), reader.length, reader.beyond.len()) != (3, 2, 0)
+            || (reader.last.prefix, reader.last.total) != (2, 120)
+        {
+            return false;
+        }
+    }
+    (log.history.len(), log.sent.len(), log.readers.len()) == (2, 2, 2) && log.table.total == 120
 }
 
 // One reporter of two demands, and one reader of two reads. The gate holds the first report until
@@ -48,20 +49,26 @@ fn a_held_reader_is_told_what_was_settled(rt: HostRuntime) -> Result<(), Fail> {
     for _ in 0..RUNS {
         let gate = ToldGate::new();
         let log = run_crew(&rt, alloc, SmallMaker::new(2, 1), &scripts, 1, 2, &gate)?;
-        assert_eq!(rt; gate.missed(), 0);
-        for reader in &log.readers {
-            assert_eq!(rt;
-                reader.reads.as_slice(),
-                &[line_of(0, 0), line_of(2, 120)][..]
-            );
-            assert_eq!(rt; (reader.last, reader.length), (line_of(2, 120), 2));
-        }
-        assert_eq!(rt; (log.readers.len(), log.history.len()), (1, 2));
         // Two reports and the settle, a round more than reads, and two reads and the last.
-        assert_eq!(rt; gate.begun(), (3, 3, 3));
-        assert_eq!(rt; gate.answered(), (3, 3, 3));
+        assert_eq!(rt;
+            (gate.missed(), gate.begun(), gate.answered()),
+            (0, (3, 3, 3), (3, 3, 3))
+        );
+        assert!(rt; is_told(&log));
     }
     Ok(())
+}
+
+// Whether the one reader was shown nothing first, and then what it had been told of.
+fn is_told(log: &CrewLog<SmallTable>) -> bool {
+    for reader in &log.readers {
+        if reader.reads.as_slice() != &[line_of(0, 0), line_of(2, 120)][..]
+            || (reader.last, reader.length) != (line_of(2, 120), 2)
+        {
+            return false;
+        }
+    }
+    (log.readers.len(), log.history.len()) == (1, 2)
 }
 
 // The line of a read that showed what its reader had been told of.

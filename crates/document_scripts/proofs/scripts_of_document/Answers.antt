@@ -1,8 +1,9 @@
-use Rattle.std.proofs.Common.{◌≡◌, ◌≤◌, ◌∙◌, ℕ, ap₂, subst, List, Vec, Global, IfOk, length}
+use Rattle.std.proofs.Common.{◌≡◌, ◌≤◌, ◌∙◌, ℕ, ap₂, subst, List, IfOk, length}
 use Rattle.bwe_specs.specs.declared.limits.TheConstants.{MAX_REPORTERS, MAX_REPORTS}
 use Rattle.bwe_specs.specs.declared.report.Report.{Report}
 use Rattle.plan_doc.specs.Conditions.{link_count, reporter_count, tasks_in}
-use Rattle.document_scripts.specs.Scripts.{AreOfReporters, items_of, reports_in, scripts_of}
+use Rattle.crew_log.specs.Scripts.{AreOfReporters, reports_in}
+use Rattle.document_scripts.specs.Scripts.{items_of, scripts_of}
 use Rattle.document_scripts.proofs.Owned.{are-scripts, few-scripts, if_ok, reporters-are, room-scripts}
 use Rattle.document_scripts.proofs.scripts_of_document.Goals as goal
 

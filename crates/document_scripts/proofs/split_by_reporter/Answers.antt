@@ -1,4 +1,4 @@
-use Rattle.std.proofs.Common.{◌≡◌, ◌++◌, ◌∷◌, [], zero-add, ap, ap₂, ◌∙◌, sym, map}
+use Rattle.std.proofs.Common.{◌++◌, ◌∷◌, [], zero-add, ap, ap₂, ◌∙◌, sym}
 use Rattle.std.proofs.lemmas.List.{map_push}
 use Rattle.std.proofs.lemmas.List.FromFn.{map-range_with_len_more}
 use Rattle.bwe_specs.specs.declared.report.Report.{Report}

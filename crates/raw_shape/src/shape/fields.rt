@@ -6,7 +6,6 @@ ghost use Rattle.std.specs.List.{list_all};
 ghost use Rattle.std.specs.BTreeMap.{keys};
 ghost use Rattle.serde_json.specs.Find.{as_object};
 ghost use Rattle.serde_json.specs.View.{view, items_view, members_view};
-ghost use Rattle.raw_shape.specs.Members.{AreAsMany};
 ghost use Rattle.raw_document.specs.Reading.{Gives, IsFaultAt, under as at_key};
 ghost use Rattle.raw_document.specs.Raw.{name_view};
 ghost use Rattle.raw_document.specs.declared.doc_path.PathStep.TheVariants.{Key};
@@ -34,20 +33,6 @@ pub fn text_of(alloc: Global, value: &Value) -> Result<&str, Fault>
         Some(text) => Ok(text),
         None => Err(Fault::here(alloc)),
     }
-}
-
-/// A number that is the member of a key.
-pub fn whole_at(alloc: Global, key: DocKey, value: &Value) -> Result<u64, Fault>
-    ensures { Gives (λ number. number) result (at_key (Key key) (whole (view value.now))) }
-{
-    under(PathStep::Key { name: key }, whole_of(alloc, value))
-}
-
-/// A text that is the member of a key.
-pub fn text_at(alloc: Global, key: DocKey, value: &Value) -> Result<&str, Fault>
-    ensures { Gives name_view result (at_key (Key key) (text (view value.now))) }
-{
-    under(PathStep::Key { name: key }, text_of(alloc, value))
 }
 
 /// A required member that is missing.
@@ -125,7 +110,9 @@ fn is_known(required: &[DocKey], others: &[DocKey], name: &str) -> bool
 }
 
 fn are_known(map: &Map<String, Value>, required: &[DocKey], others: &[DocKey]) -> bool
-    ensures { result ≡ list_all (λ k. is_one_of required.now (string_bytes k) || is_one_of others.now (string_bytes k)) (keys map.now) }
+    ensures { result
+        ≡ list_all (λ k. is_one_of required.now (string_bytes k)
+        || is_one_of others.now (string_bytes k)) (keys map.now) }
 {
     map.keys()
         .all(|name| is_known(required, others, name.as_str()))
@@ -138,27 +125,12 @@ fn has_no_other(map: &Map<String, Value>, required: &[DocKey], others: &[DocKey]
     are_known(map, required, others)
 }
 
-/// Whether there are just as many members as required keys, where no others may stand.
-fn are_as_many(map: &Map<String, Value>, required: &[DocKey], others: &[DocKey]) -> bool
-    ensures { IsTrue result → AreAsMany required.now others.now map.now.entries }
-{
-    others.is_empty() && map.len() == required.len()
-}
-
-/// Whether the members are all required ones, and none outside the table. Where there are as many as required, and each is
-/// known, none is missing; so mostly nothing is looked up here.
-#[tactic(auto, using(crate::proofs::Counting::all_are_there))]
+/// Whether all required members are there, and none outside the table.
 fn is_whole(value: &Value, map: &Map<String, Value>, required: &[DocKey], others: &[DocKey]) -> bool
-    requires { as_object (view value.now) ≡ Some (members_view map.now.entries) }
-    ensures { result ≡ (has_all required.now (view value.now) && has_only required.now others.now (members_view map.now.entries)) }
+    ensures { result ≡ (has_all required.now (view value.now)
+        && has_only required.now others.now (members_view map.now.entries)) }
 {
-    if !has_no_other(map, required, others) {
-        return false;
-    }
-    if are_as_many(map, required, others) {
-        return true;
-    }
-    has_each(value, required)
+    has_each(value, required) && has_no_other(map, required, others)
 }
 
 /// Whether a value is an object with all required keys, and none outside the table.

@@ -2,10 +2,9 @@
 
 use crate::tests::documents::{EMPTY, EMPTY_IN_TWO_PARTS};
 use crate::tests::words_of;
-use bwe_cli::{bwe, bwe_once};
+use bwe_cli::bwe_once;
 use bwe_io::{MemorySink, MemorySource, Sink, Source, SureSink, SureSource, read_all};
 use command_line::USAGE;
-use crew_actors::OpenGate;
 use std::alloc::{AllocError, Global};
 use std::test::Fail;
 
@@ -26,87 +25,54 @@ fn status<S: Source, K: Sink>(
     Ok(bwe_once(alloc, &words_of(alloc, line)?, source, sink))
 }
 
-// What `bwe_once` writes after its status, on devices that never fail.
-fn written(alloc: Global, line: &[&str], input: &str) -> Result<(u8, Vec<u8>), Fail> {
-    let mut source = sure(alloc, input)?;
-    let mut sink = SureSink::new(alloc, 1_000)?;
-    let status = status(alloc, line, &mut source, &mut sink)?;
-    Ok((status, Vec::from_slice(alloc, sink.bytes())?))
-}
-
-// Whether `bwe_once` writes this text for the word and the input, and answers this status.
+// Whether `bwe_once` answers a line and an input with this status and this text.
 fn is_answered(
     alloc: Global,
-    word: &str,
+    line: &[&str],
     input: &str,
-    status: u8,
+    wanted: u8,
     text: &str,
 ) -> Result<bool, Fail> {
-    let (got, bytes) = written(alloc, &[word], input)?;
-    Ok(got == status && bytes.as_slice() == text.as_bytes())
-}
-
-// The lines on one document, and words that are none.
-#[test]
-fn a_document_has_its_text_and_status(rt: HostRuntime) -> Result<(), Fail> {
-    let alloc = rt.alloc();
-    assert!(rt; is_answered(alloc, "solve", EMPTY, 0, TABLE)?);
-    assert!(rt; is_answered(alloc, "check", EMPTY, 0, "right\n")?);
-    assert!(rt; is_answered(alloc, "solve", "{", 3, "refused 1 not json\n")?);
-    assert!(rt; is_answered(alloc, "run", EMPTY, 2, USAGE)?);
-    Ok(())
-}
-
-// The lines on two parts. The second part is a line feed alone, so it is one of no tiers, and none
-// of the others.
-#[test]
-fn two_parts_have_their_text_and_status(rt: HostRuntime) -> Result<(), Fail> {
-    let alloc = rt.alloc();
-    assert!(rt; is_answered(alloc, "tiers", EMPTY_IN_TWO_PARTS, 0, "tiers 0\ntotal 0\n")?);
-    assert!(rt;
-        is_answered(
-            alloc,
-            "enforce",
-            EMPTY_IN_TWO_PARTS,
-            3,
-            "refused 16 events at line 0\n"
-        )?
-    );
-    assert!(rt;
-        is_answered(
-            alloc,
-            "audit",
-            EMPTY_IN_TWO_PARTS,
-            1,
-            "wrong at line 0: form\n"
-        )?
-    );
-    assert!(rt; is_answered(alloc, "audit", EMPTY, 3, "refused 14 parts\n")?);
-    Ok(())
-}
-
-// One text, of values asked one after the other and of values by threads.
-#[test]
-fn levels_have_one_text(rt: HostRuntime) -> Result<(), Fail> {
-    let alloc = rt.alloc();
-    let line = ["levels", "90"];
-    let (one, text) = written(alloc, &line, EMPTY)?;
-    assert_eq!(rt;
-        (one, text.as_slice()),
-        (0, b"levels 1\ntotal 0\n".as_slice())
-    );
-    let mut source = sure(alloc, EMPTY)?;
+    let mut source = sure(alloc, input)?;
     let mut sink = SureSink::new(alloc, 1_000)?;
-    let other = bwe(
-        &rt,
-        alloc,
-        &words_of(alloc, &line)?,
-        &mut source,
-        &mut sink,
-        &OpenGate,
-    );
-    assert_eq!(rt; (other, sink.bytes()), (0, text.as_slice()));
+    let got = status(alloc, line, &mut source, &mut sink)?;
+    Ok(got == wanted && sink.bytes() == text.as_bytes())
+}
+
+// Each line that `bwe_once` serves on an input, and words that are none. The second of the two parts
+// is a line feed alone, so it is one of no tiers, and none of the others.
+#[test]
+fn each_line_has_its_text_and_status(rt: HostRuntime) -> Result<(), Fail> {
+    let alloc = rt.alloc();
+    let two = EMPTY_IN_TWO_PARTS;
+    for (word, input, wanted, text) in [
+        ("solve", EMPTY, 0, TABLE),
+        ("check", EMPTY, 0, "right\n"),
+        ("levels", EMPTY, 0, "levels 1\ntotal 0\n"),
+        ("solve", "{", 3, "refused 1 not json\n"),
+        ("run", EMPTY, 2, USAGE),
+        ("tiers", two, 0, "tiers 0\ntotal 0\n"),
+        ("enforce", two, 3, "refused 16 events at line 0\n"),
+        ("audit", two, 1, "wrong at line 0: form\n"),
+        ("audit", EMPTY, 3, "refused 14 parts\n"),
+    ] {
+        let answered = if word == "levels" {
+            is_answered(alloc, &[word, "90"], input, wanted, text)?
+        } else {
+            is_answered(alloc, &[word], input, wanted, text)?
+        };
+        assert!(rt; answered, "{word}");
+    }
     Ok(())
+}
+
+// Whether a line whose reads fail after so many ends with status 4, and has written nothing.
+fn is_unread(alloc: Global, word: &str, call: u64) -> Result<bool, Fail> {
+    let input = Vec::from_slice(alloc, EMPTY_IN_TWO_PARTS.as_bytes())?;
+    let mut source = MemorySource::new(input, 1, vec![in alloc; call]?);
+    let mut sink = SureSink::new(alloc, 1_000)?;
+    let got = status(alloc, &[word], &mut source, &mut sink)?;
+    Ok(got == 4 && sink.bytes().is_empty())
 }
 
 // The case "Device table": a read that fails ends the run with status 4, and nothing is written.
@@ -114,15 +80,21 @@ fn levels_have_one_text(rt: HostRuntime) -> Result<(), Fail> {
 fn a_read_that_fails_writes_nothing(rt: HostRuntime) -> Result<(), Fail> {
     let alloc = rt.alloc();
     for call in 0..EMPTY_IN_TWO_PARTS.len() as u64 + 1 {
-        for line in ["solve", "tiers"] {
-            let input = Vec::from_slice(alloc, EMPTY_IN_TWO_PARTS.as_bytes())?;
-            let mut source = MemorySource::new(input, 1, vec![in alloc; call]?);
-            let mut sink = SureSink::new(alloc, 1_000)?;
-            assert_eq!(rt; status(alloc, &[line], &mut source, &mut sink)?, 4);
-            assert!(rt; sink.bytes().is_empty());
+        for word in ["solve", "tiers"] {
+            let unread = is_unread(alloc, word, call)?;
+            assert!(rt; unread, "{word} {call}");
         }
     }
     Ok(())
+}
+
+// Whether the line that prints a table ends with this status, and has left so much of it, where the
+// write after that fails.
+fn is_cut(alloc: Global, left: &[u8], wanted: u8) -> Result<bool, Fail> {
+    let mut source = sure(alloc, EMPTY)?;
+    let mut sink = MemorySink::new(alloc, 1_000, 1, vec![in alloc; left.len() as u64]?)?;
+    let got = status(alloc, &["solve"], &mut source, &mut sink)?;
+    Ok(got == wanted && sink.bytes() == left)
 }
 
 // The case "Device table": a write that fails ends the run with status 5, and what was written
@@ -132,13 +104,21 @@ fn a_write_that_fails_leaves_a_prefix(rt: HostRuntime) -> Result<(), Fail> {
     let alloc = rt.alloc();
     let table = TABLE.as_bytes();
     for call in 0..table.len() + 1 {
-        let mut source = sure(alloc, EMPTY)?;
-        let mut sink = MemorySink::new(alloc, 1_000, 1, vec![in alloc; call as u64]?)?;
         let wanted = if call < table.len() { 5 } else { 0 };
-        assert_eq!(rt; status(alloc, &["solve"], &mut source, &mut sink)?, wanted);
-        assert_eq!(rt; sink.bytes(), &table[..call]);
+        let cut = is_cut(alloc, &table[..call], wanted)?;
+        assert!(rt; cut, "{call}");
     }
     Ok(())
+}
+
+// Whether the word, which reads nothing, leaves its source, and this text where the first write that
+// is too long fails.
+fn leaves_the_source(alloc: Global, word: &str, text: &str) -> Result<bool, Fail> {
+    let mut source = sure(alloc, "input")?;
+    let mut sink = MemorySink::new(alloc, 1_000, 1, vec![in alloc; 10]?)?;
+    let got = status(alloc, &[word, "0", "1", "1"], &mut source, &mut sink)?;
+    let left = read_all(alloc, &mut source, 100)?;
+    Ok(got == 5 && sink.bytes() == text.as_bytes() && left.as_slice() == b"input".as_slice())
 }
 
 // Words that read nothing leave the source, and a write that fails leaves a prefix of their text.
@@ -150,12 +130,8 @@ fn words_that_read_nothing_leave_the_source(rt: HostRuntime) -> Result<(), Fail>
         ("bulk", "groups 1\nt"),
         ("none", "usage: bwe"),
     ] {
-        let mut source = sure(alloc, "input")?;
-        let mut sink = MemorySink::new(alloc, 1_000, 1, vec![in alloc; 10]?)?;
-        let got = status(alloc, &[word, "0", "1", "1"], &mut source, &mut sink)?;
-        assert_eq!(rt; (got, sink.bytes()), (5, text.as_bytes()));
-        let left = read_all(alloc, &mut source, 100)?;
-        assert_eq!(rt; left.as_slice(), b"input".as_slice());
+        let left = leaves_the_source(alloc, word, text)?;
+        assert!(rt; left, "{word}");
     }
     Ok(())
 }

@@ -1,19 +1,5 @@
 //! The documents of the cases.
 
-/// The document of the case "Shared link".
-pub const SHARED_LINK: &str = "{\"version\":1,\"top\":100,\
-    \"links\":[{\"name\":\"l0\",\"from\":\"a\",\"to\":\"b\",\"capacity\":100}],\
-    \"groups\":[{\"name\":\"g0\",\"from\":\"a\",\"to\":\"b\",\"paths\":[[{\"weight\":1,\
-    \"links\":[\"l0\"]}]],\
-    \"users\":[{\"name\":\"u0\",\"jobs\":[{\"name\":\"j0\",\"task\":[[0,0],[100,100]],\
-    \"tasks\":[{\"name\":\"t0\",\"reporter\":\"r0\"}]}]}]},\
-    {\"name\":\"g1\",\"from\":\"a\",\"to\":\"b\",\"paths\":[[{\"weight\":1,\
-    \"links\":[\"l0\"]}]],\
-    \"users\":[{\"name\":\"u0\",\"jobs\":[{\"name\":\"j0\",\"task\":[[0,0],[100,100]],\
-    \"tasks\":[{\"name\":\"t1\",\"reporter\":\"r0\"}]}]}]}],\"reporters\":[\"r0\"],\
-    \"script\":[{\"reporter\":\"r0\",\"task\":\"t0\",\"demand\":80},\
-    {\"reporter\":\"r0\",\"task\":\"t1\",\"demand\":80}]}";
-
 /// The document of the case "Three holds": each task has a reporter of its own, and the second
 /// one reports twice.
 pub const THREE_HOLDS: &str = "{\"version\":1,\"top\":100,\

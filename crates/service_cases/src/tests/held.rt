@@ -7,6 +7,7 @@ use bwe_cli::bwe;
 use bwe_io::{SureSink, SureSource};
 use crew_actors::Gate;
 use std::alloc::{AllocError, Global};
+use std::process::Abort;
 use std::sync::Wait;
 use std::test::Fail;
 use std::thread::Threads;
@@ -60,21 +61,31 @@ fn text_shown(alloc: Global, gate: &ThreeHolds, last: &Shown) -> Result<String, 
 
 // Whether the bytes are those, where a question mark is any digit.
 fn is_like(bytes: &[u8], wanted: &[u8]) -> bool {
+    for (byte, want) in bytes.iter().zip(wanted) {
+        if byte != want && (*want != b'?' || !byte.is_ascii_digit()) {
+            return false;
+        }
+    }
     bytes.len() == wanted.len()
-        && bytes.iter().zip(wanted).all(|(byte, want)| byte == want
-            || (*want == b'?' && byte.is_ascii_digit()))
 }
 
 #[test]
 fn a_run_with_three_holds_prints_what_the_gate_was_shown(rt: HostRuntime) -> Result<(), Fail> {
-    let alloc = rt.alloc();
     let gate = ThreeHolds::new();
+    print_what_was_shown(&rt, rt.alloc(), &gate)
+}
+
+fn print_what_was_shown<R: Threads + Wait + Abort + Sync>(
+    rt: &R,
+    alloc: Global,
+    gate: &ThreeHolds,
+) -> Result<(), Fail> {
     let words = ["run", "--readers", "2", "--reads", "1"];
-    let (status, text) = printed(&rt, alloc, &words, THREE_HOLDS, &gate)?;
+    let (status, text) = printed(rt, alloc, &words, THREE_HOLDS, gate)?;
     assert_eq!(rt; (status, gate.missed.get()), (0, 0));
     for shown in &gate.readers {
         assert_eq!(rt; (shown.views.get(), shown.length.get()), (2, 3));
-        let wanted = text_shown(alloc, &gate, shown)?;
+        let wanted = text_shown(alloc, gate, shown)?;
         assert!(rt; is_like(&text, wanted.as_bytes()), "{wanted}");
     }
     let [_, held] = &gate.readers;

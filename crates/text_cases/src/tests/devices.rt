@@ -1,10 +1,8 @@
 //! Reading and writing by devices in memory that fail.
 
 use bwe_io::{
-    Failed, MemorySink, MemorySource, ReadError, Sink, StdSink, StdSource, SureSink, SureSource,
-    WriteFault, read_all, write_all,
+    MemorySink, MemorySource, ReadError, Sink, SureSink, SureSource, read_all, write_all,
 };
-use std::io::Cursor;
 use std::test::Fail;
 
 // The case "Short reads and failing devices": reading with the limit 4.
@@ -13,19 +11,25 @@ fn reads_to_the_end_within_the_limit(rt: HostRuntime) -> Result<(), Fail> {
     let alloc = rt.alloc();
     let mut four = MemorySource::new(Vec::from_slice(alloc, b"abcd")?, 1, Vec::new(alloc));
     let bytes = read_all(alloc, &mut four, 4)?;
-    assert_eq!(rt; bytes.as_slice(), b"abcd".as_slice());
+    assert!(rt; bytes.as_slice() == b"abcd".as_slice());
+    Ok(())
+}
 
-    let mut five = SureSource::new(Vec::from_slice(alloc, b"abcde")?);
-    assert_eq!(rt;
-        read_all(alloc, &mut five, 4).err(),
-        Some(ReadError::TooLong)
-    );
+#[test]
+fn a_byte_past_the_limit_is_too_long(rt: HostRuntime) -> Result<(), Fail> {
+    let mut five = SureSource::new(Vec::from_slice(rt.alloc(), b"abcde")?);
+    let error = read_all(rt.alloc(), &mut five, 4).err();
+    assert!(rt; error == Some(ReadError::TooLong));
+    Ok(())
+}
 
-    let mut failing = MemorySource::new(Vec::from_slice(alloc, b"abcd")?, 1, vec![in alloc; 0]?);
-    assert_eq!(rt;
-        read_all(alloc, &mut failing, 4).err(),
-        Some(ReadError::ReadFault)
-    );
+#[test]
+fn a_read_that_fails_is_a_fault(rt: HostRuntime) -> Result<(), Fail> {
+    let alloc = rt.alloc();
+    let faults = vec![in alloc; 0]?;
+    let mut failing = MemorySource::new(Vec::from_slice(alloc, b"abcd")?, 1, faults);
+    let error = read_all(alloc, &mut failing, 4).err();
+    assert!(rt; error == Some(ReadError::ReadFault));
     Ok(())
 }
 
@@ -35,8 +39,8 @@ fn a_prefix_is_written_before_a_fault(rt: HostRuntime) -> Result<(), Fail> {
     let alloc = rt.alloc();
     for (room, call) in [(1_000, 3), (3, 1_000)] {
         let mut sink = MemorySink::new(alloc, room, 1, vec![in alloc; call]?)?;
-        assert_eq!(rt; write_all(&mut sink, b"table 2"), Err(WriteFault));
-        assert_eq!(rt; sink.bytes(), b"tab".as_slice());
+        let has_failed = write_all(&mut sink, b"table 2").is_err();
+        assert!(rt; has_failed && sink.bytes() == b"tab".as_slice());
     }
     Ok(())
 }
@@ -45,22 +49,8 @@ fn a_prefix_is_written_before_a_fault(rt: HostRuntime) -> Result<(), Fail> {
 #[test]
 fn a_full_sink_refuses_a_further_byte(rt: HostRuntime) -> Result<(), Fail> {
     let mut sink = SureSink::new(rt.alloc(), 4)?;
-    assert_eq!(rt; write_all(&mut sink, b"four"), Ok(()));
-    assert_eq!(rt; sink.bytes(), b"four".as_slice());
-    assert_eq!(rt; sink.write(b"!"), Err(Failed));
-    Ok(())
-}
-
-#[test]
-fn readers_and_writers_of_std_are_adapted(rt: HostRuntime) -> Result<(), Fail> {
-    let alloc = rt.alloc();
-    let mut source = StdSource::new(Cursor::new(b"from a reader"));
-    let bytes = read_all(alloc, &mut source, 100)?;
-    assert_eq!(rt; bytes.as_slice(), b"from a reader".as_slice());
-
-    let mut held = Vec::new(alloc);
-    let mut sink = StdSink::new(&mut held);
-    assert_eq!(rt; write_all(&mut sink, b"to a writer"), Ok(()));
-    assert_eq!(rt; held.as_slice(), b"to a writer".as_slice());
+    let is_written = write_all(&mut sink, b"four").is_ok();
+    assert!(rt; is_written && sink.bytes() == b"four".as_slice());
+    assert!(rt; sink.write(b"!").is_err());
     Ok(())
 }

@@ -87,22 +87,3 @@ fn faults_leave_whole_answers_or_a_prefix(rt: HostRuntime) -> Result<(), Fail> {
     }
     Ok(())
 }
-
-#[test]
-fn a_bad_front_is_refused_at_once(rt: HostRuntime) -> Result<(), Fail> {
-    let alloc = rt.alloc();
-    for (input, status) in [
-        (b"x\n".as_slice(), 3),
-        (b"5\nabc", 3),
-        (b"67108865\n", 8),
-        (b"99999999999999999999\n", 8),
-        (b"0\n", 0),
-    ] {
-        let mut stream = MemoryStream::new(alloc, Vec::from_slice(alloc, input)?, 3, 100, 100);
-        assert_eq!(rt;
-            serve::<Echo, MemoryStream>(alloc, &[], &mut stream),
-            status
-        );
-    }
-    Ok(())
-}

@@ -1,154 +1,99 @@
-//! Texts of tables, summaries and causes, as bytes.
+//! Lines that no document gets: a verdict on a closing of no link, and what a reader saw past the
+//! history.
 
-use bwe_specs::{Cause, Closing, OutOfMemory, Verdict};
+ghost use Rattle.std.specs.Prelude.{◌+◌, ◌<◌, ◌^◌, length, IfOk};
+ghost use Rattle.std.specs.List.{All};
+
+use bwe_specs::{Cause, OutOfMemory, Report, Target, Verdict};
+use crew_log::{CrewLog, ReadLine, ReaderLog};
 use doc_names::Names;
-use limit_table::{GroupLine, LimitTable, PlaceLine};
-use table_text::{bulk_text, check_text, levels_text, table_text};
+use limit_table::LimitTable;
+use run_text::run_text;
+use std::alloc::Global;
+use table_text::check_text;
 
-fn named(rt: &HostRuntime, texts: &[&str]) -> Result<Vec<String>, OutOfMemory> {
-    let mut names = Vec::new(rt.alloc());
-    for text in texts {
-        names.push(String::from_str(rt.alloc(), text)?)?;
-    }
+fn named(alloc: Global, text: &str) -> Result<Vec<String>, OutOfMemory> {
+    let mut names = Vec::new(alloc);
+    names.push(String::from_str(alloc, text)?)?;
     Ok(names)
 }
 
-fn names(rt: &HostRuntime) -> Result<Names, OutOfMemory> {
+fn names(alloc: Global) -> Result<Names, OutOfMemory> {
     Ok(Names {
-        links: named(rt, &["l0", "l1"])?,
-        groups: named(rt, &["g0"])?,
-        tasks: named(rt, &["t0"])?,
-        reporters: named(rt, &["r0"])?,
+        links: named(alloc, "l0")?,
+        groups: Vec::new(alloc),
+        tasks: named(alloc, "t0")?,
+        reporters: named(alloc, "r0")?,
     })
 }
 
-// The table of the case "Second path group", with a third path group that is open.
-#[test]
-fn a_table_is_printed_line_by_line(rt: HostRuntime) -> Result<(), OutOfMemory> {
-    let alloc = rt.alloc();
-    let names = names(&rt)?;
-    let places = vec![in alloc;
-        PlaceLine {
-            amount: 30,
-            closed: Some(0)
-        },
-        PlaceLine {
-            amount: 20,
-            closed: Some(1)
-        },
-        PlaceLine {
-            amount: 0,
-            closed: None
-        },
-    ]?;
-    let table = LimitTable {
-        prefix: 1,
-        limits: vec![in alloc; 50]?,
-        groups: vec![in alloc;
-            GroupLine {
-                share: 50,
-                amount: 50,
-                places
-            },
-        ]?,
-        loads: vec![in alloc; 30, 20]?,
-        closings: vec![in alloc;
-            Closing { link: 0, share: 30 },
-            Closing { link: 1, share: 50 },
-        ]?,
-    };
-    let text = table_text(alloc, &table, &names)?;
-    let wanted = "table 1\nclosing l0 at 30\nclosing l1 at 50\nlink l0 load 30\nlink l1 load 20\n\
-        group g0 share 50 amount 50\nplace 0 amount 30 closed by l0\nplace 1 amount 20 closed by l1\n\
-        place 2 amount 0 open\ntask t0 limit 50\ntotal 50\n";
-    assert_eq!(rt; text.as_slice(), wanted.as_bytes());
-    Ok(())
-}
-
-// The lines of the cases "Certificates": each cause has its own.
-#[test]
-fn each_cause_has_its_line(rt: HostRuntime) -> Result<(), OutOfMemory> {
-    let alloc = rt.alloc();
-    let names = names(&rt)?;
-    let right = check_text(alloc, &Verdict::Right, &names)?;
-    assert_eq!(rt; right.as_slice(), b"right\n".as_slice());
-    for (at, cause, line) in [
-        (0, Cause::NoSuchLink, "wrong at 0: no such link\n"),
-        (1, Cause::Reclosed, "wrong at 1: link closed before\n"),
-        (12, Cause::ShareFalls, "wrong at 12: share falls\n"),
-        (0, Cause::ShareAtTop, "wrong at 0: share at top\n"),
-        (
-            0,
-            Cause::OverBefore { link: 1 },
-            "wrong at 0: link l1 is over at the share\n",
-        ),
-        (
-            0,
-            Cause::FitsAfter,
-            "wrong at 0: link fits at the next share\n",
-        ),
-        (
-            2,
-            Cause::LowerLink { link: 0 },
-            "wrong at 2: lower link l0 is over\n",
-        ),
-        (
-            3,
-            Cause::OverAtTop { link: 1 },
-            "wrong at 3: link l1 is over at top\n",
-        ),
-    ] {
-        let text = check_text(alloc, &Verdict::Wrong { at, cause }, &names)?;
-        assert_eq!(rt; text.as_slice(), line.as_bytes());
+fn report(target: Target, amount: u64) -> Report {
+    Report {
+        reporter: 0,
+        target,
+        amount,
     }
-    Ok(())
 }
 
-// The case "Two made groups".
-#[test]
-fn a_summary_has_four_lines(rt: HostRuntime) -> Result<(), OutOfMemory> {
-    let alloc = rt.alloc();
-    let table = LimitTable {
-        prefix: 2,
-        limits: vec![in alloc; 173, 827]?,
-        groups: vec![in alloc;
-            GroupLine {
-                share: 86_993,
-                amount: 173,
-                places: Vec::new(alloc)
-            },
-            GroupLine {
-                share: 86_993,
-                amount: 827,
-                places: Vec::new(alloc)
-            },
-        ]?,
-        loads: vec![in alloc; 1_000, 0]?,
-        closings: vec![in alloc;
-            Closing {
-                link: 0,
-                share: 86_993
-            },
-        ]?,
+// Two reports past a history that has none.
+fn beyond(alloc: Global) -> Result<Vec<Report>, OutOfMemory>
+    ensures { IfOk result (λ reports. length reports.items < 2 ^ 32) }
+{
+    let demand = report(Target::Task { number: 0 }, 7);
+    let capacity = report(Target::Link { number: 0 }, 20);
+    Ok(vec![in alloc; demand, capacity]?)
+}
+
+// A run of a reporter that sent nothing, and a reader that has seen these reports.
+fn run_of(alloc: Global, beyond: Vec<Report>) -> Result<CrewLog<LimitTable>, OutOfMemory>
+    requires { length beyond.items < 2 ^ 32 }
+    ensures sent { IfOk result (λ log. length log.sent.items < 2 ^ 32) }
+    ensures places { IfOk result (λ log.
+        All (λ reader. length log.history.items + length reader.beyond.items < 2 ^ 64) log.readers.items) }
+{
+    let reader = ReaderLog {
+        reads: Vec::new(alloc),
+        last: ReadLine {
+            floor: 0,
+            prefix: 2,
+            total: 7,
+        },
+        length: 2,
+        beyond,
     };
-    let text = bulk_text(alloc, 2, 2, &table)?;
-    assert_eq!(rt;
-        text.as_slice(),
-        b"groups 2\ntasks 2\nclosings 1\ntotal 1000\n".as_slice()
-    );
+    Ok(CrewLog {
+        history: Vec::new(alloc),
+        sent: Vec::new(alloc),
+        readers: vec![in alloc; reader]?,
+        table: LimitTable {
+            prefix: 0,
+            limits: Vec::new(alloc),
+            groups: Vec::new(alloc),
+            loads: Vec::new(alloc),
+            closings: Vec::new(alloc),
+        },
+    })
+}
+
+#[test]
+fn what_a_reader_saw_past_the_history_is_printed(rt: HostRuntime) -> Result<(), OutOfMemory> {
+    let alloc = rt.alloc();
+    let log = run_of(alloc, beyond(alloc)?)?;
+    let text = run_text(alloc, &log, &names(alloc)?)?;
+    let wanted = "history 0\nreader 0 length 2\nbeyond 0 r0 t0 7\nbeyond capacity 1 r0 l0 20\n\
+        final floor 0 prefix 2 total 7\ntable 0\ntotal 0\n";
+    assert!(rt; text.as_slice() == wanted.as_bytes());
     Ok(())
 }
 
-// The line of one group at a share, and a document without groups.
 #[test]
-fn levels_are_printed(rt: HostRuntime) -> Result<(), OutOfMemory> {
-    let names = names(&rt)?;
-    let text = levels_text(rt.alloc(), 90, [80].as_slice(), &names)?;
-    assert_eq!(rt;
-        text.as_slice(),
-        "levels 90\nlevel g0 80\ntotal 80\n".as_bytes()
-    );
-    let text = levels_text(rt.alloc(), 0, [].as_slice(), &names)?;
-    assert_eq!(rt; text.as_slice(), "levels 0\ntotal 0\n".as_bytes());
+fn a_closing_of_no_link_has_its_line(rt: HostRuntime) -> Result<(), OutOfMemory> {
+    let cause = Cause::NoSuchLink;
+    let text = check_text(
+        rt.alloc(),
+        &Verdict::Wrong { at: 0, cause },
+        &names(rt.alloc())?,
+    )?;
+    assert!(rt; text.as_slice() == b"wrong at 0: no such link\n".as_slice());
     Ok(())
 }

@@ -14,20 +14,23 @@ fn a_sated_task_has_its_demand(rt: HostRuntime) -> Result<(), Fail> {
     let alloc = rt.alloc();
     let function = BwFunction::new(alloc, &[(0, 0), (100, 100)], 100)?;
     let mut sum = CappedSum::new(alloc, function, &[1, 1])?;
-    assert_eq!(rt; sum.value(90), 0);
-    assert_eq!(rt; sum.set(0, 10)?, 0);
-    assert_eq!(rt; sum.set(1, 200)?, 0);
-    let rows = [(0, 0), (9, 18), (10, 20), (90, 100), (100, 110)];
-    for (share, value) in rows {
-        assert_eq!(rt; sum.value(share), value, "at {share}, stale");
-    }
+    let idle = sum.value(90);
+    let before = (sum.set(0, 10)?, sum.set(1, 200)?);
+    assert!(rt; has_values_of_the_sated(&sum), "stale");
     sum.refresh();
-    for (share, value) in rows {
-        assert_eq!(rt; sum.value(share), value, "at {share}");
-    }
-    assert_eq!(rt; sum.set(0, 0)?, 10);
-    assert_eq!(rt; sum.value(90), 90);
+    assert!(rt; has_values_of_the_sated(&sum), "fresh");
+    let last = sum.set(0, 0)?;
+    assert_eq!(rt; (idle, before, last, sum.value(90)), (0, (0, 0), 10, 90));
     Ok(())
+}
+
+fn has_values_of_the_sated(sum: &CappedSum) -> bool {
+    for (share, value) in [(0, 0), (9, 18), (10, 20), (90, 100), (100, 110)] {
+        if sum.value(share) != value {
+            return false;
+        }
+    }
+    true
 }
 
 // The tasks of the case "Weights in one job": weights 3 and 1, demands that don't cap them.
@@ -38,9 +41,12 @@ fn weights_multiply_the_function(rt: HostRuntime) -> Result<(), Fail> {
     let mut sum = CappedSum::new(alloc, function, &[3, 1])?;
     let _ = sum.set(0, 1_000)?;
     let _ = sum.set(1, 1_000)?;
-    assert_eq!(rt; (sum.value(25), sum.value(26)), (100, 104));
+    let stale = (sum.value(25), sum.value(26));
     sum.refresh();
-    assert_eq!(rt; (sum.value(25), sum.value(26)), (100, 104));
+    assert_eq!(rt;
+        (stale, sum.value(25), sum.value(26)),
+        ((100, 104), 100, 104)
+    );
     assert_eq!(rt; (sum.weight(0), sum.demand(1), sum.tasks()), (3, 1_000, 2));
     assert_eq!(rt; sum.function().last_value(), 100);
     Ok(())
@@ -49,29 +55,36 @@ fn weights_multiply_the_function(rt: HostRuntime) -> Result<(), Fail> {
 // The tasks of the case "Sated group" again: two tasks rise up to share 10, then one.
 #[test]
 fn a_fresh_index_tells_where_the_sum_changes(rt: HostRuntime) -> Result<(), Fail> {
-    let alloc = rt.alloc();
-    let function = BwFunction::new(alloc, &[(0, 0), (100, 50)], 100)?;
-    let mut sum = CappedSum::new(alloc, function, &[1, 1])?;
-    let _ = sum.set(0, 5)?;
-    let _ = sum.set(1, 30)?;
-    sum.refresh();
-    let look = sum.look(4);
-    assert_eq!(rt; (look.value, look.last, look.next), (4, 5, 6));
-    let look = sum.look(90);
-    assert_eq!(rt; (look.value, look.last, look.next), (35, 100, 35));
+    let sum = half_slopes(rt.alloc(), true)?;
+    let (rising, full) = (sum.look(4), sum.look(90));
+    assert_eq!(rt; (rising.value, rising.last, rising.next), (4, 5, 6));
+    assert_eq!(rt; (full.value, full.last, full.next), (35, 100, 35));
     Ok(())
 }
 
 // The tasks of the case "Sated group" once more: at 12 one has 5 and the other 7, at share 15.
 #[test]
 fn a_fresh_index_tells_the_last_share(rt: HostRuntime) -> Result<(), Fail> {
-    let alloc = rt.alloc();
+    let stale = half_slopes(rt.alloc(), false)?;
+    assert_eq!(rt; stale.last_share_within(8, 100), None);
+    let sum = half_slopes(rt.alloc(), true)?;
+    assert!(rt; tells_last_shares(&sum));
+    Ok(())
+}
+
+// Two tasks of slope 1 / 2 that ask for 5 and 30.
+fn half_slopes(alloc: Global, is_fresh: bool) -> Result<CappedSum, Fail> {
     let function = BwFunction::new(alloc, &[(0, 0), (100, 50)], 100)?;
     let mut sum = CappedSum::new(alloc, function, &[1, 1])?;
     let _ = sum.set(0, 5)?;
     let _ = sum.set(1, 30)?;
-    assert_eq!(rt; sum.last_share_within(8, 100), None);
-    sum.refresh();
+    if is_fresh {
+        sum.refresh();
+    }
+    Ok(sum)
+}
+
+fn tells_last_shares(sum: &CappedSum) -> bool {
     for (amount, share) in [
         (0, 1),
         (8, 9),
@@ -81,13 +94,11 @@ fn a_fresh_index_tells_the_last_share(rt: HostRuntime) -> Result<(), Fail> {
         (34, 59),
         (35, 100),
     ] {
-        assert_eq!(rt;
-            sum.last_share_within(amount, 100),
-            Some(share),
-            "within {amount}"
-        );
+        if sum.last_share_within(amount, 100) != Some(share) {
+            return false;
+        }
     }
-    Ok(())
+    true
 }
 
 // The two groups of the case "Two weighted tasks": weights 2 and 1, and a link of 90.
@@ -96,8 +107,9 @@ fn weights_divide_a_link(rt: HostRuntime) -> Result<(), Fail> {
     let alloc = rt.alloc();
     let first = one_task(alloc, 2)?;
     let second = one_task(alloc, 1)?;
-    assert_eq!(rt; (value_at(&first, 30), value_at(&second, 30)), (60, 30));
-    assert_eq!(rt; (value_at(&first, 31), value_at(&second, 31)), (62, 31));
+    let at_30 = (value_at(&first, 30), value_at(&second, 30));
+    let at_31 = (value_at(&first, 31), value_at(&second, 31));
+    assert_eq!(rt; (at_30, at_31), ((60, 30), (62, 31)));
     Ok(())
 }
 

@@ -20,8 +20,7 @@ fn a_flat_function_grows_before_and_after(rt: HostRuntime) -> Result<(), Fail> {
     ] {
         assert_eq!(rt; function.value(share), value, "at {share}");
     }
-    assert_eq!(rt; function.last_value(), 20);
-    assert_eq!(rt; function.top(), 1_000);
+    assert_eq!(rt; (function.last_value(), function.top()), (20, 1_000));
     assert_eq!(rt; function.points(), points.as_slice());
     Ok(())
 }

@@ -1,6 +1,6 @@
 //! The worked case of levels.
 
-use super::made::one_task;
+use super::made::{ask_each, one_task};
 use parallel_values::values_at;
 use policy_tree::{PolicyTree, TreeSpec};
 use std::test::Fail;
@@ -11,11 +11,7 @@ fn a_group_has_no_more_than_it_asks_for(rt: HostRuntime) -> Result<(), Fail> {
     let alloc = rt.alloc();
     let clusters = vec![in alloc; one_task(alloc, 1)?, one_task(alloc, 1)?]?;
     let mut tree = PolicyTree::build(alloc, TreeSpec { top: 100, clusters })?;
-    for task in [0, 1] {
-        if task < tree.tasks() {
-            tree.set_demand(task, 80)?;
-        }
-    }
+    ask_each(&mut tree, 80)?;
     for (share, value) in [(0, 0), (40, 40), (90, 80)] {
         assert!(rt; share <= tree.top());
         let values = values_at(&rt, alloc, &tree, share)?;

@@ -5,7 +5,7 @@ ghost use Rattle.policy_tree.specs.Asked.{HasTop, HasJobTop, HasClusterTop, HasJ
 ghost use Rattle.policy_tree.specs.Childless.{cluster_childless};
 
 use bw_function::BwFunction;
-use bwe_specs::MAX_SHARE;
+use bwe_specs::{MAX_AMOUNT, MAX_SHARE, OutOfMemory};
 use policy_tree::{ClusterSpec, JobSpec, PolicyTree, TreeSpec, UserSpec};
 use std::alloc::Global;
 use std::test::Fail;
@@ -26,11 +26,8 @@ pub fn two_jobs(alloc: Global, function: Option<BwFunction>) -> Result<PolicyTre
         weights: vec![in alloc; 1]?,
     };
     let mut tree = built(alloc, 10, function, vec![in alloc; first, second]?)?;
-    for (task, demand) in [(0, 100), (1, 50)] {
-        if task < tree.tasks() {
-            tree.set_demand(task, demand)?;
-        }
-    }
+    ask(&mut tree, 0, 100)?;
+    ask(&mut tree, 1, 50)?;
     Ok(tree)
 }
 
@@ -42,12 +39,36 @@ pub fn two_weights(alloc: Global) -> Result<PolicyTree, Fail> {
         weights: vec![in alloc; 3, 1]?,
     };
     let mut tree = built(alloc, 100, None, vec![in alloc; job]?)?;
-    for task in [0, 1] {
-        if task < tree.tasks() {
-            tree.set_demand(task, 1_000)?;
-        }
-    }
+    ask_each(&mut tree, 1_000)?;
     Ok(tree)
+}
+
+// The task, where there is one, asks for so much.
+pub fn ask(tree: &mut PolicyTree, task: u32, demand: u64) -> Result<(), OutOfMemory>
+    requires { demand ≤ MAX_AMOUNT }
+{
+    if task < tree.tasks() {
+        tree.set_demand(task, demand)?;
+    }
+    Ok(())
+}
+
+// Each task asks for so much.
+pub fn ask_each(tree: &mut PolicyTree, demand: u64) -> Result<(), OutOfMemory>
+    requires { demand ≤ MAX_AMOUNT }
+{
+    for task in 0..tree.tasks() {
+        ask(tree, task, demand)?;
+    }
+    Ok(())
+}
+
+// What the first group may have at a share.
+pub fn first_value(tree: &PolicyTree, share: u64) -> u64 {
+    if tree.groups() == 0 {
+        return 0;
+    }
+    tree.group_value(0, share)
 }
 
 // A cluster of one task of slope 1.

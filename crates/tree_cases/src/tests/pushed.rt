@@ -3,9 +3,9 @@
 ghost use Rattle.std.specs.Prelude.{◌≡◌, length, IfOk};
 ghost use Rattle.policy_tree.specs.Asked.{AreWeights, HasTop};
 
-use super::made::{built, two_jobs, two_weights};
+use super::made::{ask_each, built, first_value, two_jobs, two_weights};
 use bw_function::BwFunction;
-use policy_tree::JobSpec;
+use policy_tree::{JobSpec, PolicyTree};
 use push_down::{TaskLimit, distribute};
 use std::alloc::Global;
 use std::test::Fail;
@@ -16,41 +16,43 @@ fn a_rest_goes_to_the_children_in_their_order(rt: HostRuntime) -> Result<(), Fai
     let alloc = rt.alloc();
     let function = BwFunction::new(alloc, &[(0, 0), (10, 60)], 10)?;
     let limits = limits_of_two_jobs(alloc, Some(function), 55)?;
-    let first = TaskLimit { task: 0, limit: 40 };
-    let second = TaskLimit { task: 1, limit: 15 };
-    assert_eq!(rt; limits.as_slice(), [first, second].as_slice());
+    assert!(rt; are_limits(&limits, 40, 15));
     let limits = limits_of_two_jobs(alloc, None, 61)?;
-    let first = TaskLimit { task: 0, limit: 41 };
-    let second = TaskLimit { task: 1, limit: 20 };
-    assert_eq!(rt; limits.as_slice(), [first, second].as_slice());
+    assert!(rt; are_limits(&limits, 41, 20));
     Ok(())
 }
 
 // The case "Twenty thousand tasks".
 #[test]
 fn the_first_of_twenty_thousand_tasks_gets_all(rt: HostRuntime) -> Result<(), Fail> {
-    let alloc = rt.alloc();
+    let mut tree = twenty_thousand_tasks(rt.alloc())?;
+    ask_each(&mut tree, 1_000_000_000_000)?;
+    tree.rematch();
+    assert_eq!(rt; first_value(&tree, 1), 20_000_000_000_000_000);
+    let limits = limits_of(rt.alloc(), &tree, 1_000_000_000_000)?;
+    assert_eq!(rt; limits.len(), 20_000);
+    assert!(rt; has_the_first_all(&limits));
+    Ok(())
+}
+
+// A job of twenty thousand tasks, each of which may have the greatest amount at share 1.
+fn twenty_thousand_tasks(alloc: Global) -> Result<PolicyTree, Fail> {
     let job = JobSpec {
         function: None,
         task: BwFunction::new(alloc, &[(0, 0), (1, 1_000_000_000_000)], 1)?,
         weights: ones(alloc, 20_000)?,
     };
-    let mut tree = built(alloc, 1, None, vec![in alloc; job]?)?;
-    for task in 0..tree.tasks() {
-        if task < tree.tasks() {
-            tree.set_demand(task, 1_000_000_000_000)?;
-        }
-    }
-    tree.rematch();
-    assert_eq!(rt; tree.groups(), 1);
-    assert_eq!(rt; tree.group_top(0), 20_000_000_000_000_000);
-    let limits = distribute(alloc, &tree, 0, 1_000_000_000_000)?;
-    assert_eq!(rt; limits.len(), 20_000);
+    built(alloc, 1, None, vec![in alloc; job]?)
+}
+
+fn has_the_first_all(limits: &[TaskLimit]) -> bool {
     for (place, entry) in limits.iter().enumerate() {
         let limit = if place == 0 { 1_000_000_000_000 } else { 0 };
-        assert_eq!(rt; (entry.task as usize, entry.limit), (place, limit));
+        if entry.task as usize != place || entry.limit != limit {
+            return false;
+        }
     }
-    Ok(())
+    true
 }
 
 // The cases "Weights in one job", which has 100 at share 25, and "Weighted rest".
@@ -58,17 +60,24 @@ fn the_first_of_twenty_thousand_tasks_gets_all(rt: HostRuntime) -> Result<(), Fa
 fn a_rest_goes_to_weighted_tasks(rt: HostRuntime) -> Result<(), Fail> {
     let alloc = rt.alloc();
     let tree = two_weights(alloc)?;
-    assert_eq!(rt; tree.groups(), 1);
-    assert!(rt; 102 <= tree.group_top(0));
-    let limits = distribute(alloc, &tree, 0, 100)?;
-    let first = TaskLimit { task: 0, limit: 75 };
-    let second = TaskLimit { task: 1, limit: 25 };
-    assert_eq!(rt; limits.as_slice(), [first, second].as_slice());
-    let limits = distribute(alloc, &tree, 0, 102)?;
-    let first = TaskLimit { task: 0, limit: 77 };
-    let second = TaskLimit { task: 1, limit: 25 };
-    assert_eq!(rt; limits.as_slice(), [first, second].as_slice());
+    let limits = limits_of(alloc, &tree, 100)?;
+    assert!(rt; are_limits(&limits, 75, 25));
+    let limits = limits_of(alloc, &tree, 102)?;
+    assert!(rt; are_limits(&limits, 77, 25));
     Ok(())
+}
+
+// Whether these are the limits of the tasks 0 and 1.
+fn are_limits(limits: &[TaskLimit], first: u64, second: u64) -> bool {
+    let first = TaskLimit {
+        task: 0,
+        limit: first,
+    };
+    let second = TaskLimit {
+        task: 1,
+        limit: second,
+    };
+    limits == [first, second].as_slice()
 }
 
 // So many weights of 1.
@@ -92,8 +101,13 @@ fn limits_of_two_jobs(
     requires { HasTop 10 function }
 {
     let tree = two_jobs(alloc, function)?;
+    limits_of(alloc, &tree, amount)
+}
+
+// The limits of the first group's tasks at an amount; none where it may not have it.
+fn limits_of(alloc: Global, tree: &PolicyTree, amount: u64) -> Result<Vec<TaskLimit>, Fail> {
     if tree.groups() == 0 || tree.group_top(0) < amount {
         return Ok(Vec::new(alloc));
     }
-    Ok(distribute(alloc, &tree, 0, amount)?)
+    Ok(distribute(alloc, tree, 0, amount)?)
 }

@@ -27,8 +27,7 @@ fn values_of_parts_add_up(rt: HostRuntime) -> Result<(), Fail> {
     let parts = [first, second];
     let sum = sum_at(&parts, 4);
     let [_, _] = parts;
-    assert_eq!(rt; alone, 60);
-    assert_eq!(rt; sum, 60);
+    assert_eq!(rt; (alone, sum), (60, 60));
     Ok(())
 }
 

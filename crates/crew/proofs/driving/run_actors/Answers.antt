@@ -6,7 +6,7 @@ use Rattle.bwe_specs.specs.declared.report.Report.{Report}
 use Rattle.board.specs.Reporting.{Reporting}
 use Rattle.board.specs.Reading.{Reading}
 use Rattle.crew.specs.Reporters.{IsReady, HasReported}
-use Rattle.crew.specs.Readers.{HasLines}
+use Rattle.crew_readers.specs.Readers.{HasLines}
 use Rattle.crew.proofs.Answering.{reported_at, lines_at, made_at}
 use Rattle.crew.proofs.driving.run_actors.Goals as goal
 

@@ -5,7 +5,7 @@ use Rattle.allocator.specs.Frames.{task_count}
 use Rattle.crew_log.specs.LegalCrewLog.{IsLegalCrewLog}
 use Rattle.policy_tree.specs.Trees.{task_numbers}
 use Rattle.plan_doc.specs.Conditions.{link_count}
-use Rattle.document_scripts.specs.Scripts.{AreOfReporters}
+use Rattle.crew_log.specs.Scripts.{AreOfReporters}
 use Rattle.document_run.proofs.Legal.{run-is}
 use Rattle.document_run.proofs.run.run_document.Goals as goal
 

@@ -1,39 +1,55 @@
-use Rattle.std.proofs.Common.{refl, ◌≡◌, ℕ, ◌+◌, ◌<◌, ◌++◌, ◌∷◌, [], List, length, get_or, take, sum, map, sym, ap, subst, ◌∙◌, arith}
-use Rattle.std.proofs.lemmas.List.{length-map}
+use Rattle.std.proofs.Common.{refl, ◌≡◌, ℕ, ◌+◌, ◌<◌, ◌≤◌, ◌++◌, ◌∷◌, [], List, length, get_or, take, sum, map, sym, ap, subst, ◌∙◌, arith}
+use Rattle.std.proofs.lemmas.List.{length-map, take_all}
 use Rattle.std.proofs.lemmas.List.Sums.{sum_by_more}
 use Rattle.policy_tree.specs.declared.home.Home.{Home}
 use Rattle.policy_tree.specs.States.{JobState, UserState, job_tasks}
 use Rattle.policy_tree.specs.Kept.{user_counts, cluster_counts, counts_of, users_count, clusters_count, IsHome}
 use Rattle.policy_tree.proofs.Homes.{AreHomesBelow, homes-push, homes-counted, counts-cluster, counts-user, counts-job}
 use Rattle.policy_tree.proofs.home.homes_of.Goals as goal
-use Rattle.policy_tree.proofs.home.homes_of.Goals.{After-tasks-task-end}
+use Rattle.policy_tree.proofs.home.homes_of.Goals.{After-users-user_node-items, After-jobs-job_node-items, After-tasks-task-end}
 
-cluster_read : (c : After-tasks-task-end) → get_or (counts_of c.args.clusters.now) c.loop-cluster.cluster [] ≡ map user_counts c.users-user_node-items.result.now
+cluster_read : (c : After-users-user_node-items) → get_or (counts_of c.args.clusters.now) c.loop-cluster.cluster [] ≡ map user_counts c.users-user_node-items.result.now
 cluster_read c =
     counts-cluster c.args.clusters.now c.loop-cluster.cluster c.index-clusters-cluster.result c.loop-cluster-test.true c.index-clusters-cluster.is
     ∙ ap (λ (users : List UserState). map user_counts users) (sym c.users-user_node-items.ensures.users)
 
-user_read : (c : After-tasks-task-end) → get_or (get_or (counts_of c.args.clusters.now) c.loop-cluster.cluster []) c.loop-user.user [] ≡ map job_tasks c.jobs-job_node-items.result.now
+users_length : (c : After-users-user_node-items) → length (get_or (counts_of c.args.clusters.now) c.loop-cluster.cluster []) ≡ length c.users-user_node-items.result.now
+users_length c = ap (λ (users : List (List ℕ)). length users) (cluster_read c) ∙ length-map c.users-user_node-items.result.now user_counts
+
+user_read : (c : After-jobs-job_node-items) → get_or (get_or (counts_of c.args.clusters.now) c.loop-cluster.cluster []) c.loop-user.user [] ≡ map job_tasks c.jobs-job_node-items.result.now
 user_read c =
-    ap (λ (users : List (List ℕ)). get_or users c.loop-user.user []) (cluster_read c)
+    ap (λ (users : List (List ℕ)). get_or users c.loop-user.user []) (cluster_read (goal.at.loop-job-init c).After-users-user_node-items)
     ∙ counts-user c.users-user_node-items.result.now c.loop-user.user c.user_node-item.result c.loop-user-test.true c.user_node-item.is
     ∙ ap (λ (jobs : List JobState). map job_tasks jobs) (sym c.jobs-job_node-items.ensures.jobs)
 
+user_within : (c : After-jobs-job_node-items) → c.loop-user.user < length (get_or (counts_of c.args.clusters.now) c.loop-cluster.cluster [])
+user_within c = omega (arith, users_length (goal.at.loop-job-init c).After-users-user_node-items, c.loop-user-test.true)
+
+jobs_length : (c : After-jobs-job_node-items) → length (get_or (get_or (counts_of c.args.clusters.now) c.loop-cluster.cluster []) c.loop-user.user []) ≡ length c.jobs-job_node-items.result.now
+jobs_length c = ap (λ (jobs : List ℕ). length jobs) (user_read c) ∙ length-map c.jobs-job_node-items.result.now job_tasks
+
 job_read : (c : After-tasks-task-end) → get_or (get_or (get_or (counts_of c.args.clusters.now) c.loop-cluster.cluster []) c.loop-user.user []) c.loop-job.job 0 ≡ c.tasks-task-end.result
 job_read c =
-    ap (λ (jobs : List ℕ). get_or jobs c.loop-job.job 0) (user_read c)
+    ap (λ (jobs : List ℕ). get_or jobs c.loop-job.job 0) (user_read (goal.at.loop-task-init c).After-jobs-job_node-items)
     ∙ counts-job c.jobs-job_node-items.result.now c.loop-job.job c.job_node-item.result c.loop-job-test.true c.job_node-item.is
     ∙ sym c.tasks-task-end.ensures
 
 job_within : (c : After-tasks-task-end) → c.loop-job.job < length (get_or (get_or (counts_of c.args.clusters.now) c.loop-cluster.cluster []) c.loop-user.user [])
-job_within c =
-    let e = ap (λ (jobs : List ℕ). length jobs) (user_read c) in
-    omega (arith, e, length-map c.jobs-job_node-items.result.now job_tasks, c.loop-job-test.true)
+job_within c = omega (arith, jobs_length (goal.at.loop-task-init c).After-jobs-job_node-items, c.loop-job-test.true)
 
-user_within : (c : After-tasks-task-end) → c.loop-user.user < length (get_or (counts_of c.args.clusters.now) c.loop-cluster.cluster [])
-user_within c =
-    let e = ap (λ (users : List (List ℕ)). length users) (cluster_read c) in
-    omega (arith, e, length-map c.users-user_node-items.result.now user_counts, c.loop-user-test.true)
+pub loop-cluster-init : goal.loop-cluster-init
+loop-cluster-init c =
+    subst (λ (homes : List Home). AreHomesBelow (counts_of c.args.clusters.now) homes 0) (sym c.new-homes.ensures.items)
+    (record { size = refl; each = λ number d lt. absurd (omega arith) })
+
+pub loop-user-init : goal.loop-user-init
+loop-user-init c = homes-counted (counts_of c.args.clusters.now) c.loop-cluster.homes.items _ _ (omega arith) c.loop-cluster.invariant
+
+pub loop-job-init : goal.loop-job-init
+loop-job-init c = homes-counted (counts_of c.args.clusters.now) c.loop-user.homes.items _ _ (omega arith) c.loop-user.invariant
+
+pub loop-task-init : goal.loop-task-init
+loop-task-init c = homes-counted (counts_of c.args.clusters.now) c.loop-job.homes.items _ _ (omega arith) c.loop-job.invariant
 
 pub loop-task-preserved : goal.loop-task-preserved
 loop-task-preserved c =
@@ -48,7 +64,7 @@ loop-task-preserved c =
     let home : Home = record { cluster = c.loop-cluster.cluster; user = c.loop-user.user; job = c.loop-job.job; task = c.loop-task.task } in
     let is : IsHome all count home = record {
       cluster = omega (arith, length-map c.args.clusters.now cluster_counts, c.loop-cluster-test.true);
-      user = user_within b;
+      user = user_within (goal.at.loop-task-preserved c).After-jobs-job_node-items;
       job = job_within b;
       task = omega (arith, job_read b, c.loop-task-test.true);
       counted = refl;
@@ -64,3 +80,32 @@ loop-job-preserved c =
     homes-counted all c.loop-task.homes.items _ _
     (omega (arith, sum_by_more (λ (n : ℕ). n) jobs c.loop-job.job 0 (job_within b), job_read b, c.loop-task-test.false, c.loop-task.auto.task-end))
     c.loop-task.invariant
+
+pub loop-user-preserved : goal.loop-user-preserved
+loop-user-preserved c =
+    let all = counts_of c.args.clusters.now in
+    let b = (goal.at.loop-user-preserved c).After-jobs-job_node-items in
+    let users = get_or all c.loop-cluster.cluster [] in
+    let jobs = get_or users c.loop-user.user [] in
+    let done : sum (take c.loop-job.job jobs) ≡ sum jobs = ap (λ (jobs : List ℕ). sum jobs) (take_all c.loop-job.job jobs (omega (arith, jobs_length b, c.loop-job-test.false))) in
+    homes-counted all c.loop-job.homes.items _ _
+    (omega (arith, sum_by_more (λ (jobs : List ℕ). sum jobs) users c.loop-user.user [] (user_within b), done))
+    c.loop-job.invariant
+
+pub loop-cluster-preserved : goal.loop-cluster-preserved
+loop-cluster-preserved c =
+    let all = counts_of c.args.clusters.now in
+    let b = (goal.at.loop-cluster-preserved c).After-users-user_node-items in
+    let users = get_or all c.loop-cluster.cluster [] in
+    let within : c.loop-cluster.cluster < length all = omega (arith, length-map c.args.clusters.now cluster_counts, c.loop-cluster-test.true) in
+    let done : users_count (take c.loop-user.user users) ≡ users_count users = ap users_count (take_all c.loop-user.user users (omega (arith, users_length b, c.loop-user-test.false))) in
+    homes-counted all c.loop-user.homes.items _ _
+    (omega (arith, sum_by_more users_count all c.loop-cluster.cluster [] within, done))
+    c.loop-user.invariant
+
+pub returns : goal.returns
+returns c =
+    let v = c.loop-cluster.invariant in
+    let all = counts_of c.args.clusters.now in
+    let last : length all ≤ c.loop-cluster.cluster = omega (arith, length-map c.args.clusters.now cluster_counts, c.loop-cluster-test.false) in
+    record { size = v.size ∙ ap clusters_count (take_all c.loop-cluster.cluster all last); each = v.each }

@@ -1,5 +1,6 @@
 use Rattle.std.proofs.Common.{◌++◌, ◌∷◌, [], map, take, sym, ap, ◌∙◌, arith}
-use Rattle.std.proofs.lemmas.List.Sums.{sum_by_more}
+use Rattle.std.proofs.lemmas.List.{take_all}
+use Rattle.std.proofs.lemmas.List.Sums.{sum_by_more, sum_by_more_le}
 use Rattle.policy_tree.specs.Children.{numbers_from}
 use Rattle.policy_tree.proofs.ChildLists.{numbers-more}
 use Rattle.policy_tree.proofs.walked.numbers_of.Goals as goal
@@ -23,3 +24,16 @@ loop-node-preserved g c =
           ∙ ap (λ n. numbers_from c.args.first (map g.N.Walked.size (take place nodes)) ++ n ∷ []) v.next
           ∙ sym (numbers-more g.N.Walked.size c.args.first nodes place node c.loop-node-test.true c.node-item.is);
     }
+
+pub count-next-requires : goal.count-next-requires
+count-next-requires g c =
+    let part = sum_by_more_le g.N.Walked.size c.args.nodes.now c.loop-node.node-index c.node-item.result c.loop-node-test.true in
+    omega (arith, part, ap g.N.Walked.size c.node-item.is, c.requires)
+
+pub overflow_add-next : goal.overflow_add-next
+overflow_add-next g c =
+    let part = sum_by_more_le g.N.Walked.size c.args.nodes.now c.loop-node.node-index c.node-item.result c.loop-node-test.true in
+    omega (arith, part, ap g.N.Walked.size c.node-item.is, c.loop-node.invariant.next, c.count-next.ensures, c.requires)
+
+pub returns : goal.returns
+returns g c = rw (take_all c.loop-node.node-index c.args.nodes.now c.loop-node-test.false) at c.loop-node.invariant.numbers

@@ -1,5 +1,6 @@
 use Rattle.std.proofs.Common.{length, sym, ap, arith}
-use Rattle.std.proofs.lemmas.List.Sums.{sum_by_more}
+use Rattle.std.proofs.lemmas.List.{take_all}
+use Rattle.std.proofs.lemmas.List.Sums.{sum_by_more, sum_by_more_le}
 use Rattle.policy_tree.specs.Children.{lists_of}
 use Rattle.policy_tree.proofs.ChildLists.{length-lists_of, lists-more, lists-none}
 use Rattle.policy_tree.proofs.walked.push_all_children.Goals as goal
@@ -28,3 +29,19 @@ loop-node-preserved g c =
           (length c.args.children.now.items) c.loop-node.next (length c.loop-node.children.items)
           c.loop-node-test.true c.node-item.is (sym (length-lists_of c.args.children.now)) (sym (length-lists_of c.loop-node.children)) v.next v.lists c.in_ok-next.ensures.lists;
     }
+
+pub push_children-requires-clause-room : goal.push_children-requires-clause-room
+push_children-requires-clause-room g c =
+    let part = sum_by_more_le g.N.Walked.size c.args.nodes.now c.loop-node.node-index c.node-item.result c.loop-node-test.true in
+    omega (arith, part, ap g.N.Walked.size c.node-item.is, c.loop-node.invariant.count, c.requires.room)
+
+pub push_children-requires-clause-tasks : goal.push_children-requires-clause-tasks
+push_children-requires-clause-tasks g c =
+    let part = sum_by_more_le g.N.Walked.tasks c.args.nodes.now c.loop-node.node-index c.node-item.result c.loop-node-test.true in
+    omega (arith, part, ap g.N.Walked.tasks c.node-item.is, c.loop-node.invariant.next, c.requires.tasks)
+
+pub returns : goal.returns
+returns g c =
+    let all = take_all c.loop-node.node-index c.args.nodes.now c.loop-node-test.false in
+    let v = c.loop-node.invariant in
+    record { next = rw all at v.next; count = rw all at v.count; lists = rw all at v.lists }

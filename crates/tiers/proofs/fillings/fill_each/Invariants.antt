@@ -1,4 +1,4 @@
-use Rattle.tiers.proofs.Step.{IsFilledTo}
+use Rattle.tiers.specs.Fillings.{IsFilledTo}
 use Rattle.tiers.proofs.fillings.fill_each.Given as goal
 
 abbrev pub invariant-loop-tier : goal.invariant-loop-tier
