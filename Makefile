@@ -3,6 +3,7 @@
 ## make          proves and builds both, on all processors; what has not changed is left as it is
 ## make bwe      proves and builds bwe alone
 ## make check    every proof, every edit that has to be refused, every test, then the whole cases
+## make edits    the edits that the gate leaves out, of crates whose proof is long
 ## make cases    the whole cases alone, on the built program
 ## make tools    the tests of tools/
 ## make look     a first table within two minutes; nothing of it is proved
@@ -13,14 +14,14 @@
 # as built by the stamp that rt leaves in its out/rlib, a program by itself.
 
 SHELL := /bin/bash
+# Crates that could be proved take turns in tools/prove.
 ifeq ($(MAKELEVEL),0)
-MAKEFLAGS += --jobs=$(shell nproc) --no-print-directory --no-builtin-rules
+MAKEFLAGS += --jobs --no-print-directory --no-builtin-rules
 endif
 # For tools/prove, which counts what these have still to prove.
 export goals := $(filter-out check,$(MAKECMDGOALS))
 
-# What each crate stands on: the lines of crates.txt, here as NAME:DEP,DEP without blanks. And the
-# crates, in the order in which those that could be proved at one time are begun.
+# What each crate stands on: the lines of crates.txt, here as NAME:DEP,DEP without blanks.
 comma    := ,
 lines    := $(shell sed -nE 's/^([a-z0-9_]+)[^:]*: */\1:/p' crates.txt | tr -s ' ' ,)
 crates   := $(shell tools/chains)
@@ -30,7 +31,7 @@ below     = $(filter $(subst $(comma), ,$(patsubst $1:%,%,$(filter $1:%,$(lines)
 sources   = $(filter crates/$1/src% crates/$1/specs% crates/$1/proofs%,$(files))
 built     = $(if $(filter $1,$(programs)),crates/$1/out/$1,crates/$1/out/rlib/stamp)
 
-.PHONY: build check cases tools look bench clean help $(programs)
+.PHONY: build check edits cases tools look bench clean help $(programs)
 build: $(programs)
 $(foreach it,$(programs),$(eval $(it): $(call built,$(it))))
 
@@ -51,6 +52,9 @@ check:
 	@$(MAKE) -n | sed -n 's|^tools/prove \(.*\)|crates/\1/out/rlib/stamp|p' | xargs rm -f
 	@tools/packages && $(MAKE) tools || [ $$? = 3 ]
 	@tools/cases.py
+
+edits: $(programs)
+	@tools/edits
 
 cases: $(programs)
 	@tools/cases.py

@@ -25,7 +25,10 @@ COPIED = [
     "bwe",
     "bwe-live",
     "tools/chains",
+    "tools/edits",
     "tools/prove",
+    "tools/room.bash",
+    "tools/rt",
     "tools/launcher.bash",
     "HANDLES",
     "README.md",
@@ -39,6 +42,10 @@ echo "$1 ${PWD##*/}" >>"$CALLS"
 name=${PWD##*/}
 case $1 in
 version) echo "a kit of tests"; exit ;;
+must-fail)
+    (cd "crates/$2/must-fail" && ls | sed "s/^/$2: /")
+    [ ! -e "crates/$2/must-fail/let_through.edit" ]
+    exit ;;
 esac
 for below in $(sed -n "s/^$name://p" ../../crates.txt); do
     [ -d "../$below" ] || continue
@@ -121,6 +128,15 @@ def test_the_longest_chain_of_crates_is_begun_first(project):
     assert run(project, "tools/chains").stdout.split() == [*CRATES][:3] + ["aside", "bwe"]
     (project / "crates/aside/src/lib.rt").write_text("right\n" * 9)
     assert run(project, "tools/chains").stdout.split() == ["words", "aside", *[*CRATES][1:3], "bwe"]
+
+
+def test_one_processor_takes_the_longest_chain_first(project):
+    lines = (project / "crates.txt").read_text().replace("bwe: tables", "bwe: tables aside")
+    (project / "crates.txt").write_text(lines)
+    (project / "crates/aside/src/lib.rt").write_text("right\n" * 9)
+    one = str(min(os.sched_getaffinity(0)))
+    assert run(project, "taskset", "-c", one, "make").returncode == 0
+    assert proved(project) == ["words", "aside", "numbers", "tables", "bwe"]
 
 
 def test_a_second_make_does_nothing(project):
@@ -206,6 +222,22 @@ def test_help_and_version_need_no_build(project):
     assert version.returncode == 0
     assert version.stdout.splitlines()[1:] == ["kit: a kit of tests", "program: not built yet"]
     assert proved(project) == []
+
+
+def test_edits_that_the_gate_leaves_out_are_tried_in_rooms(project):
+    run(project, "make")
+    proved(project)
+    for name in ("tables", "numbers"):
+        (project / "crates" / name / "wrong").mkdir()
+        (project / "crates" / name / "wrong/late.edit").write_text("an edit\n")
+    told = run(project, "tools/edits")
+    assert told.returncode == 0
+    assert sorted(told.stdout.splitlines()) == ["numbers: late.edit", "tables: late.edit"]
+    assert run(project, "tools/edits", "tables").stdout == "tables: late.edit\n"
+    (project / "crates/tables/wrong/let_through.edit").write_text("an edit\n")
+    assert run(project, "tools/edits").returncode != 0
+    assert run(project, "tools/edits", "words").returncode == 2
+    assert not list(project.glob("crates/*/out/edits"))
 
 
 def test_version_tells_whether_the_program_is_of_these_sources(project):

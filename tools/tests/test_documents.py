@@ -59,9 +59,35 @@ def test_the_readme_names_each_crate_of_the_kit_that_is_trusted():
     assert set(re.findall("`([a-z0-9_]+)`", trusted)) == used - own
 
 
+def edits():
+    """The wrong bodies that the gate tries, and those that `tools/edits` tries."""
+    return [*TOP.glob("crates/*/must-fail/*.edit"), *TOP.glob("crates/*/wrong/*.edit")]
+
+
+def test_each_edit_changes_what_stands_once():
+    for edit in edits():
+        text = old = ""
+        for line in edit.read_text().splitlines():
+            kind, _, rest = line.partition(":")
+            rest = rest.removeprefix(" ")
+            if kind == "file":
+                text = (edit.parent.parent / rest).read_text()
+            elif kind == "old":
+                old = rest
+                assert text.count(old) == 1, f"{edit}: {old}"
+            elif kind == "new":
+                text = text.replace(old, rest)
+
+
+def test_no_crate_has_edits_of_both_kinds():
+    folders = [edit.parent for edit in edits()]
+    crates = [folder.parent.name for folder in dict.fromkeys(folders)]
+    assert sorted(crates) == sorted(set(crates))
+
+
 def test_the_page_of_choices_names_the_crates_without_an_edit():
     crates = {path.parent.name for path in (TOP / "crates").glob("*/src")}
-    without = {name for name in crates if not list((TOP / "crates" / name).glob("must-fail/*.edit"))}
+    without = crates - {edit.parent.parent.name for edit in edits()}
     page = (TOP / "docs/DECISIONS.md").read_text()
     paragraph = page.split("have no edit that has to be refused**")[1].split("\n\n")[0]
     assert set(re.findall("`([a-z0-9_]+)`", paragraph)) & crates == without
@@ -75,7 +101,7 @@ def words_of_sources():
         for file in TOP.glob(f"crates/*/{pattern}")
     ]
     names = {path.parent.name for path in TOP.glob("crates/*/src")}
-    names.update(path.stem for path in TOP.glob("crates/*/must-fail/*.edit"))
+    names.update(path.stem for path in edits())
     for file in files:
         names.update(re.findall(r"[A-Za-z_][A-Za-z0-9_]*", file.read_text()))
     return names
