@@ -1,6 +1,6 @@
 -- What a filling keeps, read row by row.
-use Rattle.std.proofs.Common.{◌≡◌, ℕ, zero, suc, ◌+◌, ◌<◌, ◌≤◌, List, [], length, map, reverse, sum, sum_by, get_or, slice_index, slice_index_or, Option, None, le_refl, ap₂, refl, sym, ap, ◌∙◌, subst, arith, zero-add, le_trans}
-use Rattle.std.proofs.lemmas.List.FromFn.{fill_by_all, length-map-range_with_len, get_or-map-range_with_len, sum_by-map-range_with_len_more}
+use Rattle.std.proofs.Common.{◌≡◌, ℕ, ◌<◌, ◌≤◌, List, [], length, map, reverse, sum, get_or, slice_index, slice_index_or, Option, None, le_refl, ap₂, sym, ap, ◌∙◌, subst, arith, zero-add, le_trans}
+use Rattle.std.proofs.lemmas.List.FromFn.{fill_by_all, length-map-range_with_len, get_or-map-range_with_len}
 use Rattle.std.proofs.lemmas.List.{length-map, get_or-map, reverse-reverse}
 use Rattle.bwe_specs.specs.Bounded.{sum_below}
 use Rattle.bwe_specs.specs.Paths.{path_group_at, path_group_count, link_load, load_on}

@@ -1,12 +1,11 @@
 -- The laws of a table of what stands.
-use Rattle.std.proofs.Common.{◌≡◌, ℕ, zero, suc, ◌<◌, ◌≤◌, List, [], ◌∷◌, length, map, flat_map, reverse, get_or, slice_index, slice_index_or, sum, None, Result, Ok, Err, IfOk, refl, sym, ap, ◌∙◌, subst, arith, zero-add}
+use Rattle.std.proofs.Common.{◌≡◌, ℕ, ◌<◌, ◌≤◌, List, [], length, map, flat_map, reverse, get_or, slice_index, sum, None, Result, Ok, Err, IfOk, refl, sym, ap, ◌∙◌, subst, arith, zero-add}
 use Rattle.std.proofs.lemmas.List.{reverse-reverse}
 use Rattle.std.proofs.lemmas.List.FromFn.{length-range_with_len, length-map-range_with_len, get_or-map-range_with_len}
 use Rattle.bwe_specs.specs.Paths.{PathGroups, link_load}
 use Rattle.bwe_specs.specs.Filling.{Wan, filling, group_amount}
 use Rattle.bwe_specs.specs.Reports.{numbers}
-use Rattle.bwe_specs.specs.Tree.{Cluster, cluster_limits}
-use Rattle.bwe_specs.specs.TreeFunctions.{IsCluster, AreClusters}
+use Rattle.bwe_specs.specs.Tree.{cluster_limits}
 use Rattle.bwe_specs.specs.Values.{AreValues}
 use Rattle.bwe_specs.specs.Allocation.{Table}
 use Rattle.bwe_specs.proofs.HandedOut.{cluster-at, sum-cluster_limits}

@@ -1,8 +1,7 @@
 -- Amounts that are put on path groups one after the other, and the loads that come of it.
-use Rattle.std.proofs.Common.{◌≡◌, ℕ, zero, suc, ◌+◌, ◌<◌, ◌≤◌, List, length, map, refl, sym, ap, ◌∙◌, subst, arith, inl, inr, le_refl}
+use Rattle.std.proofs.Common.{◌≡◌, ℕ, ◌+◌, ◌<◌, ◌≤◌, List, length, map, refl, sym, ap, ◌∙◌, subst, arith, inl, inr, le_refl}
 use Rattle.std.proofs.lemmas.Bool.{cases_eq, cases_lt}
 use Rattle.std.proofs.lemmas.List.FromFn.{fill_by_all}
-use Rattle.bwe_specs.specs.Bounded.{sum_below}
 use Rattle.bwe_specs.specs.Paths.{PathGroups, path_group_at, path_group_count, link_load, load_on}
 use Rattle.bwe_specs.specs.Reports.{numbers}
 use Rattle.bwe_specs.proofs.Bounds.{sum_below-mono, sum_below-same}

@@ -1,12 +1,12 @@
 -- All tables of a plan have one frame, cover their reports and have the tasks of the plan: the laws
 -- of a maker.
-use Rattle.std.proofs.Common.{◌≡◌, ℕ, suc, ◌+◌, ◌-◌, List, [], ◌∷◌, flat_map, length, map, min, zip, sum_by, refl, sym, ◌∙◌, ap, ap₂, arith}
+use Rattle.std.proofs.Common.{◌≡◌, ℕ, ◌+◌, List, [], ◌∷◌, flat_map, length, map, zip, sum_by, refl, sym, ◌∙◌, ap, ap₂, arith}
 use Rattle.std.proofs.lemmas.List.{length-append, length-map}
 use Rattle.std.proofs.lemmas.List.Concat.{flat_map-cons, length-flat_map}
 use Rattle.std.proofs.lemmas.List.FromFn.{length-map-range_with_len}
 use Rattle.std.proofs.lemmas.List.Sums.{sum_by-cons}
 use Rattle.bwe_specs.specs.declared.report.Report.{Report}
-use Rattle.bwe_specs.specs.Distribution.{children_sum, common_share, handed_out, distribution}
+use Rattle.bwe_specs.specs.Distribution.{distribution}
 use Rattle.bwe_specs.specs.Tree.{Job, User, Cluster, task_values, job_values, user_values, job_limits, user_limits, cluster_limits}
 use Rattle.bwe_specs.specs.Filling.{Wan, State, filling, group_amount}
 use Rattle.bwe_specs.specs.Paths.{path_group_count}

@@ -1,9 +1,9 @@
 -- Calls with the items of a list, from those with its halves.
-use Rattle.std.proofs.Common.{◌≡◌, refl, ℕ, zero, suc, ◌+◌, ◌<◌, ◌≤◌, Result, Ok, Err, List, [], ◌∷◌, ◌++◌, length, get_or, set, take, drop, subst, sym, ap, ◌∙◌, arith, length-append}
+use Rattle.std.proofs.Common.{◌≡◌, refl, ℕ, zero, suc, ◌+◌, ◌<◌, Result, Ok, Err, List, [], ◌∷◌, ◌++◌, length, get_or, set, subst, sym, arith, length-append}
 use Rattle.std.specs.Prelude.{IfOk}
 use denote.Param.Members.{Shared}
 use denote.Ref.{MutBor}
-use Rattle.at_once.specs.Calls.{AcceptsEach, Calls, CallsEach}
+use Rattle.at_once.specs.Calls.{Calls, CallsEach}
 
 module _ {F X A : Type 0} (g : Shared F (ℕ × (MutBor X × Unit {0})) (A × (MutBor X × Unit {0}))) (f : F) where
   pub calls_one : (first : ℕ) (before : X) (answer : A) (after : X) → Calls g f first before answer after → CallsEach g f first (before ∷ []) (answer ∷ []) (after ∷ [])

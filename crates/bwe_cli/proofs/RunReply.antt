@@ -11,7 +11,7 @@ use Rattle.plan_doc.specs.Document.{Accepted}
 use Rattle.doc_names.specs.NameTexts.{texts_of}
 use Rattle.run_text.specs.RunText.{run_text_of}
 use Rattle.crew_log.specs.LegalCrewLog.{IsClosed}
-use Rattle.audit_law.proofs.DocumentVerdicts as verdicts
+use Rattle.audit_law.proofs.DocumentVerdicts.{plan-is}
 use Rattle.document_run.specs.Runs.{IsRunOf}
 use Rattle.document_scripts.proofs.Split.{split-count}
 use Rattle.plan_doc.specs.Plans.{plan_in, plan_of}
@@ -27,14 +27,11 @@ sent-few plan document readers reads log run few =
     omega (arith, ap length run.legal.sent, length-map run.scripts (λ script. length script.items), split-count (reporter_count document) document.script.items run.scripts run.split, few)
 
 module _ (accepted : Accepted) (document : Document) (is : IsDocumentOf accepted document) where
-  pub plan-is : plan_in document ≡ plan_of accepted
-  plan-is = verdicts.plan-is accepted document is
-
   pub run-reply : (readers reads : ℕ) (log : CrewLog Table) → IsRunOf (plan_in document) document.script.items (reporter_count document) readers reads log
       → IsClosed log → (text : List ℕ) → text ≡ run_text_of (texts_of document.names) log → IsRunReply readers reads (Ok accepted) (reply_of 0 text)
   run-reply readers reads log run closed text printed =
       let planned : IsRunOf (plan_of accepted) document.script.items (reporter_count document) readers reads log =
-      subst (λ plan. IsRunOf plan document.script.items (reporter_count document) readers reads log) plan-is run in
+      subst (λ plan. IsRunOf plan document.script.items (reporter_count document) readers reads log) (plan-is accepted document is) run in
       let scripted : IsRunOf (plan_of accepted) accepted.script (reporter_count document) readers reads log =
       subst (λ script. IsRunOf (plan_of accepted) script (reporter_count document) readers reads log) is.script planned in
       let counted : IsRunOf (plan_of accepted) accepted.script (length accepted.names.reporters) readers reads log =

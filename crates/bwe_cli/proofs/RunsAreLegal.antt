@@ -19,12 +19,12 @@ use Rattle.run_audit.specs.declared.verdict.AuditVerdict.TheVariants.{Legal}
 use Rattle.run_text.specs.RunText.{run_text_of}
 use Rattle.two_part.specs.TwoPart.{IsTwoPart, parts_behind}
 use Rattle.two_part.proofs.PartsFacts.{parts_complete}
-use Rattle.bwe_cli.specs.AuditReply.{IsAuditReply, audit_status}
+use Rattle.audit_answer.specs.AuditReply.{IsAuditReply, audit_status}
 use Rattle.bwe_cli.specs.Laws.{RunsAreLegal}
-use Rattle.line_answers.specs.Parted.{IsReplyBehind, accepted_parts, document_bytes}
+use Rattle.opened_document.specs.Parted.{IsReplyBehind, accepted_parts, document_bytes}
 use Rattle.bwe_cli.specs.RunLine.{IsRunReply}
-use Rattle.bwe_cli.proofs.Audits.{legal_at-0}
-use Rattle.line_answers.proofs.Behind.{accepted_behind}
+use Rattle.audit_answer.proofs.Audits.{legal_at-0}
+use Rattle.opened_document.proofs.Behind.{accepted_behind}
 
 -- ---- the text of a run
 

@@ -18,11 +18,12 @@ use Rattle.doc_names.specs.NameTexts.{NameTexts}
 use Rattle.two_part.specs.declared.Parts.{Parts}
 use Rattle.two_part.specs.TwoPart.{parts_of}
 use Rattle.audit_law.specs.DocumentRun.{script_verdict}
-use Rattle.bwe_cli.specs.AuditReply.{IsAuditReply, audit_reply, audit_status}
+use Rattle.audit_answer.specs.AuditReply.{IsAuditReply, audit_reply, audit_status}
 use Rattle.line_answers.specs.EnforceReply.{enforce_accepted, enforced_by}
 use Rattle.line_answers.specs.EstimateReply.{estimate_accepted, table_behind}
-use Rattle.line_answers.specs.Parted.{IsReplyBehind, behind_reply, document_bytes, no_parts_reply, parts_at, with_part}
-use Rattle.line_answers.specs.Replies.{check_accepted, levels_accepted, read_reply, refused_reply, solve_accepted, verdict_status}
+use Rattle.opened_document.specs.Parted.{IsReplyBehind, behind_reply, document_bytes, no_parts_reply, parts_at, with_part}
+use Rattle.line_answers.specs.Replies.{check_accepted, levels_accepted, read_reply, solve_accepted, verdict_status}
+use Rattle.opened_document.specs.Refused.{refused_reply}
 use Rattle.bwe_cli.specs.RunLine.{IsRunReply}
 use Rattle.bwe_cli.specs.Statuses.{AcceptedIsAnswered, AnAnswerIsWhole, IsAnswered, IsOfAnswer, IsSilent, IsTakenIn, IsWithoutFault, NothingIsWritten}
 use Rattle.line_answers.specs.TiersReply.{tiers_accepted, unless_refused}

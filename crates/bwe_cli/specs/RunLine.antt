@@ -9,7 +9,7 @@ use Rattle.plan_doc.specs.Refusals.{Refusal}
 use Rattle.run_text.specs.RunText.{run_text_of}
 use Rattle.document_run.specs.Runs.{IsRunOf}
 use Rattle.plan_doc.specs.Plans.{plan_of}
-use Rattle.line_answers.specs.Replies.{refused_reply}
+use Rattle.opened_document.specs.Refused.{refused_reply}
 
 -- `run`: the text of a closed run of the script, whose table is that of `solve`; or the line of the
 -- refusal

@@ -7,8 +7,8 @@ use Rattle.plan_doc.specs.Document.{document}
 use Rattle.line_answers.specs.Replies.{check_accepted, document_reply, levels_accepted, solve_accepted}
 use Rattle.bwe_cli.specs.RunLine.{IsRunReply}
 use Rattle.line_answers.specs.MadeLines.{bulk_reply, make_reply}
-use Rattle.line_answers.specs.Parted.{IsReplyBehind, accepted_parts, parts_reply}
-use Rattle.bwe_cli.specs.AuditReply.{IsAuditReply}
+use Rattle.opened_document.specs.Parted.{IsReplyBehind, accepted_parts, parts_reply}
+use Rattle.audit_answer.specs.AuditReply.{IsAuditReply}
 use Rattle.line_answers.specs.EnforceReply.{enforce_accepted}
 use Rattle.line_answers.specs.EstimateReply.{estimate_accepted}
 use Rattle.line_answers.specs.TiersReply.{tiers_accepted}

@@ -4,8 +4,8 @@ ghost use Rattle.std.specs.Prelude.{◌≡◌, false, IfOk};
 ghost use Rattle.command_line.specs.Ranges.{IsInRange};
 ghost use Rattle.bwe_cli.specs.TopCall.{needs_threads, replies};
 
-use crate::audit::audit;
 use crate::run::run;
+use audit_answer::audit;
 use bwe_specs::OutOfMemory;
 use command_line::CommandLine;
 use crew_actors::Gate;

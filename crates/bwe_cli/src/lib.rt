@@ -14,11 +14,8 @@ ghost use Rattle.command_line.specs.Ranges.{IsInRange};
 ghost use Rattle.bwe_cli.specs.TopCall.{IsServed, needs_threads, of_one_thread};
 
 mod answers;
-mod audit;
-mod known;
 mod laws;
 mod reading;
-mod rewound;
 mod run;
 
 use answers::{answer, answer_in_turn};

@@ -50,7 +50,8 @@ pub enum CommandLine {
 /// The command line that the words are, `None` where they are none.
 ///
 /// `words` are those after the program's name. A word counts as it stands: abbreviations, blanks
-/// round a word and an empty word are in no line.
+/// round a word and an empty word are in no line. `levels 90` is the line of share 90, and `levels
+/// +90` is none.
 pub fn command_line_of_words(
     alloc: Global,
     words: &[String],

@@ -1,5 +1,5 @@
 -- What makes the log of a run legal.
-use Rattle.std.proofs.Common.{◌≡◌, refl, ℕ, zero, suc, ◌+◌, ◌<◌, ◌≤◌, List, [], ◌∷◌, ◌++◌, Vec, Result, Ok, Err, OnOk, length, get_or, map, subst, sym, ap, ◌∙◌, arith, length-append}
+use Rattle.std.proofs.Common.{◌≡◌, refl, ℕ, zero, suc, ◌<◌, ◌≤◌, List, [], ◌∷◌, Vec, Result, Ok, Err, OnOk, length, get_or, map, subst, sym, ap, ◌∙◌, arith, length-append}
 use Rattle.std.specs.Prelude.{IfErr}
 use Rattle.std.specs.List.{All, sum_by}
 use Rattle.std.specs.declared.alloc.Global.{Global}
@@ -17,12 +17,11 @@ use Rattle.demand_book.specs.Fit.{IsFit}
 use Rattle.board.specs.Reporting.{Reporting, AreFresh, fresh_pass}
 use Rattle.board.specs.declared.refusal.ReportError.{ReportError}
 use Rattle.board.specs.declared.refusal.ReportError.TheVariants.{Full, OutOfMemory}
-use Rattle.crew_log.specs.declared.log.ReaderLog.{ReaderLog}
 use Rattle.crew_log.specs.declared.log.CrewLog.{CrewLog}
 use Rattle.crew_log.specs.LegalCrewLog.{IsReaderOf, IsLegalCrewLog}
 use Rattle.crew_log.specs.Scripts.{AreOfReporters, reports_in}
 use Rattle.crew_actors.specs.Reporters.{IsCutShort}
-use Rattle.crew.specs.Reporters.{IsReady, AreReady, HasReported, HaveReported, sent_by}
+use Rattle.crew.specs.Reporters.{IsReady, AreReady, HaveReported, sent_by}
 
 -- the passes as they are handed out are ready for the scripts
 pub all_ready : (reporters tasks links : ℕ) (scripts : List (Vec Report Global)) (passes : List Reporting) → length scripts ≡ reporters → length passes ≡ reporters → AreFresh passes

@@ -65,7 +65,8 @@ impl Estimator {
         Ok(Estimator { kept, headroom })
     }
 
-    /// The Estimate of all samples so far and this one ("Estimate", docs/DEFINITIONS.md).
+    /// The Estimate of all samples so far and this one ("Estimate", docs/DEFINITIONS.md). With a
+    /// window of 2 and a headroom of 110 the samples 100, 50 and 5 give 110, 110 and 55.
     ///
     /// It takes no memory. It goes over the samples that are kept.
     pub fn sample(&mut self, amount: u64) -> u64

@@ -1,5 +1,5 @@
 -- A snapshot says the same as the reports that it is made of.
-use Rattle.std.proofs.Common.{◌≡◌, ℕ, zero, suc, ◌+◌, ◌<◌, ◌≤◌, ◌⊎◌, Bool, true, false, List, [], ◌∷◌, ◌++◌, Option, Some, None, All, find, filter_map, reverse, length, if◌then◌else◌, cond, refl, sym, ◌∙◌, ap, ap₂, subst, inl, inr, arith, eqb-true, ne_eqb}
+use Rattle.std.proofs.Common.{◌≡◌, ℕ, zero, suc, ◌+◌, ◌<◌, ◌≤◌, ◌⊎◌, Bool, true, false, List, [], ◌∷◌, Option, Some, None, All, find, filter_map, reverse, if◌then◌else◌, cond, refl, sym, ◌∙◌, ap, ap₂, inl, inr, arith, eqb-true, ne_eqb}
 use Rattle.std.specs.List.{cons_option, range_with_len}
 use Rattle.std.specs.Option.{option_or}
 use Rattle.std.proofs.lemmas.Bool.{cases_eq, cases_lt}

@@ -1,6 +1,6 @@
--- What stands behind a document: reports behind its script, and a second part behind its bytes.
-use Rattle.std.proofs.Common.{◌≡◌, ℕ, ◌-◌, ◌<◌, ◌≤◌, List, ◌++◌, length, Option, Some, None, Ok, Vec, Global, string_bytes, ap, ap₂, sym, subst, ◌∙◌, arith, length-append}
-use Rattle.std.specs.Prelude.{All, drop, get_or}
+-- Reports behind the script of a document.
+use Rattle.std.proofs.Common.{◌≡◌, ℕ, ◌-◌, ◌<◌, ◌≤◌, List, ◌++◌, length, Option, Some, None, Vec, Global, string_bytes, ap, sym, subst, ◌∙◌, arith, length-append}
+use Rattle.std.specs.Prelude.{All, get_or}
 use Rattle.std.proofs.lemmas.List.{length-map}
 use Rattle.std.proofs.lemmas.List.Elements.{All-append, All-get_or}
 use Rattle.std.proofs.lemmas.Option.{get_or_from_slice_get, slice_get_within}
@@ -12,14 +12,8 @@ use Rattle.demand_book.specs.Fit.{IsFit}
 use Rattle.doc_passes.specs.Passed.{IsReport}
 use Rattle.plan_doc.specs.declared.document.Document.{Document}
 use Rattle.plan_doc.specs.Conditions.{IsUsable, link_count, reporter_count, tasks_in, IsByOwner as IsByOwnerIn}
-use Rattle.plan_doc.specs.Document.{Accepted, document}
 use Rattle.plan_doc.specs.Owners.{owner_of}
 use Rattle.sample_lines.specs.Held.{IsByOwner, owner_in}
-use Rattle.two_part.specs.declared.Parts.{Parts}
-use Rattle.two_part.specs.TwoPart.{parts_of}
-use Rattle.line_answers.specs.Parted.{accepted_parts, document_bytes, parts_at, with_part}
-
--- ---- reports behind the script
 
 owner_below : (owners : List ℕ) (reporters reporter : ℕ) (target : Target) → All (λ owner. owner < reporters) owners → owner_in owners target ≡ Some reporter → reporter < reporters
 owner_below owners reporters reporter (Task task) below is =
@@ -77,13 +71,3 @@ module _ (document : Document) (reports : List Report) (usable : IsUsable docume
         (All-append (IsByOwnerIn document) document.script.items reports usable.by_owners all_owned);
     closings = usable.closings;
   }
-
--- ---- a part behind the document
-
--- the parts that were found, of which the first is accepted
-pub accepted_behind : (input : List ℕ) (parts : Parts) (bytes part : List ℕ) (accepted : Accepted) → Some parts ≡ parts_of input → document bytes ≡ Ok accepted
-    → bytes ≡ document_bytes input parts → part ≡ drop parts.end input → accepted_parts input ≡ Ok (record { accepted = accepted; part = part })
-accepted_behind input parts bytes part accepted found read front behind =
-    ap (parts_at input) (sym found)
-    ∙ ap₂ (λ (rest first : List ℕ). with_part rest (document first)) (sym behind) (sym front)
-    ∙ ap (with_part part) read

@@ -1,6 +1,5 @@
 pub mod Replies
 pub mod MadeLines
-pub mod Parted
 pub mod EstimateReply
 pub mod TiersReply
 pub mod EnforceReply

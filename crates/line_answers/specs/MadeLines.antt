@@ -9,7 +9,7 @@ use Rattle.plan_doc.specs.Document.{Accepted}
 use Rattle.plan_doc.specs.Refusals.{Refusal}
 use Rattle.table_text.specs.BulkText.{bulk_text_of}
 use Rattle.plan_doc.specs.Plans.{plan_of}
-use Rattle.line_answers.specs.Replies.{refused_reply}
+use Rattle.opened_document.specs.Refused.{refused_reply}
 
 -- the summary of the table of the allocation of a script
 abbrev pub summary_reply : ℕ → ℕ → Plan → List Report → Reply

@@ -16,8 +16,8 @@ use Rattle.table_text.specs.LevelsText.{levels_text_of}
 use Rattle.parallel_values.specs.Levels.{levels}
 use Rattle.plan_doc.specs.Document.{Accepted, document}
 use Rattle.plan_doc.specs.Refusals.{Refusal}
-use Rattle.plan_doc.specs.RefusalLines.{refusal_line}
 use Rattle.plan_doc.specs.Plans.{plan_of}
+use Rattle.opened_document.specs.Refused.{refused_reply}
 
 -- status 0 where the closings are right, else 1
 abbrev pub verdict_status : Verdict → ℕ
@@ -56,10 +56,6 @@ check_accepted accepted =
 abbrev pub levels_accepted : ℕ → Accepted → Reply
 levels_accepted share accepted =
     levels_reply share accepted.names accepted.top (demand_after accepted.script) accepted.clusters
-
--- a refused document gets the line of its refusal
-abbrev pub refused_reply : Refusal → Reply
-refused_reply refusal = record { status = 3; text = refusal_line refusal }
 
 -- what is read as a document gets, by what an accepted one gets
 abbrev pub read_reply : (Accepted → Reply) → Result Accepted Refusal → Reply

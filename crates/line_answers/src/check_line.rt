@@ -9,13 +9,12 @@ ghost use Rattle.plan_doc.specs.Conditions.{IsUsable};
 ghost use Rattle.plan_doc.specs.Plans.{plan_in};
 ghost use Rattle.line_answers.specs.Replies.{check_accepted, check_reply, document_reply, verdict_status};
 
-use crate::opened::{Opened, open_after_script};
-use crate::refusal::refused;
 use allocator::Allocator;
 use bottleneck_cert::Verdict;
 use bwe_specs::{Closing, OutOfMemory};
 use demand_book::Maker;
 use one_run::Answer;
+use opened_document::{Opened, open_after_script, refused};
 use plan_doc::{Document, read_document};
 use std::alloc::Global;
 use table_text::check_text;

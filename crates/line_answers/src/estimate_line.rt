@@ -11,14 +11,14 @@ ghost use Rattle.sample_lines.specs.Known.{known_by};
 ghost use Rattle.sample_lines.specs.SampleLines.{Answers};
 ghost use Rattle.sample_lines.specs.SampleReports.{reports_in};
 ghost use Rattle.line_answers.specs.EstimateReply.{estimate_accepted, estimate_reply};
-ghost use Rattle.line_answers.specs.Parted.{parts_reply};
+ghost use Rattle.opened_document.specs.Parted.{parts_reply};
 ghost use Rattle.plan_doc.specs.Plans.{plan_in};
 ghost use Rattle.line_answers.specs.Replies.{table_reply};
 
-use crate::parted::{Parted, read_parts};
 use crate::solve_line::solve_document;
 use bwe_specs::{OutOfMemory, Report};
 use one_run::Answer;
+use opened_document::{Parted, read_parts};
 use plan_doc::Document;
 use sample_lines::{SampleError, estimate_reports, sample_refusal_line};
 use std::alloc::Global;

@@ -8,11 +8,10 @@ ghost use Rattle.policy_tree.specs.Trees.{demand_in};
 ghost use Rattle.doc_names.specs.NameTexts.{texts_of};
 ghost use Rattle.line_answers.specs.Replies.{document_reply, levels_accepted, levels_reply, values_reply};
 
-use crate::opened::{Opened, open_after_script};
-use crate::refusal::refused;
 use bwe_specs::OutOfMemory;
 use doc_names::Names;
 use one_run::Answer;
+use opened_document::{Opened, open_after_script, refused};
 use parallel_values::values_at;
 use plan_doc::{Document, read_document};
 use policy_tree::PolicyTree;

@@ -1,9 +1,8 @@
 //! What each line of the program writes for its input, but for `run` and `audit`, which stand
 //! above.
 //!
-//! The top call makes a whole answer by one of these, and then writes it. A document is read and
-//! taken apart here for the lines above too: `open`, `read_parts`, `refused`. The contract of each
-//! says the one reply that an input has. Nothing is promised of time, nor that memory is there.
+//! The top call makes a whole answer by one of these, and then writes it. The contract of each says
+//! the one reply that an input has. Nothing is promised of time, nor that memory is there.
 #![tactic(auto)]
 
 mod check_line;
@@ -11,9 +10,6 @@ mod enforce_line;
 mod estimate_line;
 mod levels_line;
 mod made;
-mod opened;
-mod parted;
-mod refusal;
 mod solve_line;
 mod tiers_line;
 
@@ -22,8 +18,5 @@ pub use enforce_line::enforce;
 pub use estimate_line::estimate;
 pub use levels_line::{levels, levels_on_threads};
 pub use made::{bulk, make};
-pub use opened::{Opened, open};
-pub use parted::{Parted, read_parts};
-pub use refusal::refused;
 pub use solve_line::solve;
 pub use tiers_line::tiers;

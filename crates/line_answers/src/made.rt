@@ -8,13 +8,12 @@ ghost use Rattle.plan_doc.specs.Document.{document as document_of};
 ghost use Rattle.plan_doc.specs.Plans.{plan_in};
 ghost use Rattle.line_answers.specs.MadeLines.{bulk_reply, make_reply, summary_of, summary_reply};
 
-use crate::opened::{Opened, open_after_script};
-use crate::refusal::refused;
 use allocator::Allocator;
 use bwe_specs::OutOfMemory;
 use demand_book::Maker;
 use doc_maker::make_document;
 use one_run::Answer;
+use opened_document::{Opened, open_after_script, refused};
 use plan_doc::{Document, read_document};
 use std::alloc::Global;
 use table_text::bulk_text;

@@ -7,12 +7,11 @@ ghost use Rattle.plan_doc.specs.Conditions.{IsUsable};
 ghost use Rattle.plan_doc.specs.Plans.{plan_in};
 ghost use Rattle.line_answers.specs.Replies.{document_reply, solve_accepted, table_reply};
 
-use crate::opened::{Opened, open_after_script};
-use crate::refusal::refused;
 use allocator::Allocator;
 use bwe_specs::OutOfMemory;
 use demand_book::Maker;
 use one_run::Answer;
+use opened_document::{Opened, open_after_script, refused};
 use plan_doc::{Document, read_document};
 use std::alloc::Global;
 use table_text::table_text;

@@ -4,13 +4,12 @@ ghost use Rattle.std.specs.Prelude.{◌≡◌, IfOk, length};
 ghost use Rattle.doc_names.specs.NameTexts.{texts_of};
 ghost use Rattle.plan_doc.specs.Conditions.{IsUsable};
 ghost use Rattle.plan_doc.specs.Plans.{plan_in};
-ghost use Rattle.line_answers.specs.Parted.{parts_reply};
+ghost use Rattle.opened_document.specs.Parted.{parts_reply};
 ghost use Rattle.line_answers.specs.TiersReply.{tiered_reply, tiers_accepted, tiers_reply};
 
-use crate::opened::{Opened, open_after_script};
-use crate::parted::{Parted, read_parts};
 use bwe_specs::OutOfMemory;
 use one_run::Answer;
+use opened_document::{Opened, Parted, open_after_script, read_parts};
 use plan_doc::Document;
 use std::alloc::Global;
 use tier_text::{TiersError, read_tiers, refused_tiers, tier_text};

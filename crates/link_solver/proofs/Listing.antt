@@ -1,17 +1,16 @@
 -- Groups are listed at the links that they use.
 use Rattle.std.proofs.Common.{◌≡◌, ℕ, zero, suc, ◌+◌, ◌-◌, ◌<◌, ◌≤◌, ◌≢◌, true, false, ◌==◌, List, [], ◌∷◌, ◌++◌, Vec, Global, length, map, take, set, refl, sym, ◌∙◌, ap, arith, subst, inl, inr, get_or, slice_index, slice_index_or, eqb-true, length-append}
 use Rattle.std.specs.Prelude.{All, Contains}
-use Rattle.std.specs.List.{list_any}
 use Rattle.std.proofs.lemmas.Bool.{cases_eq, cases_lt}
 use Rattle.std.proofs.lemmas.List.{length-map, length-set, map-set, get_or-set_same, get_or-set_other}
 use Rattle.std.proofs.lemmas.List.Folds.{list_any_more}
 use Rattle.std.proofs.Math.ListN.{get_or-eq_default}
-use Rattle.bwe_specs.specs.Paths.{PathGroup, PathGroups, path_group_at, path_group_count, goes_over, uses}
+use Rattle.bwe_specs.specs.Paths.{PathGroup, PathGroups, path_group_at, path_group_count, uses}
 use Rattle.bwe_specs.proofs.Loads.{or-true}
 use Rattle.wan_topology.specs.Network.{Network}
 use Rattle.path_groups.specs.declared.part.LinkPart.{LinkPart}
 use Rattle.path_groups.specs.Parts.{AreParts, has_part}
-use Rattle.path_groups.specs.Plan.{IsPathOf, IsBuiltOn}
+use Rattle.path_groups.specs.Plan.{IsBuiltOn}
 use Rattle.path_groups.proofs.Lists.{get_map}
 use Rattle.path_groups.proofs.Parts.{AreParts-used}
 use Rattle.path_groups.proofs.Uses.{uses-in}

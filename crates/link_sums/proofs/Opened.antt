@@ -1,12 +1,10 @@
 -- Sums in which every amount is 0.
-use Rattle.std.proofs.Common.{◌≡◌, ℕ, suc, ◌<◌, true, ◌==◌, List, [], ◌∷◌, length, sym, ◌∙◌, ap, arith, get_or, eqb-true, subst, inl, inr}
-use Rattle.std.specs.Prelude.{All}
-use Rattle.std.specs.List.{list_any}
-use Rattle.bwe_specs.specs.Paths.{PathGroup, PathGroups, path_group_at, path_group_count, goes_over, uses, load_on}
+use Rattle.std.proofs.Common.{◌≡◌, ℕ, List, length, sym, ◌∙◌, ap, arith, get_or}
+use Rattle.bwe_specs.specs.Paths.{PathGroups, path_group_at, path_group_count, load_on}
 use Rattle.bwe_specs.proofs.Bounds.{sum_below-zero}
-use Rattle.bwe_specs.proofs.Loads.{or-true, link_load-same, link_load-zero}
+use Rattle.bwe_specs.proofs.Loads.{link_load-same, link_load-zero}
 use Rattle.wan_topology.specs.Network.{Network}
-use Rattle.path_groups.specs.Plan.{IsPlan, IsPathOf, IsBuiltOn}
+use Rattle.path_groups.specs.Plan.{IsPlan, IsBuiltOn}
 use Rattle.path_groups.proofs.Uses.{uses-in}
 use Rattle.link_sums.specs.Sums.{amount_at, AreRowsOf, total_of, IsSummedOver}
 

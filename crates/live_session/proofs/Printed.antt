@@ -13,21 +13,20 @@ use Rattle.demand_book.specs.Fit.{IsInRange}
 use Rattle.allocator.specs.Frames.{task_count}
 use Rattle.last_reports.specs.Compaction.{last_report}
 use Rattle.last_reports.specs.Snapshot.{snapshot}
-use Rattle.plan_doc.specs.Document.{Accepted}
 use Rattle.plan_doc.specs.Plans.{plan_of}
 use Rattle.table_text.specs.TableText.{name_at}
 use Rattle.table_laws.proofs.Named.{all-reverse}
 use Rattle.live_lines.specs.Cutting.{Held, within, with_byte, lines_from, held_after, last_line, all_lines}
 use Rattle.live_lines.specs.Known.{Known}
 use Rattle.live_lines.specs.Meaning.{meaning_of}
-use Rattle.live_lines.specs.declared.line.LineMeaning.TheVariants.{NewReport, State}
+use Rattle.live_lines.specs.declared.line.LineMeaning.TheVariants.{NewReport}
 use Rattle.doc_names.specs.NameTexts.{NameTexts}
 use Rattle.change_text.specs.StateText.{report_words, report_text, report_line, state_text_of}
 use Rattle.change_text.specs.StateLaw.{AreReadable, is_plain}
 use Rattle.change_text.proofs.StateFacts.{lines_are_read}
 use Rattle.live_session.specs.Standing.{Standing}
 use Rattle.live_session.specs.Answers.{known_of, standing_in, answer_in}
-use Rattle.live_session.specs.Laws.{IsSaid, IsTakenUp, PrintedSnapshot}
+use Rattle.live_session.specs.Laws.{IsSaid, PrintedSnapshot}
 use Rattle.live_session.proofs.Lawful.{promised}
 
 -- ---- lines that line feeds end

@@ -1,6 +1,5 @@
 -- What contracts see of streams.
 use Rattle.std.specs.Prelude.{ℕ, List, Option}
-use Rattle.std.specs.declared.alloc.Global.{Global}
 use Rattle.live_stream.specs.Talk as talk
 use Rattle.live_stream.specs.Talk.{Talk, Faults}
 use Rattle.live_stream.specs.declared.event.Event.{Event}

@@ -5,7 +5,7 @@ use Rattle.bwe_specs.specs.declared.network.Closing.{Closing}
 use Rattle.bwe_specs.specs.Paths.{PathGroup, PathGroups, path_group_at, path_group_count, uses, is_open, current_path_group}
 use Rattle.bwe_specs.specs.Filling.{Wan, closed_links, current_path_group_of, stop_share}
 use Rattle.bwe_specs.proofs.Loads.{current-open}
-use Rattle.bwe_specs.proofs.Bounds.{none-lowest, lowest-none, some-lowest, lowest-some}
+use Rattle.bwe_specs.proofs.Bounds.{lowest-none, some-lowest, lowest-some}
 use Rattle.bwe_specs.proofs.StopShares.{none-more}
 use Rattle.mpfa_fill.specs.declared.standing.Standing.{Standing}
 use Rattle.mpfa_fill.specs.declared.standing.Standing.TheVariants.{Grows, Stopped}

@@ -1,9 +1,7 @@
 -- Link numbers that are in range where they are given are so in what contracts see.
-use Rattle.std.specs.Prelude.{ℕ, ◌<◌, List, All, Vec}
-use Rattle.std.proofs.Common.{Global}
+use Rattle.std.specs.Prelude.{ℕ, ◌<◌, List, All}
 use Rattle.std.proofs.lemmas.List.Elements.{All-map}
 use Rattle.bwe_specs.specs.Paths.{Path, PathGroup}
-use Rattle.path_groups.specs.declared.given.PathSpec.{PathSpec}
 use Rattle.path_groups.specs.declared.given.GroupSpec.{GroupSpec}
 use Rattle.path_groups.specs.Given.{Group, AreInRange, groups_of, group_of, path_group_of, path_of}
 

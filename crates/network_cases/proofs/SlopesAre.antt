@@ -1,5 +1,5 @@
 -- Groups that rise by a slope have values that never fall.
-use Rattle.std.proofs.Common.{◌≡◌, ℕ, zero, suc, ◌+◌, ◌-◌, ◌*◌, ◌≤◌, List, length, min, slice_index_or, arith, le_refl, mul-zero, mul-suc}
+use Rattle.std.proofs.Common.{ℕ, zero, suc, ◌-◌, ◌*◌, ◌≤◌, List, length, slice_index_or, arith, mul-zero, mul-suc}
 use Rattle.bwe_specs.specs.Bounded.{sum_below}
 use Rattle.mpfa_fill.specs.GroupValues.{AreGroupValues}
 use Rattle.network_cases.specs.declared.slopes.Slope.{Slope}

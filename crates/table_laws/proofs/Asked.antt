@@ -1,5 +1,5 @@
 -- What is handed down to a task is at most what it asks for.
-use Rattle.std.proofs.Common.{◌≡◌, ℕ, zero, suc, ◌<◌, ◌≤◌, List, [], ◌∷◌, ◌++◌, length, map, flat_map, zip, get_or, slice_index, slice_index_or, None, sym, ap, ◌∙◌, subst, arith, zero-add, le_refl}
+use Rattle.std.proofs.Common.{◌≡◌, ℕ, zero, suc, ◌<◌, ◌≤◌, List, [], ◌∷◌, ◌++◌, length, map, flat_map, zip, get_or, slice_index, None, sym, ap, ◌∙◌, subst, arith, zero-add, le_refl}
 use Rattle.std.specs.List.{All, AllZip}
 use Rattle.std.proofs.lemmas.List.{get_or-map}
 use Rattle.std.proofs.lemmas.List.FromFn.{get_or-map-range_with_len, get_or-range_with_len, length-map-range_with_len}
@@ -7,7 +7,7 @@ use Rattle.bwe_specs.specs.Distribution.{distribution, children_sum}
 use Rattle.bwe_specs.specs.Filling.{Wan, filling, group_amount}
 use Rattle.bwe_specs.specs.Reports.{numbers}
 use Rattle.bwe_specs.specs.Tree.{Weighted, Job, User, Cluster, task_value, task_values, job_value, job_values, user_value, user_values, cluster_value, group_value, job_limits, user_limits, cluster_limits}
-use Rattle.bwe_specs.specs.TreeFunctions.{IsJob, AreJobs, IsUser, AreUsers, IsCluster, AreClusters}
+use Rattle.bwe_specs.specs.TreeFunctions.{IsJob, IsUser, IsCluster, AreClusters}
 use Rattle.bwe_specs.specs.Values.{NeverFalls}
 use Rattle.bwe_specs.specs.Allocation.{Plan, wan_under, table_under}
 use Rattle.bwe_specs.proofs.HandedOut.{AreAtMost, distribution-at_most, Each, each-jobs, each-users, cluster-at}

@@ -1,8 +1,7 @@
 -- What holds at a closing of a list, and of the closings before it.
-use Rattle.std.proofs.Common.{◌≡◌, ℕ, Bool, true, false, not, ◌||◌, List, [], ◌∷◌, ◌++◌, length, Option, Some, None, is_none, refl, ◌∙◌, ap, nat_eq, slice_index_or, eq-eqb, if◌then◌else◌}
+use Rattle.std.proofs.Common.{◌≡◌, ℕ, Bool, true, false, ◌||◌, List, [], ◌∷◌, ◌++◌, Some, None, is_none, refl, ◌∙◌, ap, nat_eq, slice_index_or, eq-eqb, if◌then◌else◌}
 use Rattle.std.specs.List.{list_any}
 use Rattle.bwe_specs.specs.declared.network.Closing.{Closing}
-use Rattle.bwe_specs.specs.Paths.{PathGroup, PathGroups, uses, is_open, current_path_group}
 use Rattle.bwe_specs.specs.Filling.{Wan, closed_links, current_path_group_of, stop_share}
 use Rattle.bwe_specs.specs.RightClosings.{AreRight}
 use Rattle.bwe_specs.proofs.StopShares.{stop-moving}

@@ -1,8 +1,8 @@
 -- The limits of a cluster's tasks stand in a table at the numbers of the tasks.
-use Rattle.std.proofs.Common.{◌≡◌, ℕ, zero, suc, ◌+◌, ◌-◌, ◌<◌, List, [], ◌∷◌, ◌++◌, length, map, flat_map, zip, take, drop, min, get_or, slice_index, refl, sym, ◌∙◌, ap, ap₂, arith, zero-add}
+use Rattle.std.proofs.Common.{◌≡◌, ℕ, zero, suc, ◌+◌, ◌<◌, List, [], ◌∷◌, ◌++◌, length, map, flat_map, zip, take, drop, get_or, slice_index, refl, sym, ◌∙◌, ap, ap₂, arith, zero-add}
 use Rattle.std.proofs.lemmas.List.{take_at, drop_at, length-append, length-map, get_or-map, get_or_default, same_lists, map-append}
 use Rattle.std.proofs.lemmas.List.FromFn.{get_or-range_with_len}
-use Rattle.bwe_specs.specs.Distribution.{children_sum, common_share, handed_out, distribution}
+use Rattle.bwe_specs.specs.Distribution.{distribution}
 use Rattle.bwe_specs.specs.Reports.{numbers}
 use Rattle.bwe_specs.specs.Tree.{Job, User, Cluster, task_values, job_values, user_values, job_limits, user_limits, cluster_limits}
 use Rattle.table_laws.specs.Tasks.{JobTask, AreNumbered, tasks_of_job, tasks_of_user, tasks_of_cluster, tasks_of}

@@ -1,8 +1,7 @@
 -- Groups that meet at a link stand at one share there.
-use Rattle.std.proofs.Common.{◌≡◌, ℕ, zero, suc, ◌+◌, ◌<◌, List, [], ◌∷◌, length, map, sum, sum_by, slice_index_or, Some, refl, sym, ◌∙◌, ap, subst, arith, zero-add}
-use Rattle.std.proofs.lemmas.List.FromFn.{get_or-map-range_with_len, sum_by-map-range_with_len_more}
+use Rattle.std.proofs.Common.{◌≡◌, ℕ, zero, suc, ◌<◌, List, [], ◌∷◌, length, map, sum, slice_index_or, Some, refl, sym, ◌∙◌, ap, subst, arith, zero-add}
+use Rattle.std.proofs.lemmas.List.FromFn.{get_or-map-range_with_len}
 use Rattle.bwe_specs.specs.declared.network.Closing.{Closing}
-use Rattle.bwe_specs.specs.Bounded.{sum_below}
 use Rattle.bwe_specs.specs.Paths.{PathGroups, path_group_at, path_group_count}
 use Rattle.bwe_specs.specs.Filling.{Wan, State, filling, closed_links, current_path_group_of, group_stop, closed_by}
 use Rattle.bwe_specs.specs.RightClosings.{AreRight}

@@ -51,7 +51,8 @@ impl<'a> Lines<'a> {
         self.number
     }
 
-    /// The next line, `None` where no line feed is left.
+    /// The next line, `None` where no line feed is left. Of `a`, a line feed and `b` it is `a`, and
+    /// `b` is no line.
     #[tactic(auto, using(crate::proofs::LineFacts::line_next, crate::proofs::LineFacts::left_next, crate::proofs::LineFacts::no_line))]
     pub fn next_line(&mut self) -> Option<&'a [u8]>
         ensures some { IfSome result (λ line. self.old.lines ≡ line.now ∷ self.new.lines) }

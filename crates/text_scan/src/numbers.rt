@@ -16,7 +16,7 @@ pub fn is_number(text: &[u8]) -> bool
 }
 
 /// The number of one to 20 ASCII digits, `None` also where 64 bits do not hold it. Leading zeros
-/// are allowed.
+/// are allowed: `007` is 7.
 #[tactic(auto, unfolding(crate::specs::Numbers::number_of))]
 pub fn number_of(text: &[u8]) -> Option<u64>
     ensures { result ≡ spec.number_of text.now }
@@ -28,7 +28,7 @@ pub fn number_of(text: &[u8]) -> Option<u64>
 }
 
 /// The number of a text as numbers are printed: digits without leading zeros, at most
-/// 18,446,744,073,709,551,615.
+/// 18,446,744,073,709,551,615. `007` is none.
 #[tactic(auto, unfolding(crate::specs::Numbers::printed_number_of))]
 pub fn printed_number_of(text: &[u8]) -> Option<u64>
     ensures { result ≡ spec.printed_number_of text.now }

@@ -22,7 +22,8 @@ impl<'a> Model for Words<'a> {
 }
 
 impl<'a> Words<'a> {
-    /// All words of a line. An empty line has one word, which is empty.
+    /// All words of a line. An empty line has one word, which is empty; `post  r0` has three, of
+    /// which the second is.
     pub fn new(line: &'a str) -> Words<'a>
         ensures { result ≡ words_of line.entry.now }
     {

@@ -31,7 +31,8 @@ impl<T: Drop> From<AllocFailed<T>> for TiersError {
 /// The tier of each of so many groups: the part is one digit from 0 to 7 for each group and one
 /// line feed.
 ///
-/// It stops at the first byte at fault.
+/// It stops at the first byte at fault. Of two groups `01` and a line feed put the second into tier
+/// 1; `08` is at fault at byte 1.
 pub fn read_tiers(alloc: Global, part: &[u8], groups: u32) -> Result<Vec<u8>, TiersError>
     ensures tiers { IfOk result (λ tiers. tiers.items ≡ tiers_in groups part.now) }
     ensures one_each { IfOk result (λ tiers. length tiers.items ≡ groups) }

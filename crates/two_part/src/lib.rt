@@ -21,7 +21,8 @@ pub struct Parts {
 
 /// The parts of the bytes ("Two-part inputs", docs/FORMAT.md), `None` where they do not begin so.
 ///
-/// Leading zeros are allowed. A number that no 64 bits hold is more than the bytes that follow.
+/// Leading zeros are allowed. A number that no 64 bits hold is more than the bytes that follow. Of
+/// `2`, a line feed and `{}rest` the document lies from 2 to before 4, and `rest` stands behind it.
 pub fn find_parts(bytes: &[u8]) -> Option<Parts>
     ensures exact { result ≡ parts_of bytes.now }
     // The document lies where the bytes say.

@@ -1,4 +1,4 @@
-use Rattle.std.proofs.Common.{◌≡◌, ◌++◌, List, sym, subst, rules}
+use Rattle.std.proofs.Common.{◌++◌, List, sym, subst, rules}
 use Rattle.at_once.specs.Calls.{CallsEach}
 use Rattle.at_once.proofs.Calling.{calls_both}
 use Rattle.at_once.proofs.+halves.Goals as goal

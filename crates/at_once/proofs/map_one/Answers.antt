@@ -1,4 +1,4 @@
-use Rattle.std.proofs.Common.{◌≡◌, ◌<◌, ◌++◌, ◌∷◌, [], List, length, set, sym, subst, ap, ◌∙◌, arith, rules, refl}
+use Rattle.std.proofs.Common.{◌<◌, ◌++◌, ◌∷◌, [], List, length, set, sym, subst, ap, ◌∙◌, rules}
 use Rattle.at_once.specs.Calls.{CallsEach}
 use Rattle.at_once.proofs.Calling.{calls_single}
 use Rattle.at_once.proofs.map_one.Goals as goal

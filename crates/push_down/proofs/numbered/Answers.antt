@@ -1,7 +1,5 @@
-use Rattle.std.proofs.Common.{refl, ◌≡◌, ℕ, ◌+◌, ◌<◌, ◌++◌, ◌∷◌, [], List, length, get_or, ap, ap₂, sym, ◌∙◌, arith}
-use Rattle.std.specs.List.{range_with_len}
-use Rattle.std.proofs.lemmas.List.{map_push, map-id, take_more}
-use Rattle.std.proofs.lemmas.List.FromFn.{map-range_with_len_more}
+use Rattle.std.proofs.Common.{ℕ, ◌<◌, ◌++◌, ◌∷◌, [], List, length, get_or, ap, ap₂, sym, ◌∙◌, arith}
+use Rattle.std.proofs.lemmas.List.{map_push, take_more}
 use Rattle.push_down.specs.declared.TaskLimit.{TaskLimit}
 use Rattle.push_down.specs.Limits.{tasks_in, limits_in}
 use Rattle.push_down.proofs.numbered.Goals as goal

@@ -1,4 +1,4 @@
-use Rattle.std.proofs.Common.{◌≡◌, ℕ, ◌++◌, ◌<◌, List, Vec, Result, Ok, length, get_or, map, take, drop, sym, subst, ap, ◌∙◌, arith}
+use Rattle.std.proofs.Common.{◌≡◌, ℕ, ◌++◌, ◌<◌, List, Result, Ok, length, get_or, map, take, drop, sym, subst, ap, ◌∙◌, arith}
 use Rattle.std.specs.Prelude.{IfErr}
 use Rattle.std.specs.List.{All}
 use Rattle.std.proofs.lemmas.List.{take_at}

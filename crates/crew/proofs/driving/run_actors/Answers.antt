@@ -1,12 +1,7 @@
-use Rattle.std.proofs.Common.{◌≡◌, ℕ, ◌+◌, List, Vec, Result, Ok, length, get_or, sym, subst, ap, ◌∙◌, arith}
-use Rattle.std.specs.Prelude.{IfOk}
-use Rattle.std.specs.declared.alloc.Global.{Global}
+use Rattle.std.proofs.Common.{◌≡◌, ℕ, ◌+◌, Ok, get_or, sym, subst, ◌∙◌, arith}
 use Rattle.std.proofs.lemmas.Result.{IfOk-at_ok}
-use Rattle.bwe_specs.specs.declared.report.Report.{Report}
 use Rattle.board.specs.Reporting.{Reporting}
-use Rattle.board.specs.Reading.{Reading}
-use Rattle.crew.specs.Reporters.{IsReady, HasReported}
-use Rattle.crew_readers.specs.Readers.{HasLines}
+use Rattle.crew.specs.Reporters.{IsReady}
 use Rattle.crew.proofs.Answering.{reported_at, lines_at, made_at}
 use Rattle.crew.proofs.driving.run_actors.Goals as goal
 

@@ -1,4 +1,4 @@
-use Rattle.std.proofs.Common.{◌≡◌, ◌++◌, [], ◌∷◌, None, refl, sym, ◌∙◌, ap, append-nil, append_assoc}
+use Rattle.std.proofs.Common.{◌≡◌, ◌++◌, [], ◌∷◌, None, sym, ◌∙◌, ap, append-nil, append_assoc}
 use Rattle.last_reports.proofs.Putting.{given-more}
 use Rattle.last_reports.proofs.kept.push_told.Goals as goal
 use Rattle.last_reports.proofs.kept.push_told.Goals.{in-Some+in_ok-push, in_default}

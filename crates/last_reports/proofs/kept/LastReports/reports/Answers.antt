@@ -1,4 +1,4 @@
-use Rattle.std.proofs.Common.{◌++◌, filter_map, ◌∙◌, ap, ap₂}
+use Rattle.std.proofs.Common.{◌++◌, filter_map, ◌∙◌, ap₂}
 use Rattle.last_reports.proofs.Putting.{both, given-snapshot}
 use Rattle.last_reports.proofs.kept.LastReports.reports.Goals as goal
 

@@ -1,4 +1,4 @@
-use Rattle.std.proofs.Common.{◌≡◌, ◌∙◌, ◌+◌, ◌++◌, List, ℕ, arith, ap, sym, append-nil, take, drop, length-drop, map}
+use Rattle.std.proofs.Common.{arith, append-nil, length-drop}
 use Rattle.std.proofs.lemmas.Grind.{common_steps}
 use Rattle.bwe_io.proofs.Known.{given-more}
 use Rattle.live_stream.proofs.memory.MemoryStream.take_piece.Goals as goal

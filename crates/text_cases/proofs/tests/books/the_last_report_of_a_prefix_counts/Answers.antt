@@ -1,4 +1,4 @@
-use Rattle.std.proofs.Common.{◌≡◌, ◌<◌, length, arith, ap, ◌∙◌, lit<, ℕ, List}
+use Rattle.std.proofs.Common.{length, arith, ap}
 use Rattle.demand_book.specs.Book.{Book}
 use Rattle.text_cases.proofs.tests.books.the_last_report_of_a_prefix_counts.Goals as goal
 

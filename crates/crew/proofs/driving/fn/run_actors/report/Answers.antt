@@ -1,4 +1,4 @@
-use Rattle.std.proofs.Common.{◌≡◌, List, Vec, sym, subst}
+use Rattle.std.proofs.Common.{List, Vec, sym, subst}
 use Rattle.std.specs.declared.alloc.Global.{Global}
 use Rattle.bwe_specs.specs.declared.report.Report.{Report}
 use Rattle.crew.specs.Reporters.{IsReady}

@@ -1,0 +1,2 @@
+pub mod AuditReply
+pub mod Known

@@ -1,0 +1,49 @@
+//! The two parts of the input of a line: a document, and what stands behind it.
+
+ghost use Rattle.std.specs.Prelude.{◌≡◌, IfOk};
+ghost use Rattle.plan_doc.specs.RefusalLines.{error_line};
+ghost use Rattle.opened_document.specs.Parted.{AreRead, accepted_parts, no_parts_reply};
+
+use crate::refusal::refused;
+use bwe_specs::OutOfMemory;
+use one_run::Answer;
+use plan_doc::{Document, read_document};
+use std::alloc::Global;
+use two_part::find_parts;
+
+/// The parts of an input, or what is written for a refused one.
+#[derive(Drop)]
+pub enum Parted<'a> {
+    Read { document: Document, part: &'a [u8] },
+    Refused { answer: Answer },
+}
+
+/// The document of the input and the bytes behind it. An input without parts is refused before a
+/// document is read.
+pub fn read_parts(alloc: Global, input: &[u8]) -> Result<Parted<'_>, OutOfMemory>
+    ensures { IfOk result (AreRead (accepted_parts input.now)) }
+{
+    let Some(parts) = find_parts(input) else {
+        let answer = no_parts(alloc)?;
+        return Ok(Parted::Refused { answer });
+    };
+    let (front, part) = (&input[..parts.end as usize], &input[parts.end as usize..]);
+    match read_document(alloc, &front[parts.start as usize..]) {
+        Ok(document) => Ok(Parted::Read { document, part }),
+        Err(error) => {
+            let answer = refused(alloc, &error)?;
+            Ok(Parted::Refused { answer })
+        }
+    }
+}
+
+// The line for an input without parts, with status 3.
+fn no_parts(alloc: Global) -> Result<Answer, OutOfMemory>
+    ensures { IfOk result (λ answer.
+        answer ≡ no_parts_reply) }
+{
+    Ok(Answer {
+        status: 3,
+        text: format!(in alloc; "refused 14 parts\n")?.into_bytes(),
+    })
+}
