@@ -13,7 +13,7 @@ use crate::steps::LogState;
 use board_log::{Bases, Beginning, OpenedLog, OpenedRoll, Roll, WholeLog};
 use board_pair::{Ack, News, Pair, Poster, Profile, ReaderPass, seat_all};
 use board_workshop::Workshop;
-use bwe_specs::OutOfMemory;
+use bwe_specs::{MAX_READERS, MAX_REPORTERS, OutOfMemory};
 use demand_book::{Maker, Posted};
 use std::alloc::Global;
 use std::marker::{Model, PhantomData};
@@ -67,9 +67,9 @@ impl<M: Maker, N: Profile<M::Table>> Opened<M, N> {
         requires tasks { M.plan_tasks (M.plan maker) ≡ N.tasks }
         requires links { M.plan_links (M.plan maker) ≡ N.links }
         requires reporters { reporters ≡ N.reporters }
-        requires few_reporters { reporters ≤ 64 }
+        requires few_reporters { reporters ≤ MAX_REPORTERS }
         requires some_readers { 1 ≤ readers }
-        requires few_readers { readers ≤ 64 }
+        requires few_readers { readers ≤ MAX_READERS }
         ensures readers { IfOk result (λ opened. opened.readers ≡ readers) }
     {
         Ok(Opened {

@@ -7,7 +7,7 @@ ghost use Rattle.board_log.specs.Laws.{StandIn};
 
 use board_log::{Bases, Beginning, Member, Roll};
 use board_pair::Ack;
-use bwe_specs::{OutOfMemory, Report};
+use bwe_specs::{MAX_REPORTS, OutOfMemory, Report};
 use std::marker::Model;
 
 /// A reporter's pass: its number, its own reports with their places, and the log that it has seen.
@@ -84,7 +84,7 @@ impl<B: Bases> ReporterPass<B> {
     pub(crate) fn send(&mut self, roll: &mut Roll<B>, piece: &Vec<Report>, whole: Beginning<B>)
         requires by { All (IsBy self.old.number) piece.now.items }
         requires whole { whole ≡ roll.old.log ++ piece.now.items }
-        requires room { length whole ≤ 200_000 }
+        requires room { length whole ≤ MAX_REPORTS }
         ensures log { roll.new.log ≡ whole }
         ensures members { roll.new.members ≡ roll.old.members }
         ensures number { self.new.number ≡ self.old.number }

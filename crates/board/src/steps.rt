@@ -475,7 +475,7 @@ fn grow<B: Bases>(
     reports: &[Report],
 ) -> Result<Vec<Report>, OutOfMemory>
     requires whole { whole.old ≡ log.old.items }
-    requires room { length log.old.items ≤ 200_000 }
+    requires room { length log.old.items ≤ MAX_REPORTS }
     ensures piece { IfOk result (λ piece. piece.items ≡ reports.now) }
     ensures whole { whole.new ≡ log.new.items }
     ensures ok { OnOk result (log.new.items ≡ log.old.items ++ reports.now) }

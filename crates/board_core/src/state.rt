@@ -235,7 +235,7 @@ fn absorb_upto<M: Maker>(
 ) -> Result<(), OutOfMemory>
     requires upto { (taken.old ≤ upto) × (upto ≤ length log.now) }
     requires absorbed { M.absorbed maker.old (take taken.old log.now) }
-    requires room { length log.now ≤ 200_000 }
+    requires room { length log.now ≤ MAX_REPORTS }
     requires fit { All (IsFit (M.plan_tasks (M.plan maker.old)) (M.plan_links (M.plan maker.old)))
         log.now }
     ensures plan { M.plan maker.new ≡ M.plan maker.old }

@@ -16,7 +16,7 @@ ghost use Rattle.board_core.specs.Core.{IsAllowed};
 ghost use Rattle.board_log.specs.Plan.{NamesTables};
 
 use board_log::{Bases, Beginning, Profile};
-use bwe_specs::{OutOfMemory, Report};
+use bwe_specs::{MAX_REPORTS, OutOfMemory, Report};
 use demand_book::Maker;
 use std::alloc::Global;
 use std::collections::VecDeque;
@@ -69,7 +69,7 @@ impl<M: Maker, N: Profile<M::Table>, B: Bases> Workshop<M, N, B> {
     /// Sees the log as it stands. Only what is new in it is copied.
     pub fn look(&mut self, whole: Beginning<B>, log: &[Report]) -> Result<(), OutOfMemory>
         requires whole { whole ≡ log.now }
-        requires room { length log.now ≤ 200_000 }
+        requires room { length log.now ≤ MAX_REPORTS }
         requires allowed { All (IsAllowed N.reporters (IsFit N.tasks N.links)) log.now }
         ensures ok { OnOk result (self.new ≡ log.now) }
         ensures refused { OnErr result (self.new ≡ self.old) }
@@ -127,7 +127,7 @@ fn absorb_all<M: Maker>(
     waiting: &mut VecDeque<Report>,
 ) -> Result<(), OutOfMemory>
     requires absorbed { (taken : List Report) × M.absorbed maker.old taken
-        × (length taken + length waiting.old.items ≤ 200_000) }
+        × (length taken + length waiting.old.items ≤ MAX_REPORTS) }
     requires fit { All (IsFit (M.plan_tasks (M.plan maker.old)) (M.plan_links (M.plan maker.old)))
         waiting.old.items }
     ensures plan { M.plan maker.new ≡ M.plan maker.old }

@@ -4,7 +4,7 @@ ghost use Rattle.std.specs.Prelude.{◌≤◌, IfOk};
 ghost use Rattle.plan_doc.specs.Document.{document as document_of};
 ghost use Rattle.bwe_cli.specs.RunLine.{IsRunReply};
 
-use bwe_specs::{MAX_READERS, OutOfMemory};
+use bwe_specs::{MAX_READERS, MAX_READS, OutOfMemory};
 use crew_actors::Gate;
 use document_run::run_document;
 use one_run::Answer;
@@ -26,7 +26,7 @@ pub(crate) fn run<G: Gate + Sync, R: Threads + Wait + Sync>(
 ) -> Result<Answer, OutOfMemory>
     requires some_readers { 1 ≤ readers }
     requires few_readers { readers ≤ MAX_READERS }
-    requires few_reads { reads ≤ 1000 }
+    requires few_reads { reads ≤ MAX_READS }
     ensures { IfOk result (λ answer. IsRunReply readers reads (document_of input.now) answer) }
 {
     let document = match read_document(alloc, input) {

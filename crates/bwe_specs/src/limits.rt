@@ -38,3 +38,15 @@ pub const MAX_REPORTERS: u32 = 64;
 
 /// The greatest number of readers.
 pub const MAX_READERS: u32 = 64;
+
+/// The greatest number of reads that each reader of a run makes, but for the one at its end.
+pub const MAX_READS: u32 = 1_000;
+
+/// The greatest window of an estimate: how many samples of a task an estimator keeps.
+pub const MAX_WINDOW: u32 = 1_000;
+
+/// The least headroom, in hundredths: an estimate is the greatest sample itself.
+pub const MIN_HEADROOM: u32 = 100;
+
+/// The greatest headroom, in hundredths: an estimate is ten times the greatest sample.
+pub const MAX_HEADROOM: u32 = 1_000;

@@ -3,7 +3,8 @@
 use std::alloc::{AllocError, AllocFailed};
 use thiserror::Error;
 
-/// Memory was wanting. Nothing ties this answer to a refused growth; every object that the call was lent is as it was.
+/// Memory was wanting. Nothing ties this answer to a refused growth; every object that the call was
+/// lent is as it was.
 #[derive(Clone, Copy, Debug, PartialEq, Eq, Error)]
 #[error("out of memory")]
 pub struct OutOfMemory;

@@ -25,7 +25,8 @@ task_at tasks number = slice_index_or tasks number (record { weight = 0; demand 
 abbrev pub with_demand : Tasks → ℕ → ℕ → Tasks
 with_demand sum number demand =
     record sum {
-      tasks = slice_set sum.tasks number (record { weight = (task_at sum.tasks number).weight; demand = demand });
+      tasks = slice_set sum.tasks number
+          (record { weight = (task_at sum.tasks number).weight; demand = demand });
     }
 
 -- a task of the weight, which asks for nothing

@@ -37,7 +37,8 @@ impl Model for CappedSum {
     ghost view = { λ sum. record { function = sum.function; tasks = sum.tasks.items } };
 
     ghost invariant = { λ sum.
-        IsCappedSum sum.tasks.items sum.ranked.items sum.before.items sum.when_full.items sum.is_fresh };
+        IsCappedSum sum.tasks.items sum.ranked.items sum.before.items sum.when_full.items
+        sum.is_fresh };
 }
 
 impl CappedSum {

@@ -10,7 +10,10 @@ ghost use Rattle.command_line.specs.Matches.{app_to_bulk, bare_app, bwe_app, est
 
 use crate::CommandLine;
 use crate::number::{any_number, number_in};
-use bwe_specs::OutOfMemory;
+use bwe_specs::{
+    MAX_GROUPS, MAX_HEADROOM, MAX_READERS, MAX_READS, MAX_SHARE, MAX_TASKS, MAX_WINDOW,
+    MIN_HEADROOM, OutOfMemory,
+};
 use clap::error::ErrorKind;
 use clap::{Arg, ArgAction, ArgMatches, Command};
 use std::alloc::{AllocError, Global};
@@ -201,8 +204,8 @@ fn line_of_subcommand(name: &str, given: &ArgMatches<'_>) -> Option<CommandLine>
 fn run_line(given: &ArgMatches<'_>) -> Option<CommandLine>
     ensures { result ≡ line_of_given (given_in (rows_of (found_of given.now))) }
 {
-    let readers = number_given(given.get_strs("readers"), 2, 1, 64)?;
-    let reads = number_given(given.get_strs("reads"), 4, 0, 1_000)?;
+    let readers = number_given(given.get_strs("readers"), 2, 1, MAX_READERS)?;
+    let reads = number_given(given.get_strs("reads"), 4, 0, MAX_READS)?;
     Some(CommandLine::Run { readers, reads })
 }
 
@@ -242,8 +245,8 @@ fn size_in(seed: &str, groups: &str, tasks: &str) -> Option<Size>
     ensures { result ≡ size_in_texts seed.now groups.now tasks.now }
 {
     let seed = any_number(seed)?;
-    let groups = number_in(groups, 1, 1_024)?;
-    let tasks = number_in(tasks, groups, 20_000)?;
+    let groups = number_in(groups, 1, MAX_GROUPS as u32)?;
+    let tasks = number_in(tasks, groups, MAX_TASKS as u32)?;
     Some(Size {
         seed,
         groups,
@@ -264,8 +267,8 @@ fn estimate_line(given: &ArgMatches<'_>) -> Option<CommandLine>
 fn estimate_in(window: &str, headroom: &str) -> Option<CommandLine>
     ensures { result ≡ estimate_in_texts window.now headroom.now }
 {
-    let window = number_in(window, 1, 1_000)?;
-    let headroom = number_in(headroom, 100, 1_000)?;
+    let window = number_in(window, 1, MAX_WINDOW)?;
+    let headroom = number_in(headroom, MIN_HEADROOM, MAX_HEADROOM)?;
     Some(CommandLine::Estimate { window, headroom })
 }
 
@@ -281,6 +284,6 @@ fn levels_line(given: &ArgMatches<'_>) -> Option<CommandLine>
 fn levels_in(share: &str) -> Option<CommandLine>
     ensures { result ≡ levels_in_text share.now }
 {
-    let share = u64::from(number_in(share, 0, 1_000_000_000)?);
+    let share = u64::from(number_in(share, 0, MAX_SHARE as u32)?);
     Some(CommandLine::Levels { share })
 }

@@ -12,7 +12,7 @@ ghost use Rattle.crew_readers.specs.Readers.{HasLines, HaveLines, HaveEnded};
 
 use at_once::all_at_once;
 use board::{AllocatorPass, Bases, Board, Profile, ReaderPass, ReportError, ReporterPass};
-use bwe_specs::{OutOfMemory, Report};
+use bwe_specs::{MAX_READS, MAX_REPORTS, OutOfMemory, Report};
 use crew_actors::{Gate, make_rounds, report_and_settle};
 use crew_log::{CrewLog, ReadLine};
 use crew_readers::{NewestAck, end_all, read_lines};
@@ -57,8 +57,8 @@ where
     requires few_readers { length readers.old < 2 ^ 32 }
     requires readers { All (IsNewReader M.Table.covers N.belongs) readers.old }
     requires scripts { AreOfReporters N.tasks N.links scripts.now }
-    requires room { reports_in scripts.now ≤ 200_000 }
-    requires reads { reads ≤ 1_000 }
+    requires room { reports_in scripts.now ≤ MAX_REPORTS }
+    requires reads { reads ≤ MAX_READS }
     ensures legal { IfOk result (IsLegalCrewLog N.belongs M.Table.total_of N.tasks N.links
         scripts.now (length readers.old) reads) }
     // No reader's final log is longer than the history.
@@ -127,7 +127,7 @@ where
     <M::Table as Posted>::Change: Send + Sync,
     requires ready { AreReady N.reporters N.tasks N.links scripts.now reporters.old }
     requires few_readers { length readers.old < 2 ^ 32 }
-    requires few_reads { reads ≤ 1_000 }
+    requires few_reads { reads ≤ MAX_READS }
     requires readers { All (IsNewReader M.Table.covers N.belongs) readers.old }
     ensures reported { IfOk result (λ answers. HaveReported scripts.now reporters.old
         answers.reported.items reporters.new) }
@@ -159,13 +159,13 @@ where
         Vec<ReadLine>,
         OutOfMemory,
     >
-        requires { (number < 2 ^ 32) × (reads ≤ 1_000) × IsNewReader M.Table.covers N.belongs
+        requires { (number < 2 ^ 32) × (reads ≤ MAX_READS) × IsNewReader M.Table.covers N.belongs
             pass.old }
         ensures { IfOk result (λ read. HasLines M.Table.covers N.belongs M.Table.total_of reads
             read.items pass.new) }
     { read_lines(rt, alloc, newest, gate, number as u32, reads, pass) };
     let rounds = |_: usize, pass: &mut AllocatorPass<B>| -> Result<(), OutOfMemory>
-        requires { reads ≤ 1_000 }
+        requires { reads ≤ MAX_READS }
         ensures { OnOk result (HasMade (reads + 1) pass.old pass.new) }
     { make_rounds(rt, alloc, board, gate, reads + 1, pass) };
     let (reported, (read, made)) = all_at_once(

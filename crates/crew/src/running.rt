@@ -6,7 +6,7 @@ ghost use Rattle.crew_log.specs.Scripts.{AreOfReporters, reports_in};
 
 use crate::driving::drive;
 use board::{Bases, Opened, Profile};
-use bwe_specs::{OutOfMemory, Report};
+use bwe_specs::{MAX_READERS, MAX_READS, MAX_REPORTERS, MAX_REPORTS, OutOfMemory, Report};
 use crew_actors::Gate;
 use crew_log::CrewLog;
 use demand_book::{Maker, Posted};
@@ -36,13 +36,13 @@ where
     <M::Table as Posted>::Frame: Send + Sync,
     <M::Table as Posted>::Change: Send + Sync,
     requires absorbed { M.absorbed maker [] }
-    requires few_scripts { length scripts.now ≤ 64 }
+    requires few_scripts { length scripts.now ≤ MAX_REPORTERS }
     requires scripts { AreOfReporters (M.plan_tasks (M.plan maker)) (M.plan_links (M.plan maker))
         scripts.now }
-    requires room { reports_in scripts.now ≤ 200_000 }
+    requires room { reports_in scripts.now ≤ MAX_REPORTS }
     requires some_readers { 1 ≤ readers }
-    requires few_readers { readers ≤ 64 }
-    requires few_reads { reads ≤ 1_000 }
+    requires few_readers { readers ≤ MAX_READERS }
+    requires few_reads { reads ≤ MAX_READS }
     ensures legal { IfOk result (IsLegalCrewLog
         (λ reports table. table ≡ M.table_of (M.plan maker) reports) M.Table.total_of
         (M.plan_tasks (M.plan maker)) (M.plan_links (M.plan maker)) scripts.now readers reads) }
@@ -76,12 +76,12 @@ where
     requires tasks { M.plan_tasks (M.plan maker) ≡ N.tasks }
     requires links { M.plan_links (M.plan maker) ≡ N.links }
     requires reporters { length scripts.now ≡ N.reporters }
-    requires few_scripts { length scripts.now ≤ 64 }
+    requires few_scripts { length scripts.now ≤ MAX_REPORTERS }
     requires scripts { AreOfReporters N.tasks N.links scripts.now }
-    requires room { reports_in scripts.now ≤ 200_000 }
+    requires room { reports_in scripts.now ≤ MAX_REPORTS }
     requires some_readers { 1 ≤ readers }
-    requires few_readers { readers ≤ 64 }
-    requires few_reads { reads ≤ 1_000 }
+    requires few_readers { readers ≤ MAX_READERS }
+    requires few_reads { reads ≤ MAX_READS }
     ensures legal { IfOk result (IsLegalCrewLog N.belongs M.Table.total_of N.tasks N.links
         scripts.now readers reads) }
     ensures closed { IfOk result IsClosed }
@@ -115,9 +115,9 @@ where
     requires table { opened.table ≡ B.table }
     requires reporters { length scripts.now ≡ N.reporters }
     requires scripts { AreOfReporters N.tasks N.links scripts.now }
-    requires room { reports_in scripts.now ≤ 200_000 }
-    requires few_readers { opened.readers ≤ 64 }
-    requires few_reads { reads ≤ 1_000 }
+    requires room { reports_in scripts.now ≤ MAX_REPORTS }
+    requires few_readers { opened.readers ≤ MAX_READERS }
+    requires few_reads { reads ≤ MAX_READS }
     ensures legal { IfOk result (IsLegalCrewLog N.belongs M.Table.total_of N.tasks N.links
         scripts.now opened.readers reads) }
     ensures closed { IfOk result IsClosed }

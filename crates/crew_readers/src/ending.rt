@@ -10,7 +10,7 @@ use crate::actor::Gate;
 use crate::reading::read_to_the_end;
 use board_log::Bases;
 use board_pair::{FinalAck, Profile, ReaderPass};
-use bwe_specs::OutOfMemory;
+use bwe_specs::{MAX_READS, OutOfMemory};
 use crew_log::{ReadLine, ReaderLog};
 use demand_book::Posted;
 use std::alloc::Global;
@@ -27,7 +27,7 @@ pub fn end_all<T: Posted, N: Profile<T>, B: Bases, G: Gate>(
     passes: &mut [ReaderPass<T, N, B>],
 ) -> Result<Vec<ReaderLog>, OutOfMemory>
     requires numbers { length passes.old < 2 ^ 32 }
-    requires few_reads { reads ≤ 1_000 }
+    requires few_reads { reads ≤ MAX_READS }
     requires lines { HaveLines T.covers N.belongs T.total_of reads lines.items passes.old }
     ensures readers { IfOk result (λ readers. All
         (IsReaderOf N.belongs T.total_of (IsAllowed N.reporters (IsFit N.tasks N.links)) reads

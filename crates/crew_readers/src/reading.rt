@@ -186,7 +186,8 @@ pub fn read_to_the_end<T: Posted, N: Profile<T>, B: Bases, G: Gate>(
     requires lines { All (IsLineOf N.belongs T.total_of pass.old.log) reads.items }
     requires never_back { NeverGoBack 0 reads.items (T.covers pass.old.table) }
     ensures reader { IfOk result (IsReaderOf
-        N.belongs T.total_of (IsAllowed N.reporters (IsFit N.tasks N.links)) (length reads.items) end.now) }
+        N.belongs T.total_of (IsAllowed N.reporters (IsFit N.tasks N.links)) (length reads.items)
+        end.now) }
     ensures log { IfOk result (λ reader. pass.new.log ≡ end.now ++ reader.beyond.items) }
     ensures closed { IfOk result (λ reader. reader.length ≡ length end.now) }
     ensures floor { IfOk result (λ reader. T.covers pass.new.table ≡ reader.last.prefix) }

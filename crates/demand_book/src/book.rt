@@ -45,7 +45,11 @@ impl Model for DemandBook {
     ghost Value = { Book };
 
     ghost view = { λ book.
-        record { tasks = length book.task_rows.items; capacities = book.capacities.items; reports = book.reports.items } };
+        record {
+          tasks = length book.task_rows.items;
+          capacities = book.capacities.items;
+          reports = book.reports.items;
+        } };
 
     ghost invariant = { λ book. AreKept
         (record {

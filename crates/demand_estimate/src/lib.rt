@@ -8,19 +8,10 @@
 ghost use Rattle.std.specs.Prelude.{◌≡◌, ◌≤◌, List, ℕ, [], ◌∷◌, ◌++◌, length, IfOk};
 ghost use Rattle.demand_estimate.specs.Estimate as spec;
 
-use bwe_specs::{MAX_AMOUNT, OutOfMemory};
+use bwe_specs::{MAX_AMOUNT, MAX_HEADROOM, MAX_WINDOW, MIN_HEADROOM, OutOfMemory};
 use circular_buffer::HeapCircularBuffer;
 use std::alloc::Global;
 use std::marker::Model;
-
-/// The greatest number of samples that an estimator keeps.
-pub const MAX_WINDOW: u32 = 1_000;
-
-/// The least headroom, with which an estimate is the greatest sample itself.
-pub const MIN_HEADROOM: u32 = 100;
-
-/// The greatest headroom: ten times the greatest sample.
-pub const MAX_HEADROOM: u32 = 1_000;
 
 /// The last samples of one task. Samples and estimates are in kilobits per second, the headroom in
 /// hundredths.
@@ -33,7 +24,7 @@ pub struct Estimator {
 impl Model for Estimator {
     ghost use Rattle.std.specs.Prelude.{◌≤◌};
     ghost use Rattle.std.specs.Prelude.{All, length};
-    ghost use Rattle.bwe_specs.specs.declared.limits.TheConstants.{MAX_AMOUNT};
+    ghost use Rattle.bwe_specs.specs.declared.limits.TheConstants.{MAX_AMOUNT, MAX_HEADROOM};
     ghost use Rattle.demand_estimate.specs.Estimator.{Kept};
 
     ghost Value = { Kept };
@@ -46,7 +37,7 @@ impl Model for Estimator {
         } };
 
     ghost invariant = { λ estimator. All (λ amount. amount ≤ MAX_AMOUNT) estimator.kept.items
-        × (estimator.headroom ≤ 1000) };
+        × (estimator.headroom ≤ MAX_HEADROOM) };
 }
 
 impl Estimator {

@@ -24,7 +24,8 @@ impl Model for DocumentSize {
 
     ghost view = { λ size. record { seed = size.seed; groups = size.groups; tasks = size.tasks } };
 
-    ghost invariant = { λ size. IsSize (record { seed = size.seed; groups = size.groups; tasks = size.tasks }) };
+    ghost invariant = { λ size.
+        IsSize (record { seed = size.seed; groups = size.groups; tasks = size.tasks }) };
 }
 
 impl DocumentSize {

@@ -6,7 +6,7 @@ ghost use Rattle.crew_log.specs.LegalCrewLog.{IsClosed};
 ghost use Rattle.document_run.specs.Runs.{IsRunOf};
 
 use allocator::Allocator;
-use bwe_specs::OutOfMemory;
+use bwe_specs::{MAX_READERS, MAX_READS, OutOfMemory};
 use crew::run_crew;
 use crew_actors::Gate;
 use crew_log::CrewLog;
@@ -30,8 +30,8 @@ pub fn run_document<G: Gate + Sync, R: Threads + Wait + Sync>(
 ) -> Result<(CrewLog<LimitTable>, Names), OutOfMemory>
     requires usable { IsUsable document }
     requires some_readers { 1 ≤ readers }
-    requires few_readers { readers ≤ 64 }
-    requires few_reads { reads ≤ 1_000 }
+    requires few_readers { readers ≤ MAX_READERS }
+    requires few_reads { reads ≤ MAX_READS }
     ensures log { IfOk result (λ made. IsRunOf
         (record {
           top = document.tree.top;

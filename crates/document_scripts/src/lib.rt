@@ -21,7 +21,8 @@ pub fn scripts_of_document(
 ) -> Result<Vec<Vec<Report>>, OutOfMemory>
     requires { IsUsable document.now }
     ensures split { IfOk result (λ scripts.
-        items_of scripts.items ≡ scripts_of (reporter_count document.now) document.now.script.items) }
+        items_of scripts.items
+        ≡ scripts_of (reporter_count document.now) document.now.script.items) }
     ensures few { IfOk result (λ scripts. length scripts.items ≤ 64) }
     ensures scripts { IfOk result (λ scripts.
         AreOfReporters (tasks_in document.now) (link_count document.now) scripts.items) }

@@ -139,7 +139,11 @@ abbrev pub world_after : {T : Type 0} → (T → ℕ) → (T → ℕ → ℕ) �
 world_after covers limit_at world (event.Post table) = record world { posted = table }
 world_after covers limit_at world (event.Send region) =
     record world {
-      downs = world.downs ++ record { region = region; limits = limits_in covers limit_at world.posted (tasks_at world region) } ∷ [];
+      downs = world.downs
+          ++ record {
+            region = region;
+            limits = limits_in covers limit_at world.posted (tasks_at world region);
+          } ∷ [];
     }
 world_after covers limit_at world (event.Deliver message) =
     let down = down_at world message in

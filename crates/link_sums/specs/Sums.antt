@@ -1,6 +1,7 @@
 -- Amounts by group and place, and the loads that they put on links.
 use Rattle.std.specs.Prelude.{◌≡◌, ℕ, ◌+◌, ◌<◌, ◌≤◌, List, [], length, map, slice_index, slice_index_or, true, Vec}
 use Rattle.std.proofs.Common.{Global}
+use Rattle.bwe_specs.specs.declared.limits.TheConstants.{MAX_TOTAL}
 use Rattle.bwe_specs.specs.Bounded.{sum_below}
 use Rattle.path_groups.specs.Plan.{IsPlan}
 use Rattle.bwe_specs.specs.Paths.{PathGroups, path_group_at, path_group_count, uses, link_load}
@@ -40,7 +41,7 @@ pub record Sums : Type 0 where
 pub record IsSummedOver (groups : List PathGroups) (sums : Sums) : Type 0 where
   pub plan : IsPlan groups
   pub rows : AreRowsOf groups sums.amounts
-  pub total : total_of groups sums.amounts ≤ 20_000_000_000_000_000
+  pub total : total_of groups sums.amounts ≤ MAX_TOTAL
   pub links : (group place link : ℕ) → uses (path_group_at groups group place) link ≡ true
       → link < length sums.loads
   pub loads : (link : ℕ) → link < length sums.loads

@@ -195,8 +195,8 @@ impl Known {
     }
 
     fn is_by_owner(&self, target: Target, reporter: u32) -> bool
-        ensures { result ≡
-            owners.is_owner (owners.owner_of self.now.task_owners self.now.link_owners target) reporter }
+        ensures { result ≡ owners.is_owner
+            (owners.owner_of self.now.task_owners self.now.link_owners target) reporter }
     {
         let owner = owner_of(&self.task_owners, &self.link_owners, target);
         is_owner(owner, reporter)

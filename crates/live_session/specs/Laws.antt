@@ -32,7 +32,8 @@ reports_in (Refused cause) = []
 abbrev pub with_reports : Accepted → List Held → Accepted
 with_reports accepted lines =
     record accepted {
-      script = accepted.script ++ flat_map (λ line. reports_in (meaning_of (known_of accepted) line)) lines;
+      script = accepted.script
+          ++ flat_map (λ line. reports_in (meaning_of (known_of accepted) line)) lines;
     }
 
 -- ---- Kept tables

@@ -56,7 +56,8 @@ impl<'a, V: GroupValues> Moment<'a, V> {
         requires groups { (V.meaning values.now).groups ≡ length plan.now }
         ensures moment { IfOk result (IsMoment V.meaning) }
         ensures wan { IfOk result (λ moment.
-            wan_in V.meaning moment ≡ wan_of (V.meaning values.now) plan.now topology.now.capacities) }
+            wan_in V.meaning moment
+            ≡ wan_of (V.meaning values.now) plan.now topology.now.capacities) }
         ensures share { IfOk result (λ moment. (state_of moment).share ≡ 0) }
         ensures closings { IfOk result (λ moment. (state_of moment).closings ≡ []) }
     {
@@ -125,8 +126,8 @@ impl<'a, V: GroupValues> Moment<'a, V> {
     /// The lowest link that is over.
     pub fn first_over(&self) -> Option<u32>
         requires moment { IsMoment V.meaning self.now }
-        ensures { result ≡
-            over_at (wan_in V.meaning self.now) (state_of self.now).closings (state_of self.now).share }
+        ensures { result ≡ over_at
+            (wan_in V.meaning self.now) (state_of self.now).closings (state_of self.now).share }
     {
         self.sums.first_over(self.topology)
     }
@@ -338,7 +339,7 @@ pub fn change(sums: &mut LinkSums, plan: &PathPlan, group: u32, place: u32, from
     requires summed { IsSummedOver plan.now sums.old }
     requires group { group < length plan.now }
     requires place { place < path_group_count plan.now group }
-    requires total { total_of plan.now sums.old.amounts + (to - from) ≤ 20_000_000_000_000_000 }
+    requires total { total_of plan.now sums.old.amounts + (to - from) ≤ MAX_TOTAL }
     requires amount { from - to ≤ amount_at sums.old.amounts group place }
     ensures summed { IsSummedOver plan.now sums.new }
     ensures links { length sums.new.loads ≡ length sums.old.loads }

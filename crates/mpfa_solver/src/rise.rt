@@ -58,7 +58,8 @@ impl<'a, V: GroupValues, S: Search> Model for Rise<'a, V, S> {
 
     ghost view = { λ rise. rise.low };
 
-    ghost invariant = { λ rise. IsRise V.meaning S.wan S.closings S.low rise.moment rise.low rise.top };
+    ghost invariant = { λ rise.
+        IsRise V.meaning S.wan S.closings S.low rise.moment rise.low rise.top };
 }
 
 impl<V: GroupValues, S: Search> Level for Rise<'_, V, S> {

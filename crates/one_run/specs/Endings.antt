@@ -48,8 +48,9 @@ pub data IsInput {S
       → length input ≤ max_input → IsInput left source source_after true input
 
 -- a text and a status were due
-pub data IsDue {Line S K
-    : Type 0} (lines : Lines Line) (line : Option Line) (served : Served S K) : ℕ → List ℕ → Type 0 where
+pub data IsDue {Line S K : Type 0}
+    (lines : Lines Line) (line : Option Line) (served : Served S K)
+    : ℕ → List ℕ → Type 0 where
   -- the words are no line: nothing is read
   no_line : line ≡ None → served.source_after ≡ served.source → IsDue lines line served 2 usage_line
   -- what the line may get for its input

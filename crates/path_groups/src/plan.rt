@@ -41,7 +41,8 @@ impl Model for PathPlan {
 
     ghost view = { λ plan. plan_held plan.groups.items };
 
-    ghost invariant = { λ plan. IsPlan (plan_held plan.groups.items) × AllHoldParts plan.groups.items };
+    ghost invariant = { λ plan.
+        IsPlan (plan_held plan.groups.items) × AllHoldParts plan.groups.items };
 }
 
 impl PathPlan {

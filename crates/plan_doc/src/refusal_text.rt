@@ -142,7 +142,8 @@ fn push_at(text: &mut String, words: &str, path: &DocPath) -> Result<(), AllocEr
 
 fn push_limit(text: &mut String, what: What, count: u64) -> Result<(), AllocError>
     ensures { OnOk result (string_bytes text.new ≡
-        string_bytes text.old ++ codes "3 limit " ++ lines.what_text what ++ codes " " ++ decimal count) }
+        string_bytes text.old ++ codes "3 limit " ++ lines.what_text what ++ codes " "
+        ++ decimal count) }
 {
     let what = what_text(what);
     write!(text, "3 limit {what} {count}")

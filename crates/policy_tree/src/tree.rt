@@ -42,8 +42,8 @@ impl Model for PolicyTree {
 
     ghost view = { λ tree. tree_of tree.top tree.clusters.items };
 
-    ghost invariant = { λ tree. IsKeptTree tree.top tree.clusters.items tree.homes.items tree.firsts.items
-        (lists_of tree.children) };
+    ghost invariant = { λ tree. IsKeptTree
+        tree.top tree.clusters.items tree.homes.items tree.firsts.items (lists_of tree.children) };
 }
 
 impl PolicyTree {

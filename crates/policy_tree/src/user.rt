@@ -35,7 +35,8 @@ impl Model for UserNode {
         record { configured = configured_by user.transform; jobs = user.jobs.items } };
 
     ghost invariant = { λ user.
-        IsUserState (record { configured = configured_by user.transform; jobs = user.jobs.items }) };
+        IsUserState
+        (record { configured = configured_by user.transform; jobs = user.jobs.items }) };
 }
 
 impl UserNode {

@@ -7,11 +7,8 @@ ghost use Rattle.run_audit.specs.Walk as walk;
 use crate::forms::{Shown, reader_of, sent_of, shown_of};
 use crate::verdict::AuditCause;
 use crate::words::{LineWords, name_of};
-use bwe_specs::{MAX_READERS, Report};
+use bwe_specs::{MAX_READERS, MAX_READS, Report};
 use doc_names::Names;
-
-/// The greatest number of reads of a reader, beside its last.
-pub const MAX_READS: u64 = 1_000;
 
 /// A reader's block so far.
 #[derive(Clone, Copy, Drop)]
@@ -125,11 +122,11 @@ fn goes_on(total: u64, block: Block, shown: Shown) -> bool
 
 #[tactic(auto, unfolding(crate::specs::Walk::after_read))]
 fn after_read(total: u64, block: Block, shown: Shown) -> Result<Step, AuditCause>
-    requires number { block.number < 64 }
+    requires number { block.number < MAX_READERS }
     ensures step { result ≡ walk.after_read total block shown }
     ensures due { IfOk result (walk.IsStep total) }
 {
-    if block.reads >= MAX_READS {
+    if block.reads >= u64::from(MAX_READS) {
         return Err(AuditCause::Reader);
     }
     if !goes_on(total, block, shown) {
@@ -160,7 +157,7 @@ fn is_wanted(wanted: Option<u64>, reads: u64) -> bool
 
 #[tactic(auto, unfolding(crate::specs::Walk::after_final))]
 fn after_final(total: u64, block: Block, shown: Shown) -> Result<Step, AuditCause>
-    requires number { block.number < 64 }
+    requires number { block.number < MAX_READERS }
     ensures step { result ≡ walk.after_final total block shown }
     ensures due { IfOk result (walk.IsStep total) }
 {
@@ -181,7 +178,7 @@ fn after_final(total: u64, block: Block, shown: Shown) -> Result<Step, AuditCaus
 
 #[tactic(auto, unfolding(crate::specs::Walk::after_shown))]
 fn after_shown(total: u64, block: Block, line: &LineWords<'_>) -> Result<Step, AuditCause>
-    requires number { block.number < 64 }
+    requires number { block.number < MAX_READERS }
     ensures step { result ≡ walk.after_shown total block line.now }
     ensures due { IfOk result (walk.IsStep total) }
 {

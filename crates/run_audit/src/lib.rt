@@ -19,7 +19,6 @@ mod verdict;
 mod walk;
 mod words;
 
-pub use due::MAX_READS;
 pub use run::audit;
 pub use text::audit_text;
 pub use verdict::{AuditCause, AuditVerdict};

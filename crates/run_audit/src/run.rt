@@ -13,7 +13,7 @@ use crate::history::read_history;
 use crate::totals::{first_wrong, totals_at};
 use crate::verdict::{AuditVerdict, Stop};
 use crate::walk::{Pursued, Walk, pursue};
-use bwe_specs::{OutOfMemory, Report};
+use bwe_specs::{MAX_REPORTS, OutOfMemory, Report};
 use demand_book::Maker;
 use doc_names::Names;
 use std::alloc::Global;
@@ -35,7 +35,7 @@ pub fn audit<M: Maker>(
 ) -> Result<AuditVerdict, OutOfMemory>
     requires first { M.absorbed maker [] }
     requires fit { AreFit (M.plan_tasks (M.plan maker)) (M.plan_links (M.plan maker)) scripts.now }
-    requires few { total_of (scripts_of scripts.now) ≤ 200_000 }
+    requires few { total_of (scripts_of scripts.now) ≤ MAX_REPORTS }
     ensures { IfOk result (λ verdict. verdict
         ≡ verdict_of (texts_of names.now) (scripts_of scripts.now)
         (λ reports. M.Table.total_of (M.table_of (M.plan maker) reports)) table.now text.now) }
@@ -71,7 +71,7 @@ fn verdict_at(stop: Stop) -> Result<AuditVerdict, OutOfMemory>
 
 // How many reports the scripts have.
 fn total_reports(scripts: &[Vec<Report>]) -> u64
-    requires { total_of (scripts_of scripts.now) ≤ 200_000 }
+    requires { total_of (scripts_of scripts.now) ≤ MAX_REPORTS }
     ensures { result ≡ total_of (scripts_of scripts.now) }
 {
     let mut total = 0;
@@ -92,7 +92,7 @@ fn audit_rest<M: Maker>(
     text: &mut Lines<'_>,
 ) -> Result<AuditVerdict, OutOfMemory>
     requires first { M.absorbed maker [] }
-    requires few { length history.now ≤ 200_000 }
+    requires few { length history.now ≤ MAX_REPORTS }
     requires fit { All (IsFit (M.plan_tasks (M.plan maker)) (M.plan_links (M.plan maker)))
         history.now }
     requires all { length history.now ≡ total_of (scripts_of scripts.now) }

@@ -7,7 +7,7 @@ ghost use Rattle.run_audit.specs.Checks.{AreTotals, first_wrong as first_wrong_o
 
 use crate::verdict::{AuditCause, AuditVerdict};
 use crate::walk::Check;
-use bwe_specs::{OutOfMemory, Report};
+use bwe_specs::{MAX_REPORTS, OutOfMemory, Report};
 use demand_book::{Maker, Posted};
 use std::alloc::Global;
 
@@ -52,7 +52,7 @@ pub(crate) fn totals_at<M: Maker>(
     checks: &[Check],
 ) -> Result<Vec<u64>, OutOfMemory>
     requires first { M.absorbed maker [] }
-    requires few { length history.now ≤ 200_000 }
+    requires few { length history.now ≤ MAX_REPORTS }
     requires fit { All (IsFit (M.plan_tasks (M.plan maker)) (M.plan_links (M.plan maker)))
         history.now }
     requires prefixes { All (λ check. check.prefix ≤ length history.now) checks.now }
@@ -78,7 +78,7 @@ fn push_totals<M: Maker>(
     totals: &mut Vec<u64>,
 ) -> Result<(), OutOfMemory>
     requires first { M.absorbed maker.old [] }
-    requires few { length history.now ≤ 200_000 }
+    requires few { length history.now ≤ MAX_REPORTS }
     requires fit { All (IsFit (M.plan_tasks (M.plan maker.old)) (M.plan_links (M.plan maker.old)))
         history.now }
     requires asked { length asked.now ≡ length history.now + 1 }

@@ -63,7 +63,8 @@ impl<'a> Walk<'a> {
     // Goes on by a line of the table.
     fn take_table_line(&mut self, line: &[u8]) -> Result<Option<Shown>, AuditCause>
         ensures ok { IfOk result (λ shown.
-            steps.after_table self.old.table line.now ≡ Ok (record { walk = self.new; shown = shown })) }
+            steps.after_table self.old.table line.now
+            ≡ Ok (record { walk = self.new; shown = shown })) }
         ensures fault { IfErr result
             (λ cause. steps.after_table self.old.table line.now ≡ Err cause) }
         ensures due { OnOk result (self.new.due ≡ Table) }
@@ -94,7 +95,8 @@ impl<'a> Walk<'a> {
             steps.after_line (texts_of names.now) (scripts_of scripts.now) self.old line.now
             ≡ Ok (record { walk = self.new; shown = shown })) }
         ensures fault { IfErr result (λ cause.
-            steps.after_line (texts_of names.now) (scripts_of scripts.now) self.old line.now ≡ Err cause) }
+            steps.after_line (texts_of names.now) (scripts_of scripts.now) self.old line.now
+            ≡ Err cause) }
         ensures due { OnOk result (steps.IsDue (length scripts.now) self.new.due) }
         ensures shown { IfOk result (λ shown. IfSome shown (λ shown. shown.prefix ≤ total)) }
     {
@@ -168,7 +170,8 @@ pub(crate) fn pursue(
     requires total { total ≡ total_of (scripts_of scripts.now) }
     requires due { steps.IsDue (length scripts.now) walk.old.due }
     ensures pursued { IfOk result (λ pursued.
-        found_of pursued ≡ pursue_lines (texts_of names.now) (scripts_of scripts.now) text.old.left walk.old text.old.number text.old.lines) }
+        found_of pursued ≡ pursue_lines (texts_of names.now) (scripts_of scripts.now)
+        text.old.left walk.old text.old.number text.old.lines) }
     ensures prefixes { IfOk result
         (λ pursued. All (λ check. check.prefix ≤ total) pursued.checks.items) }
 {

@@ -3,7 +3,7 @@
 ghost use Rattle.std.specs.Prelude.{◌≡◌, ◌≤◌, ◌∷◌, ◌++◌, [], List, ℕ, All, IfOk, OnOk, None, nat_eq};
 ghost use Rattle.std.specs.HashMap.{Updates, get};
 ghost use Rattle.bwe_specs.specs.declared.limits.TheConstants.{MAX_AMOUNT};
-ghost use Rattle.demand_estimate.specs.declared.TheConstants.{MAX_WINDOW, MIN_HEADROOM, MAX_HEADROOM};
+ghost use Rattle.bwe_specs.specs.declared.limits.TheConstants.{MAX_WINDOW, MIN_HEADROOM, MAX_HEADROOM};
 ghost use Rattle.sample_lines.specs.declared.sample.Sample.{Sample};
 ghost use Rattle.sample_lines.specs.Estimators.{AreBehind, IsBehind, IsBehindIfAny};
 ghost use Rattle.sample_lines.specs.SampleReports.{report_of, reports_of};

@@ -17,7 +17,8 @@ pub record IsOrder (count : ℕ) (group_at place_of : ℕ → ℕ) : Type 0 wher
 abbrev pub job_renumbered : (ℕ → ℕ) → Job → Job
 job_renumbered renumber job =
     record job {
-      tasks = map (λ task. record { number = renumber task.number; weight = task.weight }) job.tasks;
+      tasks = map (λ task. record { number = renumber task.number; weight = task.weight })
+          job.tasks;
     }
 
 abbrev pub user_renumbered : (ℕ → ℕ) → User → User

@@ -20,8 +20,8 @@ impl<'a> Model for Cut<'a> {
     ghost view = { λ cut. record { before = cut.before.now; behind = cut.behind.now } };
 }
 
-/// The text at the first such byte, `None` where it has none: at a space `a b c` is cut into `a` and
-/// `b c`.
+/// The text at the first such byte, `None` where it has none: at a space `a b c` is cut into `a`
+/// and `b c`.
 #[tactic(auto, unfolding(crate::specs::Cuts::cut_at))]
 pub fn cut_at(byte: u8, text: &[u8]) -> Option<Cut<'_>>
     ensures exact { result ≡ cut_of byte text.now }

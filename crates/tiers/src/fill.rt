@@ -37,7 +37,8 @@ pub fn fill_tiers(
     requires groups { length tree.now.clusters ≡ length plan.now }
     requires one_each { length tiers.now ≡ length plan.now }
     ensures table { IfOk result (λ table. table ≡
-        tiered_under (plan_of tree.now topology plan.now) prefix (demand_in tree.now) topology.capacities tiers.now) }
+        tiered_under (plan_of tree.now topology plan.now) prefix (demand_in tree.now)
+        topology.capacities tiers.now) }
 
     // Feasibility law: no link's load exceeds its capacity
     ensures feasible { IfOk result (IsFeasible topology.capacities) }

@@ -49,7 +49,8 @@ fn run_of(alloc: Global, beyond: Vec<Report>) -> Result<CrewLog<LimitTable>, Out
     requires { length beyond.items < 2 ^ 32 }
     ensures sent { IfOk result (λ log. length log.sent.items < 2 ^ 32) }
     ensures places { IfOk result (λ log.
-        All (λ reader. length log.history.items + length reader.beyond.items < 2 ^ 64) log.readers.items) }
+        All (λ reader. length log.history.items + length reader.beyond.items < 2 ^ 64)
+        log.readers.items) }
 {
     let reader = ReaderLog {
         reads: Vec::new(alloc),
