@@ -2,7 +2,7 @@
 #
 ## make          proves and builds both, on all processors; what has not changed is left as it is
 ## make bwe      proves and builds bwe alone
-## make check    every proof, every edit that has to be refused, every test, then the whole cases
+## make check    every proof, the edits that have to be refused, every test, then the whole cases
 ## make edits    the edits that the gate leaves out, of crates whose proof is long
 ## make cases    the whole cases alone, on the built program
 ## make tools    the tests of tools/
