@@ -1,4 +1,2 @@
-pub mod RunReply
-pub mod RunsAreLegal
-pub mod Statuses
-mod WhatRan
+mod Legal
+mod RunReply

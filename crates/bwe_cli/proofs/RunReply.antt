@@ -12,10 +12,10 @@ use Rattle.doc_names.specs.NameTexts.{texts_of}
 use Rattle.run_text.specs.RunText.{run_text_of}
 use Rattle.crew_log.specs.LegalCrewLog.{IsClosed}
 use Rattle.audit_law.proofs.DocumentVerdicts.{plan-is}
-use Rattle.document_run.specs.Runs.{IsRunOf}
+use Rattle.top_call.specs.Runs.{IsRunOf}
 use Rattle.document_scripts.proofs.Split.{split-count}
 use Rattle.plan_doc.specs.Plans.{plan_in, plan_of}
-use Rattle.bwe_cli.specs.RunLine.{IsRunReply}
+use Rattle.top_call.specs.RunLine.{IsRunReply}
 
 abbrev reply_of : ℕ → List ℕ → Reply
 reply_of status text = record { status = status; text = text }

@@ -2,11 +2,11 @@
 
 use crate::tests::documents::{EMPTY, EMPTY_IN_TWO_PARTS};
 use crate::tests::words_of;
-use bwe_cli::bwe_once;
 use bwe_io::{MemorySink, MemorySource, Sink, Source, SureSink, SureSource, read_all};
 use command_line::USAGE;
 use std::alloc::{AllocError, Global};
 use std::test::Fail;
+use top_call::bwe_once;
 
 // The table of the empty document.
 const TABLE: &str = "table 0\ntotal 0\n";

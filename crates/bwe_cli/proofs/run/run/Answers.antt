@@ -2,7 +2,7 @@ use Rattle.std.proofs.Common.{◌∙◌, ap, subst, sym}
 use Rattle.doc_names.specs.NameTexts.{texts_of}
 use Rattle.run_text.specs.RunText.{run_text_of}
 use Rattle.plan_doc.specs.Plans.{plan_in}
-use Rattle.bwe_cli.specs.RunLine.{IsRunReply}
+use Rattle.top_call.specs.RunLine.{IsRunReply}
 use Rattle.bwe_cli.proofs.RunReply.{run-reply, sent-few}
 use Rattle.bwe_cli.proofs.run.run.Goals as goal
 

@@ -1,5 +1,0 @@
-use Rattle.bwe_cli.proofs.Statuses.{an-answer-is-whole}
-use Rattle.bwe_cli.proofs.laws.an_answer_is_whole.Goals as goal
-
-pub returns : goal.returns
-returns g c = an-answer-is-whole _ _

@@ -1,5 +1,0 @@
-use Rattle.bwe_cli.proofs.WhatRan.{what-ran-is-found-legal}
-use Rattle.bwe_cli.proofs.laws.what_ran_is_found_legal.Goals as goal
-
-pub returns : goal.returns
-returns g c = what-ran-is-found-legal _ _ _ _

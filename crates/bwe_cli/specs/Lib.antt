@@ -1,4 +1,0 @@
-pub mod RunLine
-pub mod TopCall
-pub mod Laws
-pub mod Statuses

@@ -1,0 +1,3 @@
+pub mod RunsAreLegal
+pub mod Statuses
+mod WhatRan

@@ -1,0 +1,5 @@
+pub mod Runs
+pub mod RunLine
+pub mod TopCall
+pub mod Laws
+pub mod Statuses

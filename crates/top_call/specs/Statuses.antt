@@ -1,0 +1,62 @@
+-- What a status tells of a call, whatever its line was.
+use Rattle.std.specs.Prelude.{◌≡◌, ◌≢◌, ◌↔◌, ◌⊎◌, ℕ, ◌+◌, List, Option, Some}
+use Rattle.std.specs.Io.KnownBytes.{Appends, Keeps}
+use Rattle.bwe_io.specs.Bytes.{Takes}
+use Rattle.bwe_io.specs.Faults.{HasRisen}
+use Rattle.command_line.specs.declared.CommandLine.{CommandLine}
+use Rattle.one_run.specs.Endings.{IsInput, Reply, Served, max_input}
+use Rattle.top_call.specs.TopCall.{IsServed, reads, replies}
+
+-- the statuses of an answer: 0 done, 1 the verdict is no, 3 refused
+abbrev pub IsOfAnswer : ℕ → Type 0
+IsOfAnswer status = (status ≡ 0) ⊎ ((status ≡ 1) ⊎ (status ≡ 3))
+
+-- the words are a line, its whole input was taken in, and what the line may get for it, with this
+-- status, was written whole
+pub record IsAnswered {S K : Type 0} (line : Option CommandLine) (served : Served S K) (status : ℕ)
+    : Type 0 where
+  pub is : CommandLine
+  pub input : List ℕ
+  pub reply : Reply
+  pub line_is : line ≡ Some is
+  pub taken_in : IsInput served.left served.source served.source_after (reads is) input
+  pub replied : replies is input reply
+  pub status_is : reply.status ≡ status
+  pub written : Appends (served.written served.sink) (served.written served.sink_after) reply.text
+
+-- nothing was written
+abbrev pub IsSilent : {S K : Type 0} → Served S K → Type 0
+IsSilent served = Keeps (served.written served.sink) (served.written served.sink_after)
+
+-- neither the source nor the sink failed, and the source gave no more than an input may have
+pub record IsWithoutFault {S K : Type 0} (served : Served S K) : Type 0 where
+  pub source : HasRisen (served.read_faults served.source) (served.read_faults served.source_after)
+      → ⊥
+  pub sink : HasRisen (served.write_faults served.sink) (served.write_faults served.sink_after) → ⊥
+  pub length : Takes (max_input + 1) (served.left served.source) (served.left served.source_after)
+      → ⊥
+
+-- nothing that the line may get for what was taken in is a refusal
+abbrev pub IsTakenIn : {S K : Type 0} → CommandLine → Served S K → Type 0
+IsTakenIn is served = (input : List ℕ) (reply : Reply)
+    → IsInput served.left served.source served.source_after (reads is) input
+    → replies is input reply → reply.status ≢ 3
+
+-- An answer is whole: the status is 0, 1 or 3 exactly where the answer with that status was written
+-- whole
+abbrev pub AnAnswerIsWhole : Type 0 → Type 0 → Type 0
+AnAnswerIsWhole S K = (line : Option CommandLine) (served : Served S K) (status : ℕ)
+    → IsOfAnswer status
+    → IsServed line served status ↔ IsAnswered line served status
+
+-- Nothing by halves: with the statuses 4 and 6 nothing was written
+abbrev pub NothingIsWritten : Type 0 → Type 0 → Type 0
+NothingIsWritten S K = (line : Option CommandLine) (served : Served S K) (status : ℕ)
+    → IsServed line served status → (status ≡ 4) ⊎ (status ≡ 6) → IsSilent served
+
+-- What is accepted is answered: a line whose input is taken in, where nothing fails, ends with 0, 1
+-- or, where memory is wanting, 6
+abbrev pub AcceptedIsAnswered : Type 0 → Type 0 → Type 0
+AcceptedIsAnswered S K = (is : CommandLine) (served : Served S K) (status : ℕ)
+    → IsServed (Some is) served status → IsWithoutFault served → IsTakenIn is served
+    → (status ≡ 0) ⊎ ((status ≡ 1) ⊎ (status ≡ 6))
