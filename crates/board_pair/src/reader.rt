@@ -105,9 +105,11 @@ impl<T: Posted, N: Profile<T>, B: Bases> ReaderPass<T, N, B> {
             N.Profile B.Bases) self.entry.ghost_name none (λ _ _. ⊤)
             (λ pass. (pass.log ≡ result.copy.now.log) × (pass.table ≡ result.copy.now.table)
             × (pass.reads ≡ min (self.old.reads + 1) (2 ^ 64 - 1)))) }
+        // Of the headline (docs/DEFINITIONS.md): "a reader's prefixes never fall" ..
         ensures log { IsPrefix self.old.log result.copy.now.log }
         ensures floor { T.covers self.old.table ≤ T.covers result.copy.now.table }
-        // What is shown: the table of the log's first reports, as many as it covers.
+        // .. and what is shown is the table "after a named prefix of one history": of the log's
+        // first reports, as many as it covers.
         ensures within { T.covers result.copy.now.table ≤ length result.copy.now.log }
         ensures table { N.belongs (take (T.covers result.copy.now.table) result.copy.now.log)
             result.copy.now.table }
@@ -123,6 +125,7 @@ impl<T: Posted, N: Profile<T>, B: Bases> ReaderPass<T, N, B> {
     /// It costs as `read` does, and nothing where the pass covers the ack already. After a refusal
     /// the pass is as it was.
     pub fn learn(&mut self, alloc: Global, ack: &Ack<B>) -> Result<(), OutOfMemory>
+        // "That prefix holds all that the reader was told is acknowledged."
         ensures told { OnOk result (IsPrefix ack.now self.new.log) }
         ensures covers { OnOk result (length ack.now ≤ T.covers self.new.table) }
         ensures log { IsPrefix self.old.log self.new.log }

@@ -40,7 +40,9 @@ pub fn bwe<S: Source, K: Sink, G: Gate + Sync, R: Threads + Wait + Sync>(
     gate: &G,
 ) -> u8
     // For the line that the words are, source and sink went from here to there as an ending with
-    // this status allows.
+    // this status allows. The headline's two halves are in what the lines may get: `replies Solve`,
+    // that a table is "the one that raising every group's fair share by one at a time gives", and
+    // `replies Run`, that what readers saw is of "prefixes of one history" that "never fall".
     ensures { IsServed (command_line_of (texts_of words.now)) (record {
       source = source.old;
       source_after = source.new;

@@ -3,11 +3,11 @@
 ghost use Rattle.std.specs.Prelude.{◌≡◌, ◌≤◌, IfOk};
 ghost use Rattle.plan_doc.specs.Conditions.{IsUsable, reporter_count};
 ghost use Rattle.plan_doc.specs.Document.{document as document_of};
+ghost use Rattle.plan_doc.specs.Plans.{plan_in};
 ghost use Rattle.crew_log.specs.LegalCrewLog.{IsClosed};
 ghost use Rattle.top_call.specs.RunLine.{IsRunReply};
 ghost use Rattle.top_call.specs.Runs.{IsRunOf};
 
-use allocator::Allocator;
 use bwe_specs::{MAX_READERS, MAX_READS, OutOfMemory};
 use crew::run_crew;
 use crew_actors::Gate;
@@ -15,7 +15,7 @@ use crew_log::CrewLog;
 use document_scripts::scripts_of_document;
 use limit_table::LimitTable;
 use one_run::Answer;
-use opened_document::refused;
+use opened_document::{Opened, open, refused};
 use plan_doc::{Document, Names, read_document};
 use run_text::run_text;
 use std::alloc::Global;
@@ -63,26 +63,17 @@ fn run_document<G: Gate + Sync, R: Threads + Wait + Sync>(
     requires some_readers { 1 ≤ readers }
     requires few_readers { readers ≤ MAX_READERS }
     requires few_reads { reads ≤ MAX_READS }
-    ensures log { IfOk result (λ made. IsRunOf
-        (record {
-          top = document.tree.top;
-          clusters = document.tree.clusters;
-          groups = document.plan;
-          capacities = document.topology.capacities;
-        })
-        document.script.items (reporter_count document) readers reads made.0) }
+    ensures log { IfOk result (λ made. IsRunOf (plan_in document) document.script.items
+        (reporter_count document) readers reads made.0) }
     ensures closed { IfOk result (λ made. IsClosed made.0) }
     ensures names { IfOk result (λ made. made.1 ≡ document.names) }
 {
     let scripts = scripts_of_document(alloc, &document)?;
-    let Document {
-        tree,
-        topology,
-        plan,
+    let Opened {
+        allocator,
         names,
         ..
-    } = document;
-    let allocator = Allocator::new(tree, topology, plan);
+    } = open(document);
     let log = run_crew(rt, alloc, allocator, &scripts, readers, reads, gate)?;
     Ok((log, names))
 }

@@ -9,10 +9,10 @@ ghost use Rattle.live_session.specs.Answers.{accepts, answer_of, first_text, tab
 ghost use Rattle.live_session.specs.Following.{HasFollowed, IsSession};
 
 use crate::answer::answer_meaning;
-use allocator::Allocator;
 use bwe_specs::OutOfMemory;
 use live_core::LiveCore;
 use live_lines::Known;
+use opened_document::{Opened, open};
 use plan_doc::{Document, read_document, refusal_line};
 use std::alloc::Global;
 use std::marker::Model;
@@ -102,18 +102,15 @@ impl LiveSession {
             (λ session. (accepted : Accepted) → IsDocumentOf accepted document
             → IsSession session accepted []) }
     {
-        let Document {
-            tree,
-            topology,
-            plan,
+        let Opened {
+            allocator,
             script,
             names,
             task_owners,
             link_owners,
             ..
-        } = document;
+        } = open(document);
         let known = Known::new(alloc, names, task_owners, link_owners)?;
-        let allocator = Allocator::new(tree, topology, plan);
         let core = LiveCore::start(alloc, allocator, &script)?;
         Ok(LiveSession {
             core,

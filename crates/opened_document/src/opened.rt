@@ -21,6 +21,7 @@ pub struct Opened {
     pub closings: Vec<Closing>,
     pub names: Names,
     pub task_owners: Vec<u32>,
+    pub link_owners: Vec<Option<u32>>,
 }
 
 /// Takes an accepted document apart. The allocator has taken in nothing yet.
@@ -42,6 +43,7 @@ pub fn open(document: Document) -> Opened
     ensures closings { result.closings ≡ document.closings }
     ensures names { result.names ≡ document.names }
     ensures task_owners { result.task_owners ≡ document.task_owners }
+    ensures link_owners { result.link_owners ≡ document.link_owners }
 {
     let Document {
         tree,
@@ -51,6 +53,7 @@ pub fn open(document: Document) -> Opened
         closings,
         names,
         task_owners,
+        link_owners,
         ..
     } = document;
     Opened {
@@ -59,6 +62,7 @@ pub fn open(document: Document) -> Opened
         closings,
         names,
         task_owners,
+        link_owners,
     }
 }
 
@@ -74,6 +78,8 @@ pub fn open_after_script(alloc: Global, document: Document) -> Result<Opened, Ou
     ensures script { IfOk result (λ opened. opened.script ≡ document.script) }
     ensures closings { IfOk result (λ opened. opened.closings ≡ document.closings) }
     ensures names { IfOk result (λ opened. opened.names ≡ document.names) }
+    ensures task_owners { IfOk result (λ opened. opened.task_owners ≡ document.task_owners) }
+    ensures link_owners { IfOk result (λ opened. opened.link_owners ≡ document.link_owners) }
 {
     let Opened {
         allocator,
@@ -81,6 +87,7 @@ pub fn open_after_script(alloc: Global, document: Document) -> Result<Opened, Ou
         closings,
         names,
         task_owners,
+        link_owners,
     } = open(document);
     let allocator = after_script(alloc, allocator, &script)?;
     Ok(Opened {
@@ -89,5 +96,6 @@ pub fn open_after_script(alloc: Global, document: Document) -> Result<Opened, Ou
         closings,
         names,
         task_owners,
+        link_owners,
     })
 }

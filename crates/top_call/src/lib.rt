@@ -42,7 +42,8 @@ pub fn bwe_once<S: Source, K: Sink>(
     sink: &mut K,
 ) -> u8
     // For the line that the words are, if it needs no threads, source and sink went from here to
-    // there as an ending with this status allows.
+    // there as an ending with this status allows. By `replies Solve` the table is "the one that
+    // raising every group's fair share by one at a time gives".
     ensures { IsServed (of_one_thread (command_line_of (texts_of words.now))) (record {
       source = source.old;
       source_after = source.new;
