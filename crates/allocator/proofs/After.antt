@@ -1,12 +1,13 @@
 -- What stands after one report more.
-use Rattle.std.proofs.Common.{◌≡◌, ℕ, ◌<◌, List, [], ◌∷◌, ◌++◌, length, get_or, set, sym, ap, ◌∙◌, subst, arith, zero-add, inl, inr, Result, Ok, Err, OnOk}
+use Rattle.std.proofs.Common.{◌≡◌, ℕ, ◌<◌, List, [], ◌∷◌, ◌++◌, length, get_or, set, sym, ap, ◌∙◌, subst, arith, inl, inr, Result, Ok, Err, OnOk}
 use Rattle.std.proofs.lemmas.Bool.{cases_eq}
 use Rattle.std.proofs.lemmas.List.{length-set, get_or-set_same, get_or-set_other, length_push}
-use Rattle.std.proofs.lemmas.List.FromFn.{fill_by_all, length-map-range_with_len, get_or-map-range_with_len}
+use Rattle.std.proofs.lemmas.List.FromFn.{fill_by_all}
 use Rattle.bwe_specs.specs.declared.report.Report.{Report}
 use Rattle.bwe_specs.specs.declared.report.Target.{Target}
 use Rattle.bwe_specs.specs.declared.report.Target.TheVariants.{Task, Link}
 use Rattle.bwe_specs.specs.Reports.{demand_after, capacity_after, capacities_after}
+use Rattle.bwe_specs.proofs.Plans.{capacities_after-at, length-capacities_after}
 use Rattle.demand_book.specs.Fit.{IsInRange}
 use Rattle.demand_book.proofs.LastReports.{demand_after-told, demand_after-other, is_task-same, is_task-other, is_task-link, is_link-same, is_link-other, is_link-task, capacity_after-told, capacity_after-other}
 use Rattle.allocator.specs.Reported.{Reported, IsAfter, with_report}
@@ -16,15 +17,6 @@ capacities_after-is : (given capacities : List ℕ) (reports : List Report) → 
     → ((link : ℕ) → link < length given → get_or capacities link 0 ≡ capacity_after given reports link) → capacities ≡ capacities_after given reports
 unfolding capacities_after
 capacities_after-is given capacities reports count each = fill_by_all (capacity_after given reports) capacities (length given) 0 count each
-
-capacities_after-at : (given : List ℕ) (reports : List Report) (link : ℕ) → link < length given
-    → get_or (capacities_after given reports) link 0 ≡ capacity_after given reports link
-unfolding capacities_after
-capacities_after-at given reports link within = get_or-map-range_with_len (capacity_after given reports) 0 (length given) link link 0 within (zero-add link)
-
-length-capacities_after : (given : List ℕ) (reports : List Report) → length (capacities_after given reports) ≡ length given
-unfolding capacities_after
-length-capacities_after given reports = length-map-range_with_len (capacity_after given reports) 0 (length given)
 
 abbrev report_of : ℕ → ℕ → Target → Report
 report_of reporter amount target = record { reporter = reporter; target = target; amount = amount }

@@ -17,10 +17,10 @@ use Rattle.mpfa_fill.specs.declared.steps.Filling.{Filling}
 use Rattle.mpfa_fill.specs.Filling.{IsFilling}
 use Rattle.allocator.specs.Lines.{HasRows, line_in, line_of_place}
 
-abbrev place_parts : ℕ → Option ℕ → PlaceLine
+abbrev pub place_parts : ℕ → Option ℕ → PlaceLine
 place_parts amount closed = record { amount = amount; closed = closed }
 
-abbrev line_parts : ℕ → ℕ → List PlaceLine → GroupLine
+abbrev pub line_parts : ℕ → ℕ → List PlaceLine → GroupLine
 line_parts share amount places = record { share = share; amount = amount; places = places }
 
 -- lists by number that agree at each number
@@ -32,10 +32,10 @@ map-numbers d f g n each =
 pub sum-numbers : (f : ℕ → ℕ) (n : ℕ) → sum (map f (numbers n)) ≡ sum_below n f
 sum-numbers f n = sum_by-numbers (λ k. k) f n
 
-no_line : GroupLine
+pub no_line : GroupLine
 no_line = record { share = 0; amount = 0; places = [] }
 
-no_place : PlaceLine
+pub no_place : PlaceLine
 no_place = record { amount = 0; closed = None }
 
 module _ (wan : Wan) (never : NeverFalls wan) (bound : sum_below (length wan.groups) (λ group. wan.value group wan.top) ≤ 20_000_000_000_000_000) where

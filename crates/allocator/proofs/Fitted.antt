@@ -1,43 +1,26 @@
 -- No report changes which path groups are fitted to a network and a tree, nor the plan of the tables.
-use Rattle.std.proofs.Common.{◌≡◌, ℕ, zero, suc, ◌<◌, List, [], ◌∷◌, length, get_or, ap₂, replicate, ◌&&◌, refl, sym, ap, ◌∙◌, subst}
-use Rattle.std.specs.Str.{bytes_eq}
+use Rattle.std.proofs.Common.{◌≡◌, ℕ, zero, suc, List, [], length, get_or, ap₂, replicate, refl, sym, ap, ◌∙◌}
+use Rattle.std.specs.Prelude.{slice_set}
 use mathlib.Core.Path.{fun_ext}
 use Rattle.std.proofs.lemmas.List.{length-set}
 use Rattle.std.proofs.lemmas.List.FromFn.{fill_by_all, length-range_with_len}
 use Rattle.bwe_specs.specs.declared.report.Report.{Report}
 use Rattle.bwe_specs.specs.declared.report.Target.{Target}
 use Rattle.bwe_specs.specs.declared.report.Target.TheVariants.{Task, Link}
-use Rattle.bwe_specs.specs.Paths.{Path, PathGroups, path_group_at}
+use Rattle.bwe_specs.specs.Paths.{PathGroups}
 use Rattle.bwe_specs.specs.Reports.{last_amount, demand_after, capacity_after, capacities_after}
 use Rattle.bwe_specs.specs.Allocation.{allocation, table_under, wan_after, wan_under}
 use Rattle.mpfa_fill.specs.GroupValues.{wan_of}
 use Rattle.allocator.specs.Values.{values_of}
-use Rattle.wan_topology.specs.Network.{Network, sites_of}
-use Rattle.path_groups.specs.Plan.{IsBuiltOn, IsPathOf, IsPlan, is_linked}
+use Rattle.wan_topology.specs.Network.{Network}
+use Rattle.path_groups.specs.Plan.{IsBuiltOn, IsPlan}
+use Rattle.path_groups.proofs.OtherCapacities.{built_on-same}
 use Rattle.policy_tree.specs.Trees.{Tree, IsTree, demand_in}
 use Rattle.allocator.specs.Reported.{Reported, IsAfter, told, with_report, with_capacity}
 use Rattle.allocator.specs.Allocators.{IsFitted, plan_by, table_by}
 
-linked-same : (network : Network) (link amount : ℕ) (links : List ℕ) → is_linked (with_capacity network link amount) links ≡ is_linked network links
-linked-same network link amount [] = refl
-linked-same network link amount (first ∷ []) = refl
-linked-same network link amount (first ∷ next ∷ later) =
-    ap (λ rest. bytes_eq (sites_of network next).from (sites_of network first).to && rest) (linked-same network link amount (next ∷ later))
-
 length-capacities : (network : Network) (link amount : ℕ) → length (with_capacity network link amount).capacities ≡ length network.capacities
 length-capacities network link amount = length-set network.capacities link amount
-
--- a path goes over the links of the network whatever they can carry
-path-same : (network : Network) (link amount : ℕ) (path : Path) → IsPathOf network path → IsPathOf (with_capacity network link amount) path
-path-same network link amount path is = record {
-  in_range = λ k d lt. subst (λ n. get_or path.links k d < n) (sym (length-capacities network link amount)) (is.in_range k d lt);
-  linked = linked-same network link amount path.links ∙ is.linked;
-}
-
-built_on-same : (network : Network) (link amount : ℕ) (groups : List PathGroups) → IsBuiltOn network groups → IsBuiltOn (with_capacity network link amount) groups
-built_on-same network link amount groups is = record {
-  paths = λ group place k d lt. path-same network link amount (get_or (path_group_at groups group place) k d) (is.paths group place k d lt);
-}
 
 fitted-told : (reported : Reported) (groups : List PathGroups) (target : Target) (amount : ℕ) → IsFitted reported groups → IsFitted (told reported target amount) groups
 fitted-told reported groups (Task number) amount is = record {
@@ -49,7 +32,7 @@ fitted-told reported groups (Task number) amount is = record {
 }
 fitted-told reported groups (Link number) amount is = record {
   plan = is.plan;
-  built_on = built_on-same reported.network number amount groups is.built_on;
+  built_on = built_on-same reported.network (slice_set reported.network.capacities number amount) groups (length-capacities reported.network number amount) is.built_on;
   clusters = is.clusters;
   tasks = is.tasks;
   links = length-capacities reported.network number amount ∙ is.links;

@@ -10,7 +10,7 @@ use Rattle.link_sums.specs.Sums.{Sums, IsSummedOver, RaisesAmount, amount_at, to
 use Rattle.allocator.specs.Loads.{IsPutUpTo}
 
 -- below the next and not there
-ne_lt : (i n : ℕ) → i < n + 1 → (i ≡ n → ⊥) → i < n
+pub ne_lt : (i n : ℕ) → i < n + 1 → (i ≡ n → ⊥) → i < n
 ne_lt i n lt apart = elim (cases_lt i n) [ inl under ↦ under | inr over ↦ absurd (apart (omega arith)) ]
 
 -- not below and not there

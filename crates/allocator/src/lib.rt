@@ -22,6 +22,6 @@ pub use allocator::{Allocator, AllocatorPlan};
 pub use history::after_script;
 pub use line::{group_line, group_lines};
 pub use loads::loads_of;
-pub use reported::Reported;
+pub use reported::{Reported, capacities_of};
 pub use table::{limits_of, make_table};
 pub use values::TreeValues;

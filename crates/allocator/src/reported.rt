@@ -1,6 +1,6 @@
 //! A tree and a network as they stand after reports.
 
-ghost use Rattle.std.specs.Prelude.{◌≡◌, ◌+◌, ◌^◌, ◌<◌, ◌≤◌, ◌++◌, ◌∷◌, [], ℕ, List, length, IfOk, OnOk, OnErr, Some, unwrap_or};
+ghost use Rattle.std.specs.Prelude.{◌≡◌, ◌+◌, ◌^◌, ◌<◌, ◌≤◌, ◌++◌, ◌∷◌, [], ℕ, All, List, length, IfOk, OnOk, OnErr, Some, unwrap_or};
 ghost use Rattle.bwe_specs.specs.declared.report.Report.{Report};
 ghost use Rattle.demand_book.specs.Fit.{IsFit};
 ghost use Rattle.policy_tree.specs.Trees.{asking, value_in, IsTree};
@@ -180,9 +180,10 @@ fn keep_given(
     Ok(())
 }
 
-// Each link's capacity.
-fn capacities_of(alloc: Global, topology: &Topology) -> Result<Vec<u64>, OutOfMemory>
-    ensures { IfOk result (λ capacities. capacities.items ≡ topology.now.capacities) }
+/// What each link can carry, in kilobits per second.
+pub fn capacities_of(alloc: Global, topology: &Topology) -> Result<Vec<u64>, OutOfMemory>
+    ensures same { IfOk result (λ capacities. capacities.items ≡ topology.now.capacities) }
+    ensures range { All (λ capacity. capacity ≤ MAX_AMOUNT) topology.now.capacities }
 {
     let mut capacities = Vec::new(alloc);
     for link in 0..topology.links() {

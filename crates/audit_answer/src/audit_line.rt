@@ -12,8 +12,8 @@ ghost use Rattle.audit_answer.specs.AuditReply.{IsAuditReply, audit_reply, audit
 ghost use Rattle.opened_document.specs.Parted.{IsReplyBehind, accepted_parts};
 
 use crate::known::{KnowingAllocator, known_of};
-use crate::rewound::{capacities_of, rewound};
-use allocator::{Allocator, after_script};
+use crate::rewound::rewound;
+use allocator::{Allocator, after_script, capacities_of};
 use bwe_specs::{OutOfMemory, Report};
 use demand_book::Maker;
 use document_scripts::scripts_of_document;

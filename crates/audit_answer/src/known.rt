@@ -6,8 +6,7 @@ ghost use Rattle.allocator.specs.Allocators.{plan_in};
 ghost use Rattle.allocator.specs.Reported.{IsAfter};
 ghost use Rattle.audit_answer.specs.Known.{IsKnown};
 
-use crate::rewound::capacities_of;
-use allocator::{Allocator, AllocatorPlan};
+use allocator::{Allocator, AllocatorPlan, capacities_of};
 use bwe_specs::{OutOfMemory, Report};
 use demand_book::{Maker, Posted};
 use limit_table::LimitTable;

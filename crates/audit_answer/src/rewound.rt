@@ -8,20 +8,7 @@ use allocator::Allocator;
 use bwe_specs::OutOfMemory;
 use demand_book::Maker;
 use policy_tree::PolicyTree;
-use std::alloc::Global;
 use wan_topology::Topology;
-
-/// What each link can carry, in kilobits per second.
-pub(crate) fn capacities_of(alloc: Global, topology: &Topology) -> Result<Vec<u64>, OutOfMemory>
-    ensures same { IfOk result (λ capacities. capacities.items ≡ topology.now.capacities) }
-    ensures range { All (λ capacity. capacity ≤ MAX_AMOUNT) topology.now.capacities }
-{
-    let mut capacities = Vec::new(alloc);
-    for link in 0..topology.links() {
-        capacities.push(topology.capacity(link))?;
-    }
-    Ok(capacities)
-}
 
 /// The allocator of the same plan before any report. `given` are the plan's capacities.
 ///

@@ -1,13 +1,13 @@
 -- The last share at which a function is at most an amount.
-use Rattle.std.proofs.Common.{◌≡◌, ℕ, zero, suc, ◌+◌, ◌-◌, ◌*◌, ◌/◌, ◌<◌, ◌≤◌, inl, inr, Bool, true, false, List, length, get_or, min, refl, sym, ◌∙◌, ap, arith, le_refl, nat_le, leb-true, leb-false, le-leb, mul_comm, mul-zero, add-zero}
-use Rattle.std.proofs.Math.Nat.{zero-div, mul-pos, mul-le-mul_right, le-div_iff_mul-le, div-lt_iff_lt-mul}
+use Rattle.std.proofs.Common.{◌≡◌, ℕ, zero, suc, ◌+◌, ◌-◌, ◌*◌, ◌/◌, ◌<◌, ◌≤◌, inl, inr, true, false, List, length, get_or, min, sym, ◌∙◌, ap, arith, le_refl, nat_le, leb-true, leb-false, le-leb, mul_comm}
+use Rattle.std.proofs.Math.Nat.{mul-pos, mul-le-mul_right, le-div_iff_mul-le, div-lt_iff_lt-mul}
 use Rattle.std.proofs.lemmas.Bool.{cases_lt}
 use Rattle.std.specs.List.Sorted.{IsPartitionPoint, IsPartitionedBy}
 use Rattle.std.proofs.lemmas.List.Sorted.{IsPartitionedBy-leb}
 use Rattle.bwe_specs.specs.Bounded.{greatest_upto}
 use Rattle.bwe_specs.specs.FunctionValue.{Point, IsFunction, function_value, between, last_amount}
-use Rattle.bwe_specs.proofs.Bounds.{greatest-found}
-use Rattle.bwe_specs.proofs.ShareFunctions.{function_value-is_share_function, share-mono}
+use Rattle.bwe_specs.proofs.Bounds.{greatest-found, over_false}
+use Rattle.bwe_specs.proofs.ShareFunctions.{between-start, function_value-is_share_function, share-mono}
 use Rattle.bwe_specs.proofs.Points.{function-next, function-first, function-shares, function_value-inside, function_value-last, function_value-le}
 use Rattle.bw_function.specs.BwFunction.{point_of, points_of}
 use Rattle.bw_function.proofs.Places.{get-points, length-points, last-get}
@@ -61,18 +61,12 @@ part-before from to amount run low high =
     omega (arith, part)
 
 -- on a point's share the value is the point's amount
-between-first : (from to : Point) → between from to from.share ≡ from.amount
-unfolding between
-between-first from to =
-    let none : from.share - from.share ≡ 0 = omega arith in
-    rw (none, mul-zero, zero-div) (add-zero from.amount)
-
 value-at : (points : List Point) (top i : ℕ) (d : Point) → IsFunction points top → i < length points → function_value points (get_or points i d).share ≡ (get_or points i d).amount
 value-at points top i d is lt =
     elim (cases_lt (suc i) (length points)) [
       | inl l ↦
           function_value-inside points top (get_or points i d).share i d is l (le_refl _) (function-next points top i d is l).0
-          ∙ between-first (get_or points i d) (get_or points (suc i) d)
+          ∙ between-start (get_or points i d) (get_or points (suc i) d)
       | inr ge ↦ function_value-last points top (get_or points i d).share i d is (omega arith) (le_refl _)
     ]
 
@@ -130,12 +124,6 @@ upto-is pairs top amount after is within at =
       go : (after : ℕ) → IsPartitionPoint (λ pair. nat_le pair.1 amount ≡ true) (λ pair. nat_le pair.1 amount ≡ false) pairs after → (get_or pairs 0 (0, 0)).1 ≡ 0 → 0 < length pairs → 1 ≤ after
       go zero at start some = absurd (omega (arith, leb-false _ _ (at.1 0 (0, 0) (le_refl 0) some)))
       go (suc n) at start some = omega arith
-
-over_false : (a b : ℕ) → b < a → nat_le a b ≡ false
-over_false a b lt = go (nat_le a b) refl where
-  go : (t : Bool) → nat_le a b ≡ t → t ≡ false
-  go true e = absurd (omega (arith, leb-true a b e))
-  go false e = refl
 
 -- a last share, cut at the top
 last-cut : (f : ℕ → ℕ) (amount top last : ℕ) → f 0 ≤ amount → ((low high : ℕ) → low ≤ high → f low ≤ f high) → f last ≤ amount → amount < f (suc last)

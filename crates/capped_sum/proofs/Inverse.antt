@@ -1,19 +1,13 @@
 -- The greatest share at which a capped sum is at most an amount.
-use Rattle.std.proofs.Common.{◌≡◌, ℕ, ◌+◌, ◌<◌, ◌≤◌, inl, inr, Bool, true, false, sum_by, refl, sym, ◌∙◌, ap, arith, le_refl, nat_le, le-leb, leb-true}
+use Rattle.std.proofs.Common.{◌≡◌, ℕ, ◌+◌, ◌<◌, ◌≤◌, inl, inr, sum_by, sym, ◌∙◌, ap, arith, le_refl, nat_le, le-leb}
 use Rattle.std.proofs.Math.Path.{fun_ext}
 use Rattle.std.proofs.lemmas.Bool.{cases_lt}
 use Rattle.bwe_specs.specs.Bounded.{greatest_upto}
 use Rattle.bwe_specs.specs.FunctionValue.{function_value}
-use Rattle.bwe_specs.proofs.Bounds.{greatest-found}
+use Rattle.bwe_specs.proofs.Bounds.{greatest-found, over_false}
 use Rattle.capped_sum.specs.Index.{capped, IsMost}
 use Rattle.capped_sum.specs.CappedSum.{Tasks, tasks_value}
 use Rattle.capped_sum.proofs.Meanings.{capped-grows}
-
-over_false : (a b : ℕ) → b < a → nat_le a b ≡ false
-over_false a b lt = go (nat_le a b) refl where
-  go : (t : Bool) → nat_le a b ≡ t → t ≡ false
-  go true e = absurd (omega (arith, leb-true a b e))
-  go false e = refl
 
 -- the sum is at most the amount just where the amount per weight is at most that
 same-test : {A : Type 0} → (f : A → ℕ) (F : ℕ → ℕ) (amount most : ℕ) → ((a b : ℕ) → a ≤ b → F a ≤ F b) → F most ≤ amount → amount < F (most + 1) → (x : A)

@@ -9,9 +9,9 @@ ghost use Rattle.change_text.specs.ChangeText.{change_text_of, changed, changed_
 
 use bwe_specs::{Closing, OutOfMemory};
 use doc_names::Names;
-use limit_table::{GroupLine, LimitTable};
+use limit_table::{GroupLine, LimitTable, total_in};
 use std::alloc::{AllocError, Global};
-use table_text::{end_with_number, push_closings, push_group, push_value, total};
+use table_text::{end_with_number, push_closings, push_group, push_value};
 
 /// The text of what has changed from the earlier table to the later one, which is of the same plan.
 ///
@@ -48,7 +48,7 @@ pub fn change_text(
         &earlier.limits,
         &later.limits,
     )?;
-    end_with_number(&mut text, "total ", total(&later.groups))?;
+    end_with_number(&mut text, "total ", total_in(&later.groups))?;
     Ok(text.into_bytes())
 }
 

@@ -12,4 +12,4 @@ mod table;
 
 pub use change::TableChange;
 pub use line::{GroupLine, PlaceLine};
-pub use table::{LimitTable, TableFrame};
+pub use table::{LimitTable, TableFrame, total_in};

@@ -129,8 +129,8 @@ impl Posted for LimitTable {
     }
 }
 
-// What the lines' groups get together.
-fn total_in(lines: &[GroupLine]) -> u64
+/// What the lines' groups get together.
+pub fn total_in(lines: &[GroupLine]) -> u64
     requires { sum_by (λ line. line.amount) lines.now < 2 ^ 64 }
     ensures { result ≡ sum_by (λ line. line.amount) lines.now }
 {

@@ -6,7 +6,7 @@ use Rattle.bwe_specs.specs.Paths.{PathGroup, PathGroups, path_group_at, path_gro
 use Rattle.bwe_specs.specs.Filling.{Wan, closed_links, current_path_group_of, stop_share}
 use Rattle.bwe_specs.proofs.Loads.{current-open}
 use Rattle.bwe_specs.proofs.Bounds.{lowest-none, some-lowest, lowest-some}
-use Rattle.bwe_specs.proofs.StopShares.{none-more}
+use Rattle.bwe_specs.proofs.StopShares.{none-more, stop-moving}
 use Rattle.mpfa_fill.specs.declared.standing.Standing.{Standing}
 use Rattle.mpfa_fill.specs.declared.standing.Standing.TheVariants.{Grows, Stopped}
 use Rattle.mpfa_fill.proofs.Places.{current-reverse}
@@ -42,26 +42,12 @@ none-first path_groups some none =
     let shut : true ≡ false = lowest-none (length path_groups) (λ place. is_open [] (slice_index_or path_groups place [])) none 0 (omega arith) in
     cc
 
--- a group that grows under these closings has not stopped
-pub stop-growing : (wan : Wan) (closings : List Closing) (group place until : ℕ) → current_path_group_of wan closings group ≡ Some place → stop_share (slice_index_or wan.groups group []) closings until ≡ until
-unfolding stop_share
-stop-growing wan [] group place until e = refl
-stop-growing wan (closing ∷ earlier) group place until e =
-    rw e (go (current_path_group_of wan earlier group) refl (λ before. stop-growing wan earlier group before until)) where
-      go : (o : Option ℕ) → current_path_group_of wan earlier group ≡ o
-          → ((before : ℕ) → current_path_group_of wan earlier group ≡ Some before → stop_share (slice_index_or wan.groups group []) earlier until ≡ until)
-          → stop_share (slice_index_or wan.groups group []) earlier until ≡ until
-      go (Some before) is earlier_too = earlier_too before is
-      go None is earlier_too =
-          let none : current_path_group_of wan (closing ∷ earlier) group ≡ None = none-more (slice_index_or wan.groups group []) closing.link (closed_links earlier) is in
-          absurd (cc)
-
 module _ (wan : Wan) (closing : Closing) (earlier : List Closing) (group : ℕ) where
   -- a group goes on with its next open path group, or stops at the closing
   goes-on : (share place value : ℕ) → IsStanding wan earlier share group (Grows place value) → closing.share ≡ share → (o : Option ℕ) → current_path_group_of wan (closing ∷ earlier) group ≡ o → IsStanding wan (closing ∷ earlier) share group (standing_of o value closing.share)
   unfolding stop_share
   goes-on share place value stands same (Some next) e = (e, stands.1)
-  goes-on share place value stands same None e = (e, λ until. rw e (stop-growing wan earlier group place closing.share stands.0))
+  goes-on share place value stands same None e = (e, λ until. rw e (stop-moving wan earlier group place closing.share stands.0))
 
   -- a group that grows stands as the code finds it ..
   grows-after : (share place value : ℕ) (used : Bool) → uses (path_group_at wan.groups group place) closing.link ≡ used → closing.share ≡ share → IsStanding wan earlier share group (Grows place value)
@@ -100,5 +86,5 @@ first-stands wan group starts some = go (current_path_group (slice_index_or wan.
 
 -- where a group stops that stands so
 pub stop-stands : (wan : Wan) (closings : List Closing) (share group : ℕ) (standing : Standing) → IsStanding wan closings share group standing → stop_of wan.top standing ≡ stop_share (slice_index_or wan.groups group []) closings wan.top
-stop-stands wan closings share group (Grows place value) stands = sym (stop-growing wan closings group place wan.top stands.0)
+stop-stands wan closings share group (Grows place value) stands = sym (stop-moving wan closings group place wan.top stands.0)
 stop-stands wan closings share group (Stopped at) stands = sym (stands.1 wan.top)

@@ -4,6 +4,7 @@ use Rattle.std.proofs.lemmas.Bool.{cases_lt}
 use Rattle.std.proofs.Math.Seq.{map-set_same}
 use Rattle.std.proofs.lemmas.List.{length-map, length-append, get_or-map, take-map, map-set, set-append_left, length-set, length_push, get_or_append_left, get_or_push}
 use Rattle.std.proofs.lemmas.List.Concat.{get_or-flat_map}
+use Rattle.std.proofs.lemmas.List.Folds.{length-flat_map-take}
 use Rattle.std.proofs.lemmas.List.Sums.{sum_by-cons}
 use Rattle.capped_sum.specs.declared.task.Task.{Task}
 use Rattle.capped_sum.specs.CappedSum.{task_at}
@@ -97,11 +98,8 @@ home-at clusters number home is =
     }
 
 -- a place in one list is a place in all of them
-within_all : {X : Type 0} (f : X → List ℕ) (xs : List X) (i k : ℕ) (d : X) → i < length xs → k < length (f (get_or xs i d)) → length (flat_map f (take i xs)) + k < length (flat_map f xs)
-within_all f [] i k d lt within = absurd (omega arith)
-within_all f (x ∷ xs) zero k d lt within = omega (arith, length-append (f x) (flat_map f xs))
-within_all f (x ∷ xs) (suc i) k d lt within =
-    omega (arith, length-append (f x) (flat_map f xs), length-append (f x) (flat_map f (take i xs)), within_all f xs i k d (omega arith) within)
+pub within_all : {X Y : Type 0} (f : X → List Y) (xs : List X) (i k : ℕ) (d : X) → i < length xs → k < length (f (get_or xs i d)) → length (flat_map f (take i xs)) + k < length (flat_map f xs)
+within_all f xs i k d lt within = omega (arith, length-flat_map-take f xs i d lt)
 
 -- the demand at the number
 pub demand-at : (clusters : List ClusterState) (number : ℕ) (home : Home) → IsAt clusters number home

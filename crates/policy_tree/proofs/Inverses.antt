@@ -1,21 +1,15 @@
 -- The greatest share at which a node's value is at most an amount.
-use Rattle.std.proofs.Common.{◌≡◌, ℕ, ◌+◌, ◌-◌, ◌<◌, ◌≤◌, Option, Some, None, IfSome, inl, inr, Bool, true, false, List, [], ◌∷◌, length, get_or, map, refl, sym, ◌∙◌, ap, arith, le_refl, nat_le, leb-true, leb-false, le-leb}
+use Rattle.std.proofs.Common.{◌≡◌, ℕ, ◌+◌, ◌-◌, ◌<◌, ◌≤◌, Option, Some, None, IfSome, inl, inr, Bool, true, List, [], ◌∷◌, length, get_or, map, sym, ◌∙◌, ap, arith, le_refl, nat_le, leb-true, leb-false, le-leb}
 use Rattle.std.proofs.Math.Path.{fun_ext}
 use Rattle.std.proofs.lemmas.Bool.{cases_lt}
 use Rattle.bwe_specs.specs.Bounded.{greatest_upto}
 use Rattle.bwe_specs.specs.FunctionValue.{function_value}
 use Rattle.bwe_specs.specs.Distribution.{children_sum}
 use Rattle.bwe_specs.specs.Tree.{inner_share}
-use Rattle.bwe_specs.proofs.Bounds.{greatest-le, greatest-passes, greatest-above, greatest-found}
+use Rattle.bwe_specs.proofs.Bounds.{greatest-le, greatest-passes, greatest-above, greatest-found, over_false}
 use Rattle.bwe_specs.proofs.ShareFunctions.{inner_share-fits, inner_share-le, inner_share-greatest}
 use Rattle.bw_function.specs.BwFunction.{Function}
 use Rattle.function_sum.specs.Meaning.{IsMeaning}
-
-over_false : (a b : ℕ) → b < a → nat_le a b ≡ false
-over_false a b lt = go (nat_le a b) refl where
-  go : (t : Bool) → nat_le a b ≡ t → t ≡ false
-  go true e = absurd (omega (arith, leb-true a b e))
-  go false e = refl
 
 -- what is known of the greatest share at which a sum is at most an amount
 pub record IsInner (sum : ℕ → ℕ) (amount end inner : ℕ) : Type 0 where

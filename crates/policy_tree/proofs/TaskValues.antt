@@ -2,7 +2,6 @@
 use Rattle.std.proofs.Common.{◌≡◌, ℕ, ◌+◌, ◌<◌, List, [], ◌∷◌, ◌++◌, length, get_or, take, flat_map, refl, sym, ◌∙◌, ap, ap₂, arith, subst}
 use Rattle.std.proofs.lemmas.List.{length-map, length-append, get_or-map}
 use Rattle.std.proofs.lemmas.List.Concat.{get_or-flat_map}
-use Rattle.std.proofs.lemmas.List.Folds.{length-flat_map-take}
 use Rattle.bwe_specs.specs.Tree.{task_value, task_values}
 use Rattle.policy_tree.specs.declared.home.Home.{Home}
 use Rattle.policy_tree.specs.States.{JobState, UserState, ClusterState, job_tasks, user_tasks, cluster_tasks}
@@ -13,7 +12,7 @@ use Rattle.policy_tree.specs.Trees.{demand_in, tree_of}
 use Rattle.policy_tree.specs.Seen.{user_task_values, cluster_task_values, task_value_in, value_at, job_task_values}
 use Rattle.policy_tree.proofs.Numbers.{agrees-left, agrees-right}
 use Rattle.policy_tree.proofs.Agreement.{tasks-agree, length-job_demands, length-user_demands, length-cluster_demands}
-use Rattle.policy_tree.proofs.Homes.{IsAt}
+use Rattle.policy_tree.proofs.Homes.{IsAt, within_all}
 
 -- the values of the tasks of nodes, as the code has them
 abbrev user_values : UserState → List (ℕ → ℕ)
@@ -65,9 +64,6 @@ user-length user = lengths-of job_demands job_task_values job-length user.jobs
 
 cluster-length : (cluster : ClusterState) → length (cluster_values cluster) ≡ length (cluster_demands cluster)
 cluster-length cluster = lengths-of user_demands user_values user-length cluster.users
-
-within_all : {X : Type 0} (f : X → List (ℕ → ℕ)) (xs : List X) (i k : ℕ) (d : X) → i < length xs → k < length (f (get_or xs i d)) → length (flat_map f (take i xs)) + k < length (flat_map f xs)
-within_all f xs i k d lt within = omega (arith, length-flat_map-take f xs i d lt)
 
 -- the value at the number
 pub value-at : (top : ℕ) (clusters : List ClusterState) (number share : ℕ) (home : Home) → IsAt clusters number home

@@ -1,5 +1,6 @@
 -- What a tree is built of, and the tree that nobody has asked anything of.
 use Rattle.std.specs.Prelude.{◌≡◌, ℕ, ◌≤◌, List, length, map, Option, Some, None, All, sum_by}
+use Rattle.bwe_specs.specs.declared.limits.TheConstants.{MAX_WEIGHT}
 use Rattle.bw_function.specs.BwFunction.{Function}
 use Rattle.capped_sum.specs.CappedSum.{without_demand}
 use Rattle.policy_tree.specs.declared.spec.JobSpec.{JobSpec}
@@ -33,7 +34,7 @@ cluster_weights spec = sum_by user_weights spec.users.items
 
 -- weights of tasks, in range
 abbrev pub AreWeights : List ℕ → Type 0
-AreWeights weights = All (λ weight. (1 ≤ weight) × (weight ≤ 1_000)) weights
+AreWeights weights = All (λ weight. (1 ≤ weight) × (weight ≤ MAX_WEIGHT)) weights
 
 abbrev pub HasJobWeights : JobSpec → Type 0
 HasJobWeights spec = AreWeights spec.weights.items

@@ -1,6 +1,6 @@
 -- What a tree keeps beside its nodes: where each task is, and the numbers of children.
 use Rattle.std.specs.Prelude.{◌≡◌, ℕ, ◌+◌, ◌<◌, ◌≤◌, List, [], length, map, take, sum, sum_by, slice_index, slice_index_or, All}
-use Rattle.bwe_specs.specs.declared.limits.TheConstants.{MAX_SHARE}
+use Rattle.bwe_specs.specs.declared.limits.TheConstants.{MAX_SHARE, MAX_TASKS}
 use Rattle.policy_tree.specs.declared.home.Home.{Home}
 use Rattle.policy_tree.specs.States.{JobState, UserState, ClusterState, job_tasks, cluster_tasks, IsClusterState}
 use Rattle.policy_tree.specs.Asked.{HasTop}
@@ -70,7 +70,7 @@ pub record IsKeptTree (top : ℕ) (clusters : List ClusterState) (homes : List H
   pub groups : length clusters < 4_294_967_296
   pub tops : All (HaveClusterTop top) clusters
   pub are : All IsClusterState clusters
-  pub few : sum_by cluster_tasks clusters ≤ 20_000
+  pub few : sum_by cluster_tasks clusters ≤ MAX_TASKS
   pub tasks : AreHomes (counts_of clusters) homes
   pub starts : AreFirsts (counts_of clusters) firsts
   pub nodes : length (walk (numbered_clusters clusters)) < 4_294_967_296

@@ -1,5 +1,6 @@
 -- The nodes of a tree as the code keeps them: with the demands inside, and without numbers.
 use Rattle.std.specs.Prelude.{ℕ, ◌≤◌, List, length, map, Option, Some, None, All, option_map, sum_by}
+use Rattle.bwe_specs.specs.declared.limits.TheConstants.{MAX_TASKS}
 use Rattle.bwe_specs.specs.Distribution.{children_sum}
 use Rattle.bwe_specs.specs.Tree.{inner_share}
 use Rattle.bw_function.specs.BwFunction.{Function, IsBwFunction}
@@ -68,9 +69,9 @@ pub record IsJobState (job : JobState) : Type 0 where
 pub record IsUserState (user : UserState) : Type 0 where
   pub configured : IsKeptFunction user.configured
   pub jobs : All IsJobState user.jobs
-  pub few : user_tasks user ≤ 20_000
+  pub few : user_tasks user ≤ MAX_TASKS
 
 pub record IsClusterState (cluster : ClusterState) : Type 0 where
   pub configured : IsKeptFunction cluster.configured
   pub users : All IsUserState cluster.users
-  pub few : cluster_tasks cluster ≤ 20_000
+  pub few : cluster_tasks cluster ≤ MAX_TASKS

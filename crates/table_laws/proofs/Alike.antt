@@ -12,6 +12,20 @@ use Rattle.table_laws.proofs.Numbers.{cluster_value-same, cluster_limits-same}
 use Rattle.table_laws.proofs.Pieces.{limits-at}
 use Rattle.table_laws.proofs.Reordered.{closings-same, line-same, loads-are}
 
+module _ (plan : Plan) (group_at renumber : ℕ → ℕ) where
+  -- what stands at a place of the plan in another order
+  pub same_groups : (place : ℕ) → place < length plan.groups → slice_index_or (reordered group_at renumber plan).groups place [] ≡ slice_index_or plan.groups (group_at place) []
+  same_groups place lt = get_or-map-range_with_len (λ place. slice_index_or plan.groups (group_at place) []) 0 (length plan.groups) place place [] lt (zero-add place)
+
+  pub same_cluster : (place : ℕ) → place < length plan.groups → cluster_at (reordered group_at renumber plan) place ≡ cluster_renumbered renumber (cluster_at plan (group_at place))
+  same_cluster place lt = get_or-map-range_with_len (λ place. cluster_renumbered renumber (cluster_at plan (group_at place))) 0 (length plan.groups) place place _ lt (zero-add place)
+
+  pub same_values : (demand other : ℕ → ℕ) (capacities : List ℕ) → ((task : ℕ) → other (renumber task) ≡ demand task) → (place : ℕ) → place < length plan.groups → (share : ℕ)
+      → (wan_under (reordered group_at renumber plan) other capacities).value place share ≡ (wan_under plan demand capacities).value (group_at place) share
+  same_values demand other capacities same place lt share =
+      ap (λ cluster. cluster_value plan.top other cluster share) (same_cluster place lt)
+      ∙ ap (λ value. value share) (cluster_value-same plan.top renumber demand other same (cluster_at plan (group_at place)))
+
 module _ (plan : Plan) (group_at place_of renumber : ℕ → ℕ) (prefix : ℕ) (demand other : ℕ → ℕ) (capacities : List ℕ)
     (one_each : length plan.clusters ≡ length plan.groups) (order : IsOrder (length plan.groups) group_at place_of) (same : (task : ℕ) → other (renumber task) ≡ demand task) where
   abbrev wan : Wan
@@ -29,19 +43,10 @@ module _ (plan : Plan) (group_at place_of renumber : ℕ → ℕ) (prefix : ℕ)
   count : length moved_plan.groups ≡ n
   count = length-map-range_with_len _ 0 n
 
-  same_groups : (place : ℕ) → place < n → slice_index_or moved_plan.groups place [] ≡ slice_index_or plan.groups (group_at place) []
-  same_groups place lt = get_or-map-range_with_len (λ place. slice_index_or plan.groups (group_at place) []) 0 n place place [] lt (zero-add place)
-
-  same_cluster : (place : ℕ) → place < n → cluster_at moved_plan place ≡ cluster_renumbered renumber (cluster_at plan (group_at place))
-  same_cluster place lt = get_or-map-range_with_len (λ place. cluster_renumbered renumber (cluster_at plan (group_at place))) 0 n place place _ lt (zero-add place)
-
-  same_values : (place : ℕ) → place < n → (share : ℕ) → moved.value place share ≡ wan.value (group_at place) share
-  same_values place lt share =
-      ap (λ cluster. cluster_value plan.top other cluster share) (same_cluster place lt)
-      ∙ ap (λ value. value share) (cluster_value-same plan.top renumber demand other same (cluster_at plan (group_at place)))
-
   lines-same : (place : ℕ) → place < n → group_line moved (filling moved) place ≡ group_line wan (filling wan) (group_at place)
-  lines-same = line-same wan moved_plan.groups moved.value group_at place_of count order same_groups same_values
+  lines-same =
+      line-same wan moved_plan.groups moved.value group_at place_of count order (same_groups plan group_at renumber)
+      (same_values plan group_at renumber demand other capacities same)
 
   line-is : (place : ℕ) → place < n → line_at (table_under moved_plan prefix other capacities).groups place ≡ line_at (table_under plan prefix demand capacities).groups (group_at place)
   line-is place lt =
@@ -71,7 +76,7 @@ module _ (plan : Plan) (group_at place_of renumber : ℕ → ℕ) (prefix : ℕ)
       → limits_at moved_plan (table_under moved_plan prefix other capacities).limits place ≡ limits_at plan (table_under plan prefix demand capacities).limits (group_at place)
   limits-same numbered moved_numbered place lt =
       moved-limits-are moved_numbered place lt
-      ∙ ap₂ (cluster_limits plan.top other) (same_cluster place lt) (ap (λ line. line.amount) (lines-same place lt))
+      ∙ ap₂ (cluster_limits plan.top other) (same_cluster plan group_at renumber place lt) (ap (λ line. line.amount) (lines-same place lt))
       ∙ cluster_limits-same plan.top renumber demand other same (cluster_at plan (group_at place)) (group_line wan (filling wan) (group_at place)).amount
       ∙ sym (limits-are numbered (group_at place) (order.within place lt))
 
@@ -80,6 +85,6 @@ module _ (plan : Plan) (group_at place_of renumber : ℕ → ℕ) (prefix : ℕ)
   alike numbered moved_numbered = record {
     lines = line-is;
     limits = limits-same numbered moved_numbered;
-    loads = loads-are wan moved_plan.groups moved.value group_at place_of count order same_groups same_values;
-    closings = ap reverse (closings-same wan moved_plan.groups moved.value group_at place_of count order same_groups same_values);
+    loads = loads-are wan moved_plan.groups moved.value group_at place_of count order (same_groups plan group_at renumber) (same_values plan group_at renumber demand other capacities same);
+    closings = ap reverse (closings-same wan moved_plan.groups moved.value group_at place_of count order (same_groups plan group_at renumber) (same_values plan group_at renumber demand other capacities same));
   }

@@ -4,9 +4,8 @@ ghost use Rattle.std.specs.Prelude.{◌≡◌, IfOk};
 ghost use Rattle.table_text.specs.BulkText.{bulk_text_of};
 
 use crate::line::end_with_number;
-use crate::table::total;
 use bwe_specs::OutOfMemory;
-use limit_table::LimitTable;
+use limit_table::{LimitTable, total_in};
 use std::alloc::Global;
 
 /// The summary of the table of a document that has so many groups and tasks ("Bulk text",
@@ -24,6 +23,6 @@ pub fn bulk_text(
     end_with_number(&mut text, "groups ", u64::from(groups))?;
     end_with_number(&mut text, "tasks ", u64::from(tasks))?;
     end_with_number(&mut text, "closings ", table.closings.len() as u64)?;
-    end_with_number(&mut text, "total ", total(&table.groups))?;
+    end_with_number(&mut text, "total ", total_in(&table.groups))?;
     Ok(text.into_bytes())
 }

@@ -19,6 +19,4 @@ pub use bulk::bulk_text;
 pub use check::check_text;
 pub use levels::levels_text;
 pub use line::{end_with_number, name_of, push_number};
-pub use table::{
-    push_closings, push_group, push_limits, push_value, push_values, table_text, total,
-};
+pub use table::{push_closings, push_group, push_limits, push_value, push_values, table_text};

@@ -9,7 +9,7 @@ ghost use Rattle.table_text.specs.TableText.{closed_text, closing_line, group_li
 use crate::line::{end_with_number, name_of};
 use bwe_specs::{Closing, OutOfMemory};
 use doc_names::Names;
-use limit_table::{GroupLine, LimitTable, PlaceLine};
+use limit_table::{GroupLine, LimitTable, PlaceLine, total_in};
 use std::alloc::{AllocError, Global};
 
 /// The text of the table, with the names of its links, groups and tasks.
@@ -47,19 +47,7 @@ pub fn push_limits(
     push_values(text, "link ", &names.links, " load ", loads)?;
     push_groups(text, names, groups)?;
     push_values(text, "task ", &names.tasks, " limit ", limits)?;
-    end_with_number(text, "total ", total(groups))
-}
-
-/// What the groups get together.
-pub fn total(lines: &[GroupLine]) -> u64
-    requires { sum_by (λ line. line.amount) lines.now ≤ MAX_TOTAL }
-    ensures { result ≡ sum_by (λ line. line.amount) lines.now }
-{
-    let mut total = 0;
-    for line in lines {
-        total += line.amount;
-    }
-    total
+    end_with_number(text, "total ", total_in(groups))
 }
 
 fn push_closing(text: &mut String, names: &Names, closing: Closing) -> Result<(), AllocError>

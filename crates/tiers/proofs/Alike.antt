@@ -1,5 +1,5 @@
 -- A plan with its groups in another order, with their tiers, has the same table of tiers, in that order.
-use Rattle.std.proofs.Common.{◌≡◌, ℕ, zero, suc, ◌+◌, ◌<◌, ◌≤◌, Bool, ◌&&◌, ◌==◌, List, [], ◌∷◌, length, map, fold, max, reverse, slice_index, slice_index_or, ◌-◌, if◌then◌else◌, refl, sym, ◌∙◌, ap, ap₂, subst, arith, zero-add, lt-ltb}
+use Rattle.std.proofs.Common.{◌≡◌, ℕ, zero, suc, ◌+◌, ◌<◌, ◌≤◌, Bool, ◌&&◌, ◌==◌, List, [], ◌∷◌, length, map, fold, max, reverse, slice_index, ◌-◌, if◌then◌else◌, refl, sym, ◌∙◌, ap, ap₂, subst, arith, zero-add, lt-ltb}
 use mathlib.Core.Path.{fun_ext}
 use Rattle.std.proofs.lemmas.List.FromFn.{length-map-range_with_len, get_or-map-range_with_len}
 use Rattle.bwe_specs.specs.declared.network.Closing.{Closing}
@@ -7,11 +7,12 @@ use Rattle.bwe_specs.specs.Bounded.{sum_below}
 use Rattle.bwe_specs.specs.Paths.{link_load}
 use Rattle.bwe_specs.specs.Filling.{Wan, filling, group_amount}
 use Rattle.bwe_specs.specs.Reports.{numbers}
-use Rattle.bwe_specs.specs.Tree.{cluster_value, cluster_limits}
+use Rattle.bwe_specs.specs.Tree.{cluster_limits}
 use Rattle.bwe_specs.specs.Allocation.{Plan, group_line, wan_under}
 use Rattle.table_laws.specs.Tasks.{AreNumbered}
-use Rattle.table_laws.specs.Order.{IsOrder, cluster_at, cluster_renumbered, limits_at, reordered}
-use Rattle.table_laws.proofs.Numbers.{cluster_value-same, cluster_limits-same}
+use Rattle.table_laws.specs.Order.{IsOrder, cluster_at, limits_at, reordered}
+use Rattle.table_laws.proofs.Alike.{same_cluster, same_groups, same_values}
+use Rattle.table_laws.proofs.Numbers.{cluster_limits-same}
 use Rattle.table_laws.proofs.Pieces.{limits-at}
 use Rattle.table_laws.proofs.Reordered as moving
 use Rattle.tiers.specs.Tiered.{is_in_tier, value_in_tier, amounts_below, wan_of_tier, filling_of_tier, tier_closings, tier_count, tiered_amounts, tiered_line, tiered_under}
@@ -52,17 +53,6 @@ module _ (plan : Plan) (tiers : List ℕ) (group_at place_of renumber : ℕ → 
   same_tier place lt =
       get_or-map-range_with_len (λ place. slice_index tiers (group_at place)) 0 (length tiers) place place 0 (omega (arith, one_tier, lt)) (zero-add place)
 
-  same_groups : (place : ℕ) → place < n → slice_index_or moved_plan.groups place [] ≡ slice_index_or plan.groups (group_at place) []
-  same_groups place lt = get_or-map-range_with_len (λ place. slice_index_or plan.groups (group_at place) []) 0 n place place [] lt (zero-add place)
-
-  same_cluster : (place : ℕ) → place < n → cluster_at moved_plan place ≡ cluster_renumbered renumber (cluster_at plan (group_at place))
-  same_cluster place lt = get_or-map-range_with_len (λ place. cluster_renumbered renumber (cluster_at plan (group_at place))) 0 n place place _ lt (zero-add place)
-
-  same_value : (place : ℕ) → place < n → (share : ℕ) → moved.value place share ≡ wan.value (group_at place) share
-  same_value place lt share =
-      ap (λ cluster. cluster_value plan.top other cluster share) (same_cluster place lt)
-      ∙ ap (λ value. value share) (cluster_value-same plan.top renumber demand other same (cluster_at plan (group_at place)))
-
   -- a group is in its tier wherever it stands
   same_in : (tier place : ℕ) → place < n → is_in_tier moved_tiers tier place ≡ is_in_tier tiers tier (group_at place)
   same_in tier place lt =
@@ -70,20 +60,20 @@ module _ (plan : Plan) (tiers : List ℕ) (group_at place_of renumber : ℕ → 
       (lt-ltb place (length moved_tiers) (omega (arith, tiers-count, one_tier, lt)) ∙ sym (lt-ltb (group_at place) (length tiers) (omega (arith, one_tier, order.within place lt))))
       (ap (λ (own : ℕ). own == tier) (same_tier place lt))
 
-  same_values : (tier place : ℕ) → place < n → (share : ℕ) → value_in_tier moved_tiers tier moved.value place share ≡ value_in_tier tiers tier wan.value (group_at place) share
-  same_values tier place lt share =
-      ap₂ (λ (b : Bool) (value : ℕ). if b then value else 0) (same_in tier place lt) (same_value place lt share)
+  same_tier_values : (tier place : ℕ) → place < n → (share : ℕ) → value_in_tier moved_tiers tier moved.value place share ≡ value_in_tier tiers tier wan.value (group_at place) share
+  same_tier_values tier place lt share =
+      ap₂ (λ (b : Bool) (value : ℕ). if b then value else 0) (same_in tier place lt) (same_values plan group_at renumber demand other capacities same place lt share)
 
   abbrev AreMoved : (ℕ → ℕ → ℕ) → (ℕ → ℕ → ℕ) → Type 0
   AreMoved amounts there = (place : ℕ) → place < n → there place ≡ amounts (group_at place)
 
   -- what is filled for a tier, with the groups in the other order
   abbrev turned : ℕ → Wan
-  turned tier = moving.other (wan_of_tier wan tiers tier) moved_plan.groups (value_in_tier moved_tiers tier moved.value) group_at place_of count order same_groups (same_values tier)
+  turned tier = moving.other (wan_of_tier wan tiers tier) moved_plan.groups (value_in_tier moved_tiers tier moved.value) group_at place_of count order (same_groups plan group_at renumber) (same_tier_values tier)
 
   turned-is : (tier : ℕ) → AreMoved (amounts_below wan tiers tier) (amounts_below moved moved_tiers tier) → wan_of_tier moved moved_tiers tier ≡ turned tier
   turned-is tier are =
-      let loads = moving.loads-same (wan_of_tier wan tiers tier) moved_plan.groups (value_in_tier moved_tiers tier moved.value) group_at place_of count order same_groups (same_values tier)
+      let loads = moving.loads-same (wan_of_tier wan tiers tier) moved_plan.groups (value_in_tier moved_tiers tier moved.value) group_at place_of count order (same_groups plan group_at renumber) (same_tier_values tier)
       (amounts_below wan tiers tier) (amounts_below moved moved_tiers tier) are in
       ap (λ (load : ℕ → ℕ). record {
         top = plan.top;
@@ -96,7 +86,7 @@ module _ (plan : Plan) (tiers : List ℕ) (group_at place_of renumber : ℕ → 
       → AreMoved (filling (wan_of_tier wan tiers tier)).amounts (filling (wan_of_tier moved moved_tiers tier)).amounts
   filling-moved tier are =
       subst (λ (there : Wan). AreMoved (filling (wan_of_tier wan tiers tier)).amounts (filling there).amounts) (sym (turned-is tier are))
-      (moving.amounts-moved (wan_of_tier wan tiers tier) moved_plan.groups (value_in_tier moved_tiers tier moved.value) group_at place_of count order same_groups (same_values tier))
+      (moving.amounts-moved (wan_of_tier wan tiers tier) moved_plan.groups (value_in_tier moved_tiers tier moved.value) group_at place_of count order (same_groups plan group_at renumber) (same_tier_values tier))
 
   below-moved : (tier : ℕ) → AreMoved (amounts_below wan tiers tier) (amounts_below moved moved_tiers tier)
   unfolding amounts_below
@@ -111,13 +101,13 @@ module _ (plan : Plan) (tiers : List ℕ) (group_at place_of renumber : ℕ → 
   unfolding filling_of_tier
   closings-same tier =
       ap (λ (there : Wan). reverse (filling there).closings) (wan-is tier)
-      ∙ ap reverse (moving.closings-same (wan_of_tier wan tiers tier) moved_plan.groups (value_in_tier moved_tiers tier moved.value) group_at place_of count order same_groups (same_values tier))
+      ∙ ap reverse (moving.closings-same (wan_of_tier wan tiers tier) moved_plan.groups (value_in_tier moved_tiers tier moved.value) group_at place_of count order (same_groups plan group_at renumber) (same_tier_values tier))
 
   line-moved : (tier place : ℕ) → place < n
       → group_line (wan_of_tier moved moved_tiers tier) (filling (wan_of_tier moved moved_tiers tier)) place ≡ group_line (wan_of_tier wan tiers tier) (filling (wan_of_tier wan tiers tier)) (group_at place)
   line-moved tier place lt =
       ap (λ (there : Wan). group_line there (filling there) place) (wan-is tier)
-      ∙ moving.line-same (wan_of_tier wan tiers tier) moved_plan.groups (value_in_tier moved_tiers tier moved.value) group_at place_of count order same_groups (same_values tier) place lt
+      ∙ moving.line-same (wan_of_tier wan tiers tier) moved_plan.groups (value_in_tier moved_tiers tier moved.value) group_at place_of count order (same_groups plan group_at renumber) (same_tier_values tier) place lt
 
   -- the line of a group is that of its own tier
   line-same : (place : ℕ) → place < n → tiered_line moved moved_tiers place ≡ tiered_line wan tiers (group_at place)
@@ -134,7 +124,7 @@ module _ (plan : Plan) (tiers : List ℕ) (group_at place_of renumber : ℕ → 
 
   load-same : (link : ℕ) → link_load moved_plan.groups (tiered_amounts moved moved_tiers) link ≡ link_load plan.groups (tiered_amounts wan tiers) link
   load-same =
-      moving.loads-same (wan_of_tier wan tiers 0) moved_plan.groups (value_in_tier moved_tiers 0 moved.value) group_at place_of count order same_groups (same_values 0)
+      moving.loads-same (wan_of_tier wan tiers 0) moved_plan.groups (value_in_tier moved_tiers 0 moved.value) group_at place_of count order (same_groups plan group_at renumber) (same_tier_values 0)
       (tiered_amounts wan tiers) (tiered_amounts moved moved_tiers) amounts-moved
 
   -- there are as many tiers
@@ -159,7 +149,7 @@ module _ (plan : Plan) (tiers : List ℕ) (group_at place_of renumber : ℕ → 
 
   amount-same : (place : ℕ) → place < n → group_amount moved (tiered_amounts moved moved_tiers) place ≡ group_amount wan (tiered_amounts wan tiers) (group_at place)
   amount-same place lt =
-      ap₂ (λ (size : ℕ) (amounts : ℕ → ℕ). sum_below size amounts) (ap (λ groups. length groups) (same_groups place lt)) (amounts-moved place lt)
+      ap₂ (λ (size : ℕ) (amounts : ℕ → ℕ). sum_below size amounts) (ap (λ groups. length groups) (same_groups plan group_at renumber place lt)) (amounts-moved place lt)
 
   abbrev amounts_by : Wan → List ℕ → ℕ → List ℕ
   amounts_by wan tiers size = map (group_amount wan (tiered_amounts wan tiers)) (numbers size)
@@ -187,7 +177,7 @@ module _ (plan : Plan) (tiers : List ℕ) (group_at place_of renumber : ℕ → 
         → limits_at moved_plan (tiered_under moved_plan prefix other capacities moved_tiers).limits place ≡ limits_at plan (tiered_under plan prefix demand capacities tiers).limits (group_at place)
     limits-same place lt =
         moved-limits-are place lt
-        ∙ ap₂ (cluster_limits plan.top other) (same_cluster place lt) (amount-same place lt)
+        ∙ ap₂ (cluster_limits plan.top other) (same_cluster plan group_at renumber place lt) (amount-same place lt)
         ∙ cluster_limits-same plan.top renumber demand other same (cluster_at plan (group_at place)) (group_amount wan (tiered_amounts wan tiers) (group_at place))
         ∙ sym (limits-are (group_at place) (order.within place lt))
 

@@ -14,14 +14,13 @@ use Rattle.bwe_specs.specs.Values.{NeverFalls}
 use Rattle.bwe_specs.specs.Allocation.{GroupLine, group_line}
 use Rattle.policy_tree.specs.Trees.{Tree, IsTree, demand_in, value_in}
 use Rattle.table_laws.specs.Tasks.{AreAskedFor}
-use Rattle.table_laws.specs.Tables.{IsSharedAlike, IsWithoutWaste}
+use Rattle.table_laws.specs.Tables.{IsSharedAlike, IsWithoutWaste, line_at}
 use Rattle.table_laws.specs.Growing.{StandsIn, GrowsOver, added_load}
 use Rattle.table_laws.proofs.Asked.{clusters-asked}
 use Rattle.table_laws.proofs.Shared.{shared-alike, line-at, in-groups, some-path_group}
 use Rattle.table_laws.proofs.Walks.{numbered}
 use Rattle.table_laws.proofs.Wasted.{without-waste, right}
 use Rattle.tiers.specs.Tiered.{Tiered, is_in_tier, amounts_below, wan_of_tier, filling_of_tier, tier_closings, tier_count, tiered_amounts, tiered_line, tiered_of}
-use Rattle.tiers.specs.Laws.{line_at}
 use Rattle.tiers.specs.TierLaws.{IsShared, IsUnwasted, closings_in}
 use Rattle.tiers.proofs.Tiers.{tier-counted, free-at, length-free, tier-never, own-at_most, load-more, below-fits, own-load}
 
@@ -55,7 +54,7 @@ module _ (wan : Wan) (tiers : List ℕ) (never : NeverFalls wan) (starts : (grou
   closings-are tier lt =
       ap reverse (get_or-map-range_with_len (tier_closings wan tiers) 0 (tier_count tiers) tier tier [] lt (zero-add tier)) ∙ reverse-reverse (filling (W tier)).closings
 
-  line-is : (group : ℕ) → group < length wan.groups → line_at table group ≡ group_line (W (slice_index tiers group)) (filling (W (slice_index tiers group))) group
+  line-is : (group : ℕ) → group < length wan.groups → line_at table.groups group ≡ group_line (W (slice_index tiers group)) (filling (W (slice_index tiers group))) group
   unfolding filling_of_tier
   line-is group lt = get_or-map-range_with_len (tiered_line wan tiers) 0 (length wan.groups) group group _ lt (zero-add group)
 
@@ -63,7 +62,7 @@ module _ (wan : Wan) (tiers : List ℕ) (never : NeverFalls wan) (starts : (grou
   lines_of_tier tier = map (group_line (W tier) (filling (W tier))) (numbers (length wan.groups))
 
   -- the line of a group in the table is that in the filling of its own tier
-  own-line : (group : ℕ) (lt : group < length wan.groups) → line_at table group ≡ slice_index_or (lines_of_tier (slice_index tiers group)) group (record { share = 0; amount = 0; places = [] })
+  own-line : (group : ℕ) (lt : group < length wan.groups) → line_at table.groups group ≡ slice_index_or (lines_of_tier (slice_index tiers group)) group (record { share = 0; amount = 0; places = [] })
   own-line group lt = line-is group lt ∙ sym (line-at (W (slice_index tiers group)) (filling (W (slice_index tiers group))) group lt)
 
   alike : (tier : ℕ) → IsSharedAlike (W tier) (lines_of_tier tier) (filling (W tier)).closings
@@ -87,7 +86,7 @@ module _ (wan : Wan) (tiers : List ℕ) (never : NeverFalls wan) (starts : (grou
 
   stopped-at : (tier : ℕ) → tier < tier_count tiers → (closing : Closing) (earlier : List Closing) → StandsIn (closings_in table tier) closing earlier
       → (group : ℕ) → slice_index tiers group ≡ tier → GrowsOver (W tier) earlier group closing.link
-      → current_path_group_of wan (closing ∷ earlier) group ≡ None → (line_at table group).share ≡ closing.share
+      → current_path_group_of wan (closing ∷ earlier) group ≡ None → (line_at table.groups group).share ≡ closing.share
   stopped-at tier lt closing earlier stands group own grows none =
       ap (λ line. line.share) (own-line group (grows-in tier group earlier closing.link grows))
       ∙ ap (λ tier. (slice_index_or (lines_of_tier tier) group (record { share = 0; amount = 0; places = [] })).share) own

@@ -1,5 +1,5 @@
 -- Lower tiers do not see the demands of higher ones.
-use Rattle.std.proofs.Common.{◌≡◌, ℕ, zero, suc, ◌+◌, ◌<◌, ◌≤◌, Bool, true, false, List, [], length, map, slice_index, slice_index_or, reverse, if◌then◌else◌, None, inl, inr, refl, sym, ap, ap₂, ◌∙◌, arith, zero-add}
+use Rattle.std.proofs.Common.{◌≡◌, ℕ, zero, suc, ◌+◌, ◌<◌, ◌≤◌, Bool, true, false, List, [], length, map, slice_index, slice_index_or, reverse, if◌then◌else◌, inl, inr, refl, sym, ap, ap₂, ◌∙◌, arith, zero-add}
 use mathlib.Core.Path.{fun_ext}
 use Rattle.std.specs.List.{range_with_len}
 use Rattle.std.proofs.lemmas.Bool.{cases_lt, and_parts, ltb-true, eqb-true}
@@ -9,11 +9,12 @@ use Rattle.bwe_specs.specs.Filling.{Wan, State, filling, group_amount}
 use Rattle.bwe_specs.specs.Reports.{numbers}
 use Rattle.bwe_specs.specs.Tree.{cluster_limits}
 use Rattle.bwe_specs.specs.Allocation.{Plan, group_line, wan_under}
-use Rattle.policy_tree.specs.Trees.{cluster_numbers, task_numbers}
-use Rattle.allocator.specs.FrameLaws.{length-cluster_limits}
-use Rattle.allocator.proofs.Pieces.{piece-at}
+use Rattle.policy_tree.specs.Trees.{task_numbers}
 use Rattle.tiers.specs.Tiered.{is_in_tier, value_in_tier, free_under, wan_over, amounts_below, wan_of_tier, filling_of_tier, tier_closings, tier_count, tiered_amounts, tiered_line, tiered_under}
-use Rattle.tiers.specs.Laws.{cluster_at, AgreeUpTo, AreEqualUpTo, limits_at}
+use Rattle.table_laws.specs.Order.{cluster_at, limits_at}
+use Rattle.table_laws.proofs.Pieces as pieces
+use Rattle.table_laws.proofs.Walks.{numbered}
+use Rattle.tiers.specs.Laws.{AgreeUpTo, AreEqualUpTo}
 use Rattle.tiers.proofs.Agreeing.{cluster_value-same, cluster_limits-same}
 
 module _ (plan : Plan) (tiers : List ℕ) (last : ℕ) (capacities : List ℕ) (demand other : ℕ → ℕ) (clusters : length plan.clusters ≡ length plan.groups)
@@ -27,7 +28,7 @@ module _ (plan : Plan) (tiers : List ℕ) (last : ℕ) (capacities : List ℕ) (
   value-same : (group share : ℕ) → group < length tiers → slice_index tiers group ≤ last → one.value group share ≡ two.value group share
   value-same group share lt le =
       ap (λ (value : ℕ → ℕ). value share)
-      (cluster_value-same demand other plan.top (cluster_at plan.clusters group) (λ task inside. agree group task (omega (arith, clusters, one_each)) le inside))
+      (cluster_value-same demand other plan.top (cluster_at plan group) (λ task inside. agree group task (omega (arith, clusters, one_each)) le inside))
 
   tier_value-same : (tier : ℕ) → tier ≤ last → value_in_tier tiers tier one.value ≡ value_in_tier tiers tier two.value
   tier_value-same tier le = fun_ext (λ group. fun_ext (λ share. go group share (is_in_tier tiers tier group) refl)) where
@@ -81,23 +82,23 @@ module _ (plan : Plan) (tiers : List ℕ) (last : ℕ) (capacities : List ℕ) (
 
   module _ (prefix : ℕ) (walk : task_numbers plan.clusters ≡ range_with_len 0 (length (task_numbers plan.clusters))) where
     limits-at : (demand : ℕ → ℕ) (group : ℕ) → group < length plan.clusters
-        → limits_at plan (tiered_under plan prefix demand capacities tiers) group
-        ≡ cluster_limits plan.top demand (cluster_at plan.clusters group) (group_amount (wan_under plan demand capacities) (tiered_amounts (wan_under plan demand capacities) tiers) group)
+        → limits_at plan (tiered_under plan prefix demand capacities tiers).limits group
+        ≡ cluster_limits plan.top demand (cluster_at plan group) (group_amount (wan_under plan demand capacities) (tiered_amounts (wan_under plan demand capacities) tiers) group)
     unfolding tiered_under amounts_by
     limits-at demand group lt =
         let wan : Wan = wan_under plan demand capacities in
-        piece-at (λ given. cluster_limits plan.top demand given.0 given.1) cluster_numbers (length-cluster_limits plan.top demand) plan.clusters (amounts_by wan) []
-        (length-map-range_with_len (group_amount wan (tiered_amounts wan tiers)) 0 (length plan.clusters)) walk group (record { configured = None; users = [] }) lt
-        ∙ ap (cluster_limits plan.top demand (cluster_at plan.clusters group))
+        pieces.limits-at plan.top demand plan.clusters (amounts_by wan) (numbered plan.clusters (length (task_numbers plan.clusters)) walk)
+        (length-map-range_with_len (group_amount wan (tiered_amounts wan tiers)) 0 (length plan.clusters)) group _ lt
+        ∙ ap (cluster_limits plan.top demand (cluster_at plan group))
         (get_or-map-range_with_len (group_amount wan (tiered_amounts wan tiers)) 0 (length plan.clusters) group group 0 lt (zero-add group))
 
     limits-same : (group : ℕ) → group < length plan.groups → slice_index tiers group ≤ last
-        → limits_at plan (tiered_under plan prefix demand capacities tiers) group ≡ limits_at plan (tiered_under plan prefix other capacities tiers) group
+        → limits_at plan (tiered_under plan prefix demand capacities tiers).limits group ≡ limits_at plan (tiered_under plan prefix other capacities tiers).limits group
     limits-same group lt le =
         let inside : group < length plan.clusters = omega (arith, clusters) in
         limits-at demand group inside
-        ∙ ap (cluster_limits plan.top demand (cluster_at plan.clusters group)) (amount-same group le)
-        ∙ cluster_limits-same demand other plan.top (cluster_at plan.clusters group) (group_amount two (tiered_amounts two tiers) group)
+        ∙ ap (cluster_limits plan.top demand (cluster_at plan group)) (amount-same group le)
+        ∙ cluster_limits-same demand other plan.top (cluster_at plan group) (group_amount two (tiered_amounts two tiers) group)
         (λ task within. agree group task inside le within)
         ∙ sym (limits-at other group inside)
 

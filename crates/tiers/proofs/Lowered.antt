@@ -1,17 +1,12 @@
 -- Capacities that are lowered, and loads that are added, link by link.
-use Rattle.std.proofs.Common.{◌≡◌, ℕ, ◌+◌, ◌-◌, ◌<◌, ◌≤◌, List, [], ◌∷◌, length, map, set, get_or, slice_index, ◌&&◌, refl, sym, ap, ap₂, ◌∙◌, subst, arith, inl, inr, get_or-set_same, get_or-set_other}
-use Rattle.std.specs.Str.{bytes_eq}
-use Rattle.std.proofs.lemmas.Bool.{cases_eq, cases_lt}
+use Rattle.std.proofs.Common.{◌≡◌, ℕ, ◌+◌, ◌-◌, ◌<◌, ◌≤◌, List, length, map, set, get_or, slice_index, refl, sym, ap, ap₂, ◌∙◌, subst, arith, inl, inr, get_or-set_same, get_or-set_other}
+use Rattle.std.proofs.lemmas.Bool.{cases_eq}
 use Rattle.std.proofs.lemmas.List.{length-set}
 use Rattle.std.proofs.lemmas.List.FromFn.{fill_by_all}
 use Rattle.bwe_specs.specs.Reports.{numbers}
-use Rattle.bwe_specs.specs.Paths.{Path, PathGroups, path_group_at}
-use Rattle.path_groups.specs.Plan.{IsBuiltOn, IsPathOf, is_linked}
-use Rattle.wan_topology.specs.Network.{Network, Sites, sites_of}
-
--- the network with other capacities
-abbrev pub with_capacities : Network → List ℕ → Network
-with_capacities network capacities = record network { capacities = capacities }
+use Rattle.wan_topology.specs.Network.{Network, Sites}
+use Rattle.allocator.proofs.Put.{ne_lt}
+use Rattle.path_groups.proofs.OtherCapacities.{with_capacities}
 
 -- each link below one has its capacity less a load, each other has its capacity
 pub record IsLowered (old new : Network) (loads : List ℕ) (link : ℕ) : Type 0 where
@@ -20,10 +15,6 @@ pub record IsLowered (old new : Network) (loads : List ℕ) (link : ℕ) : Type 
   pub count : length new.capacities ≡ length old.capacities
   pub below : (at : ℕ) → at < link → slice_index new.capacities at ≡ slice_index old.capacities at - slice_index loads at
   pub rest : (at : ℕ) → link ≤ at → slice_index new.capacities at ≡ slice_index old.capacities at
-
--- a place below the next that is not the last is below the last
-under : (at link : ℕ) → at < link + 1 → (at ≡ link → ⊥) → at < link
-under at link lt apart = elim (cases_lt at link) [ inl less ↦ less | inr more ↦ absurd (apart (omega arith)) ]
 
 pub lowered-none : (old : Network) (loads : List ℕ) → IsLowered old old loads 0
 lowered-none old loads = record {
@@ -45,7 +36,7 @@ lowered-more old new loads link left is within left-is = record {
         | inl here ↦
             subst (λ (at : ℕ). get_or (set new.capacities link left) at 0 ≡ get_or old.capacities at 0 - get_or loads at 0) (sym here)
             (get_or-set_same new.capacities link left 0 within ∙ left-is ∙ ap (λ capacity. capacity - get_or loads link 0) (is.rest link (omega arith)))
-        | inr apart ↦ get_or-set_other new.capacities link at left 0 apart ∙ is.below at (under at link lt apart)
+        | inr apart ↦ get_or-set_other new.capacities link at left 0 apart ∙ is.below at (ne_lt at link lt apart)
       ];
   rest = λ at le. get_or-set_other new.capacities link at left 0 (λ e. absurd (omega arith)) ∙ is.rest at (omega arith);
 }
@@ -79,7 +70,7 @@ added-more old new more link load is within load-is = record {
         | inl here ↦
             subst (λ (at : ℕ). get_or (set new link load) at 0 ≡ get_or old at 0 + get_or more at 0) (sym here)
             (get_or-set_same new link load 0 within ∙ load-is ∙ ap (λ load. load + get_or more link 0) (is.rest link (omega arith)))
-        | inr apart ↦ get_or-set_other new link at load 0 apart ∙ is.below at (under at link lt apart)
+        | inr apart ↦ get_or-set_other new link at load 0 apart ∙ is.below at (ne_lt at link lt apart)
       ];
   rest = λ at le. get_or-set_other new link at load 0 (λ e. absurd (omega arith)) ∙ is.rest at (omega arith);
 }
@@ -88,23 +79,3 @@ pub added-all : (old new more : List ℕ) (link : ℕ) → IsAdded old new more 
     → new ≡ map (λ link. slice_index old link + slice_index more link) (numbers (length old))
 added-all old new more link is all =
     fill_by_all (λ link. slice_index old link + slice_index more link) new (length old) 0 is.count (λ at lt. is.below at (omega (arith, all)))
-
-linked-same : (network : Network) (capacities links : List ℕ) → is_linked (with_capacities network capacities) links ≡ is_linked network links
-linked-same network capacities [] = refl
-linked-same network capacities (first ∷ []) = refl
-linked-same network capacities (first ∷ next ∷ later) =
-    ap (λ rest. bytes_eq (sites_of network next).from (sites_of network first).to && rest) (linked-same network capacities (next ∷ later))
-
--- a path goes over the links of the network whatever they can carry
-path-same : (network : Network) (capacities : List ℕ) (path : Path) → length capacities ≡ length network.capacities → IsPathOf network path → IsPathOf (with_capacities network capacities) path
-path-same network capacities path same is = record {
-  in_range = λ k d lt. subst (λ n. get_or path.links k d < n) (sym same) (is.in_range k d lt);
-  linked = linked-same network capacities path.links ∙ is.linked;
-}
-
--- a plan is built on the links of a network, whatever they can carry
-pub built_on-same : (network : Network) (capacities : List ℕ) (groups : List PathGroups) → length capacities ≡ length network.capacities
-    → IsBuiltOn network groups → IsBuiltOn (with_capacities network capacities) groups
-built_on-same network capacities groups same is = record {
-  paths = λ group place k d lt. path-same network capacities (get_or (path_group_at groups group place) k d) same (is.paths group place k d lt);
-}

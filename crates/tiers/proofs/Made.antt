@@ -1,5 +1,5 @@
 -- The table that the fillings of all tiers make.
-use Rattle.std.proofs.Common.{◌≡◌, ℕ, ◌<◌, ◌≤◌, List, [], length, map, reverse, sum, sum_by, get_or, slice_index, slice_index_or, None, Option, sym, ap, ap₂, ◌∙◌, subst, arith, zero-add, le_trans}
+use Rattle.std.proofs.Common.{◌≡◌, ℕ, ◌<◌, ◌≤◌, List, [], length, map, reverse, sum, sum_by, get_or, slice_index, slice_index_or, sym, ap, ap₂, ◌∙◌, subst, arith, zero-add, le_trans}
 use Rattle.std.proofs.lemmas.List.{get_or-map, length-map, reverse-reverse}
 use Rattle.std.proofs.lemmas.List.FromFn.{fill_by_all, length-map-range_with_len, get_or-map-range_with_len}
 use Rattle.bwe_specs.specs.declared.network.Closing.{Closing}
@@ -12,25 +12,13 @@ use Rattle.bwe_specs.specs.Allocation.{GroupLine, PlaceLine}
 use Rattle.bwe_specs.proofs.Bounds.{sum_below-mono, sum_below-term}
 use Rattle.bwe_specs.proofs.Sums.{sum_by-numbers}
 use Rattle.allocator.specs.Lines.{line_of_place}
-use Rattle.allocator.proofs.Filled.{map-numbers, sum-numbers}
+use Rattle.allocator.proofs.Filled.{line_parts, map-numbers, no_line, no_place, place_parts, sum-numbers}
 use Rattle.tiers.specs.Tiered.{Tiered, amounts_below, filling_of_tier, wan_of_tier, tier_closings, tier_count, tiered_amounts, tiered_line}
 use Rattle.tiers.specs.Fillings.{Fillings, AreFilled, HasLine, line_in_tier, row_of, rows_by, stops_by}
 use Rattle.tiers.proofs.Tiers.{own-at_most, own-load, below-fits, tier-counted}
 
-abbrev place_parts : ℕ → Option ℕ → PlaceLine
-place_parts amount closed = record { amount = amount; closed = closed }
-
-abbrev line_parts : ℕ → ℕ → List PlaceLine → GroupLine
-line_parts share amount places = record { share = share; amount = amount; places = places }
-
 abbrev table_parts : ℕ → List (List Closing) → List ℕ → List GroupLine → List ℕ → Tiered
 table_parts prefix tiers limits groups loads = record { prefix = prefix; tiers = tiers; limits = limits; groups = groups; loads = loads }
-
-no_line : GroupLine
-no_line = record { share = 0; amount = 0; places = [] }
-
-no_place : PlaceLine
-no_place = record { amount = 0; closed = None }
 
 module _ (wan : Wan) (tiers : List ℕ) (never : NeverFalls wan) (bound : sum_below (length wan.groups) (λ group. wan.value group wan.top) ≤ 20_000_000_000_000_000)
     (fillings : Fillings) (are : AreFilled wan tiers (tier_count tiers) fillings) (one_each : length tiers ≡ length wan.groups) where

@@ -10,13 +10,13 @@ use Rattle.mpfa_fill.specs.declared.steps.Filling.{Filling}
 use Rattle.mpfa_fill.specs.Filling.{IsFilling}
 use Rattle.mpfa_fill.specs.GroupValues.{wan_of}
 use Rattle.path_groups.specs.Plan.{IsBuiltOn}
+use Rattle.path_groups.proofs.OtherCapacities.{with_capacities, built_on-same}
 use Rattle.policy_tree.specs.Trees.{Tree, value_in}
 use Rattle.wan_topology.specs.Network.{Network, IsNetwork}
 use Rattle.tiers.specs.Tiered.{free_under, amounts_below, wan_of_tier}
 use Rattle.tiers.specs.Fillings.{Fillings, IsFilledTo, values_of_tier, wan_by, with_filling}
 use Rattle.tiers.proofs.Tiers.{free-none, length-free}
 use Rattle.tiers.proofs.Kept.{filled-none, filled-more, next-shaped, next-total, next-links, next-fit, next-free, take-links, take-fit}
-use Rattle.tiers.proofs.Lowered.{with_capacities, built_on-same}
 
 module _ (tree : Tree) (initial : Network) (groups : List PathGroups) (tiers : List ℕ) (clusters : length tree.clusters ≡ length groups)
     (values : AreValues (length tree.clusters) tree.top (value_in tree)) where

@@ -1,30 +1,17 @@
 -- What the lower tiers of two tables have in common.
-use Rattle.std.specs.Prelude.{◌≡◌, ℕ, ◌<◌, ◌≤◌, List, length, map, slice_index, slice_index_or, Contains, None, []}
+use Rattle.std.specs.Prelude.{◌≡◌, ℕ, ◌<◌, ◌≤◌, List, length, slice_index, slice_index_or, Contains, []}
 use Rattle.std.specs.List.{range_with_len}
-use Rattle.bwe_specs.specs.Allocation.{Plan, GroupLine}
-use Rattle.bwe_specs.specs.Tree.{Cluster}
+use Rattle.bwe_specs.specs.Allocation.{Plan}
 use Rattle.policy_tree.specs.Trees.{cluster_numbers, task_numbers}
+use Rattle.table_laws.specs.Order.{cluster_at, limits_at}
+use Rattle.table_laws.specs.Tables.{line_at}
 use Rattle.tiers.specs.Tiered.{Tiered, tiered_under}
-
--- the cluster of a group; one without users where there is no such group
-abbrev pub cluster_at : List Cluster → ℕ → Cluster
-cluster_at clusters group = slice_index_or clusters group (record { configured = None; users = [] })
 
 -- the demands agree on all tasks of groups in tiers up to one
 abbrev pub AgreeUpTo : Plan → List ℕ → ℕ → (ℕ → ℕ) → (ℕ → ℕ) → Type 0
 AgreeUpTo plan tiers last demand other =
     (group task : ℕ) → group < length plan.clusters → slice_index tiers group ≤ last
-    → Contains (cluster_numbers (cluster_at plan.clusters group)) task → demand task ≡ other task
-
--- the line of a group in a table
-abbrev pub line_at : Tiered → ℕ → GroupLine
-line_at table group =
-    slice_index_or table.groups group (record { share = 0; amount = 0; places = [] })
-
--- the limits of a group's tasks in a table
-abbrev pub limits_at : Plan → Tiered → ℕ → List ℕ
-limits_at plan table group =
-    map (slice_index table.limits) (cluster_numbers (cluster_at plan.clusters group))
+    → Contains (cluster_numbers (cluster_at plan group)) task → demand task ≡ other task
 
 -- the tables agree on the closings, the group lines and the limits of tiers up to one
 pub record AreEqualUpTo (plan : Plan) (tiers : List ℕ) (last : ℕ) (table other : Tiered)
@@ -32,9 +19,9 @@ pub record AreEqualUpTo (plan : Plan) (tiers : List ℕ) (last : ℕ) (table oth
   pub closings : (tier : ℕ) → tier ≤ last
       → slice_index_or table.tiers tier [] ≡ slice_index_or other.tiers tier []
   pub lines : (group : ℕ) → group < length plan.groups → slice_index tiers group ≤ last
-      → line_at table group ≡ line_at other group
+      → line_at table.groups group ≡ line_at other.groups group
   pub limits : (group : ℕ) → group < length plan.groups → slice_index tiers group ≤ last
-      → limits_at plan table group ≡ limits_at plan other group
+      → limits_at plan table.limits group ≡ limits_at plan other.limits group
 
 -- no demand of a higher tier matters: two worlds of one plan and tiers that agree on the
 -- capacities, and on the demands of all tasks in tiers up to one, agree on the closings, group

@@ -3,9 +3,9 @@ use Rattle.std.specs.Prelude.{◌≡◌, ℕ, ◌<◌, List, length, map, slice_
 use Rattle.bwe_specs.specs.Reports.{numbers}
 use Rattle.bwe_specs.specs.Allocation.{Plan}
 use Rattle.table_laws.specs.Tasks.{AreNumbered}
+use Rattle.table_laws.specs.Tables.{line_at}
 use Rattle.table_laws.specs.Order.{IsOrder, limits_at, reordered}
 use Rattle.tiers.specs.Tiered.{Tiered, tiered_under}
-use Rattle.tiers.specs.Laws.{line_at}
 
 -- the tiers of the groups in another order
 abbrev pub tiers_reordered : (ℕ → ℕ) → List ℕ → List ℕ
@@ -16,7 +16,7 @@ tiers_reordered group_at tiers =
 -- closings of each tier are the same
 pub record AreAlike (plan other : Plan) (group_at : ℕ → ℕ) (table moved : Tiered) : Type 0 where
   pub lines : (place : ℕ) → place < length plan.groups
-      → line_at moved place ≡ line_at table (group_at place)
+      → line_at moved.groups place ≡ line_at table.groups (group_at place)
   pub limits : (place : ℕ) → place < length plan.groups
       → limits_at other moved.limits place ≡ limits_at plan table.limits (group_at place)
   pub loads : moved.loads ≡ table.loads

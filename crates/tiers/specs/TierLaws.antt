@@ -7,9 +7,9 @@ use Rattle.bwe_specs.specs.Filling.{Wan, current_path_group_of, group_amount}
 use Rattle.bwe_specs.specs.RightClosings.{amounts_at}
 use Rattle.policy_tree.specs.Trees.{Tree, demand_in}
 use Rattle.table_laws.specs.Tasks.{AreAskedFor}
+use Rattle.table_laws.specs.Tables.{line_at}
 use Rattle.table_laws.specs.Growing.{StandsIn, GrowsOver, added_load}
 use Rattle.tiers.specs.Tiered.{Tiered, tier_count, wan_of_tier}
-use Rattle.tiers.specs.Laws.{line_at}
 
 -- No more than asked: each task's limit is at most its demand, and at most its weight times what
 -- its job's task function gives at the top share
@@ -25,7 +25,7 @@ closings_in table tier = reverse (slice_index_or table.tiers tier [])
 -- share, and stops there if no path group is left to it
 pub record IsShared (wan : Wan) (tiers : List ℕ) (table : Tiered) : Type 0 where
   pub at_stop : (group : ℕ) → 0 < path_group_count wan.groups group
-      → (line_at table group).amount ≡ wan.value group (line_at table group).share
+      → (line_at table.groups group).amount ≡ wan.value group (line_at table.groups group).share
   pub at_closing : (tier : ℕ) → tier < tier_count tiers
       → (closing : Closing) (earlier : List Closing)
       → StandsIn (closings_in table tier) closing earlier
@@ -38,7 +38,7 @@ pub record IsShared (wan : Wan) (tiers : List ℕ) (table : Tiered) : Type 0 whe
       → (group : ℕ) → slice_index tiers group ≡ tier
       → GrowsOver (wan_of_tier wan tiers tier) earlier group closing.link
       → current_path_group_of wan (closing ∷ earlier) group ≡ None
-      → (line_at table group).share ≡ closing.share
+      → (line_at table.groups group).share ≡ closing.share
 
 -- No waste: where a group has less than it may have at the top, each of its path groups uses a link
 -- that its tier closed; on a link that a tier closed the load of all tiers, and what the groups of
@@ -46,7 +46,7 @@ pub record IsShared (wan : Wan) (tiers : List ℕ) (table : Tiered) : Type 0 whe
 -- capacity
 pub record IsUnwasted (wan : Wan) (tiers : List ℕ) (table : Tiered) : Type 0 where
   pub held : (group place : ℕ) → place < path_group_count wan.groups group
-      → (line_at table group).amount < wan.value group wan.top
+      → (line_at table.groups group).amount < wan.value group wan.top
       → (closing : Closing) × Contains (closings_in table (slice_index tiers group)) closing
       × (uses (path_group_at wan.groups group place) closing.link ≡ true)
   pub little_left : (tier : ℕ) → tier < tier_count tiers

@@ -1,6 +1,7 @@
 -- What contracts see of links. A text is the list of its bytes, a link's number is its place in
 -- each list.
 use Rattle.std.specs.Prelude.{◌≡◌, ℕ, ◌≤◌, List, [], ◌∷◌, ◌++◌, length, map, All, slice_index_or}
+use Rattle.bwe_specs.specs.declared.limits.TheConstants.{MAX_AMOUNT, MAX_LINKS}
 
 -- a link as it is given: its name, the sites where it starts and ends, and what it can carry, in
 -- kilobits per second
@@ -40,10 +41,10 @@ network_with network link = record {
 -- there are few links, each has a name, sites and a capacity, and no capacity is above the greatest
 -- amount
 pub record IsNetwork (network : Network) : Type 0 where
-  pub few_links : length network.capacities ≤ 4_096
+  pub few_links : length network.capacities ≤ MAX_LINKS
   pub each_named : length network.names ≡ length network.capacities
   pub each_sited : length network.sites ≡ length network.capacities
-  pub capacities_in_range : All (λ capacity. capacity ≤ 1_000_000_000_000) network.capacities
+  pub capacities_in_range : All (λ capacity. capacity ≤ MAX_AMOUNT) network.capacities
 
 -- the sites of a link; no site where there is no such link
 abbrev pub sites_of : Network → ℕ → Sites

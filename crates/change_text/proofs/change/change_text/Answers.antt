@@ -16,7 +16,7 @@ returns c =
       c.in_ok-push_changed_closings.ensures,
       c.in_ok-end_with_number.ensures,
       c.new-text.ensures.bytes,
-      c.total.ensures,
+      c.total_in.ensures,
       c.deref.ensures.value,
       c.deref-2.ensures.value,
       c.deref-3.ensures.value,
