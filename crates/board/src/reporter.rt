@@ -49,6 +49,7 @@ impl<B: Bases> ReporterPass<B> {
         }
     }
 
+    /// The number of its reporter.
     pub fn number(&self) -> u32
         ensures number { result ≡ self.now.number }
         ensures placed { StandIn self.now.seen self.now.own }

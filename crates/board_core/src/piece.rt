@@ -28,6 +28,7 @@ impl Piece {
         Piece { reports }
     }
 
+    /// The reports, in their order.
     pub fn as_slice(&self) -> &[Report]
         ensures { result.now ≡ self.now }
     {

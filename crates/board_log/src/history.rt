@@ -82,6 +82,7 @@ pub struct OpenedLog {
 }
 
 impl OpenedLog {
+    /// Opens a log.
     pub fn new() -> OpenedLog {
         let (seen, mut first, _second) = Seen::open(Start::alone(), 0, 0);
         OpenedLog {

@@ -150,6 +150,7 @@ impl<B: Bases> Model for Member<B> {
 }
 
 impl OpenedRoll {
+    /// Opens a roll, which has no members.
     pub fn new(alloc: Global) -> Result<OpenedRoll, OutOfMemory> {
         let (table, keeper) = Table::of_words(alloc, &[0], &())?;
         Ok(OpenedRoll { table, keeper })

@@ -15,7 +15,7 @@ mod sure;
 
 pub use memory::{MemorySink, MemorySource};
 pub use sink::{Sink, WriteFault, write_all};
-pub use source::{ReadError, Source, read_all};
+pub use source::{ReadError, Source, read_all, zeros};
 pub use standard::{StdSink, StdSource};
 pub use sure::{SureSink, SureSource};
 

@@ -96,8 +96,8 @@ pub fn read_all<S: Source>(alloc: Global, source: &mut S, limit: u64) -> Result<
     Err(ReadError::TooLong)
 }
 
-// A chunk to read into.
-fn zeros(alloc: Global, size: usize) -> Result<Vec<u8>, AllocError>
+/// So many zero bytes, a chunk to read into.
+pub fn zeros(alloc: Global, size: usize) -> Result<Vec<u8>, AllocError>
     ensures { IfOk result (λ chunk. vec_len chunk ≡ size) }
 {
     vec![in alloc; 0u8; size]

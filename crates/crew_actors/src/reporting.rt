@@ -68,7 +68,7 @@ fn report_script<M: Maker, N: Profile<M::Table>, B: Bases, G: Gate, R: Wait>(
 }
 
 // The later of two acks, which holds both.
-#[tactic(auto, using(crew_readers::proofs::Lines::prefix_same))]
+#[tactic(auto, using(board_log::proofs::Prefixes::prefix_self))]
 fn later_of<B: Bases>(left: Option<Ack<B>>, ack: Ack<B>) -> Ack<B>
     ensures new { IsPrefix ack result }
     ensures left { IfSome left (λ before. IsPrefix before result) }

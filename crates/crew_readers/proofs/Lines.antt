@@ -1,15 +1,12 @@
 -- Lines of a reader, one after another.
 use Rattle.std.proofs.Common.{◌≡◌, ℕ, ◌≤◌, List, [], ◌∷◌, ◌++◌, length, take, sym, ◌∙◌, ap, subst, arith, length-append}
-use Rattle.std.proofs.lemmas.List.{append-nil, take-append-le}
+use Rattle.std.proofs.lemmas.List.{take-append-le}
 use Rattle.std.proofs.lemmas.List.Elements.{All-weaker}
 use Rattle.std.specs.List.{All}
 use mathlib.Core.List.{IsPrefix}
 use Rattle.bwe_specs.specs.declared.report.Report.{Report}
 use Rattle.crew_log.specs.declared.log.ReadLine.{ReadLine}
 use Rattle.crew_log.specs.Lines.{IsLineOf, NeverGoBack}
-
-pub prefix_same : {A : Type 0} (xs : List A) → IsPrefix xs xs
-prefix_same xs = ([], append-nil xs)
 
 -- where each of two lists begins the other, they are as long
 pub prefix_both : {A : Type 0} (xs ys : List A) → IsPrefix xs ys → IsPrefix ys xs → length ys ≡ length xs

@@ -16,8 +16,10 @@ pub enum Actor {
 ///
 /// It can hold an actor up, and it is shown what a reader reads. It has no answer.
 pub trait Gate {
+    /// Called before each call of an actor.
     fn before(&self, actor: Actor, call: u64);
 
+    /// Called after each call of an actor but a read.
     fn after(&self, actor: Actor, call: u64);
 
     /// Called after a read, with what it showed, in place of `after`.

@@ -1,5 +1,5 @@
-//! What each line of the program writes for its input, but for `run` and `audit`, which stand
-//! above.
+//! What each line of the program writes for its input, but for `audit`, which has a crate of its
+//! own, `audit_answer`, and for `run`, which stands in `bwe_cli`.
 //!
 //! The top call makes a whole answer by one of these, and then writes it. The contract of each says
 //! the one reply that an input has. Nothing is promised of time, nor that memory is there.

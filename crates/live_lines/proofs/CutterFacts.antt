@@ -6,6 +6,7 @@ use Rattle.std.proofs.lemmas.List.{append-nil}
 use Rattle.std.proofs.lemmas.List.Elements.{All-push}
 use Rattle.std.proofs.lemmas.List.Splits.{slice_split_at, slice_split_none, length-slice_split}
 use Rattle.text_scan.specs.Lines.{pieces_of, all_but_last, last_of, lines_of, left_of}
+use Rattle.text_scan.proofs.LineFacts.{more_lines, same_last}
 use Rattle.live_lines.specs.Known.{Text}
 use Rattle.live_lines.specs.Cutting.{Held, within, with_byte, lines_from, held_after}
 use Rattle.live_lines.specs.Laws.{PiecesDoNotMatter, LinesAreOfTheText}
@@ -53,14 +54,6 @@ longer text byte = go (nat_le (length text) 255) refl
     go false e =
         let long : 255 < length text = leb-false (length text) 255 e in
         sym (rw (lt-leb (length (text ++ byte ∷ [])) 255 (omega (arith, length-append text (byte ∷ [])))) refl)
-
-more_lines : (piece : Text) (pieces : List Text) → 0 < length pieces → all_but_last (piece ∷ pieces) ≡ piece ∷ all_but_last pieces
-more_lines piece [] some = absurd (omega (arith, some))
-more_lines piece (next ∷ pieces) some = refl
-
-same_last : (piece : Text) (pieces : List Text) → 0 < length pieces → last_of (piece ∷ pieces) ≡ last_of pieces
-same_last piece [] some = absurd (omega (arith, some))
-same_last piece (next ∷ pieces) some = refl
 
 abbrev IsClear : Text → Type 0
 IsClear text = All (λ byte. is_feed byte ≡ false) text

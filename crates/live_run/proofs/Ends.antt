@@ -7,10 +7,10 @@ use Rattle.bwe_io.specs.Faults.{HasRisen}
 use Rattle.live_lines.specs.Cutting.{Held, lines_from, held_after}
 use Rattle.live_stream.specs.Talk.{Faults, NeverFall, Talk, IsOver}
 use Rattle.two_part.specs.declared.Parts.{Parts}
-use Rattle.two_part.specs.TwoPart.{parts_of}
+use Rattle.two_part.specs.TwoPart.{document_in, parts_of}
 use Rattle.live_run.specs.declared.ending.Stop.{Stop}
 use Rattle.live_run.specs.declared.ending.Stop.TheVariants.{ReadFault, WriteFault, OutOfMemory}
-use Rattle.live_run.specs.Follow.{Follow, answers, called_for, document_in, text_at}
+use Rattle.live_run.specs.Follow.{Follow, answers, called_for, text_at}
 use Rattle.live_run.specs.Conversation.{Passed, Converses}
 use Rattle.live_run.specs.Answers.{AnswersPiece, Brings, Gives, GivesFirst, IsAtEnd, IsBefore, IsBehind, IsUpTo, answers_to}
 use Rattle.live_run.specs.Endings.{AreWhole, Ending, GoesOn, no_words, ended, refused, no_document, too_long, read_fault, write_fault, out_of_memory, HasStopped, IsDue, IsFirstOfDue, IsJudged, IsServed, so_far, stop_status}

@@ -11,9 +11,9 @@ use Rattle.std.proofs.lemmas.List.{take-append-le, take-append-drop, take_at}
 use Rattle.std.proofs.lemmas.List.Quantifiers.{position-Some}
 use Rattle.text_scan.specs.Numbers.{is_number, number_of}
 use Rattle.two_part.specs.declared.Parts.{Parts}
-use Rattle.two_part.specs.TwoPart.{IsTwoPart, AreParts, parts_behind, parts_of}
+use Rattle.two_part.specs.TwoPart.{IsTwoPart, AreParts, document_in, parts_behind, parts_of}
 use Rattle.two_part.proofs.PartsFacts.{behind_digits, parts_found, parts_complete}
-use Rattle.live_run.specs.Follow.{Follow, document_in}
+use Rattle.live_run.specs.Follow.{Follow}
 use Rattle.live_run.specs.Answers.{IsBefore}
 use Rattle.live_run.specs.Front.{HasDocument, HasNoDocument, SaysNotTooLong, SaysTooLong}
 

@@ -3,8 +3,8 @@ use Rattle.std.specs.Prelude.{◌≡◌, ℕ, ◌≤◌, List, [], ◌∷◌, �
 use Rattle.live_lines.specs.Cutting.{Held, all_lines, held_after, lines_from}
 use Rattle.live_stream.specs.Talk.{Event, Took, Gave, Talk, Goes, given}
 use Rattle.two_part.specs.declared.Parts.{Parts}
-use Rattle.two_part.specs.TwoPart.{parts_of}
-use Rattle.live_run.specs.Follow.{Follow, answers, called_for, document_in, follow_text}
+use Rattle.two_part.specs.TwoPart.{document_in, parts_of}
+use Rattle.live_run.specs.Follow.{Follow, answers, called_for, follow_text}
 use Rattle.live_run.specs.Conversation.{Passed}
 
 -- nothing was asked for

@@ -24,9 +24,3 @@ pub record Converses (follow : Follow) (talk talk_after : Option Talk) (before a
   pub is_live : IsLive follow before.read before.written events
   pub read_so : after.read ≡ before.read ++ taken events
   pub written_so : after.written ≡ before.written ++ given events
-
-abbrev pub reads_more : Passed → List ℕ → Passed
-reads_more passed bytes = record { read = passed.read ++ bytes; written = passed.written }
-
-abbrev pub writes_more : Passed → List ℕ → Passed
-writes_more passed text = record { read = passed.read; written = passed.written ++ text }

@@ -6,18 +6,14 @@ use Rattle.one_run.specs.Endings.{too_long_line}
 use Rattle.two_part.specs.declared.Parts.{Parts}
 use Rattle.live_run.specs.declared.ending.Stop.{Stop}
 use Rattle.live_run.specs.declared.ending.Stop.TheVariants.{ReadFault, WriteFault, OutOfMemory}
-use Rattle.two_part.specs.TwoPart.{parts_of}
-use Rattle.live_run.specs.Follow.{Follow, called_for, document_in, follow_text}
+use Rattle.two_part.specs.TwoPart.{document_in, no_parts_line, parts_of}
+use Rattle.live_run.specs.Follow.{Follow, called_for, follow_text}
 use Rattle.live_run.specs.Conversation.{Passed, Converses}
 use Rattle.live_run.specs.Front.{HasNoDocument, SaysNotTooLong, SaysTooLong}
 
 -- the line for words, of which there are none
 abbrev pub usage_line : List ℕ
 usage_line = codes "usage: bwe-live\n"
-
--- the line for an input without a document in front
-abbrev pub no_parts_line : List ℕ
-no_parts_line = codes "refused 14 parts\n"
 
 -- the document in front is whole and of at most 67,108,864 bytes, and is accepted or is not
 pub record IsJudged (verdict : Bool) (follow : Follow) (read : List ℕ) : Type 0 where

@@ -1,8 +1,8 @@
 -- What a service writes for the bytes that it reads: a document in front, and lines behind it.
-use Rattle.std.specs.Prelude.{ℕ, Bool, List, [], ◌∷◌, ◌++◌, take, drop, Option, Some, None, if◌then◌else◌}
+use Rattle.std.specs.Prelude.{ℕ, Bool, List, [], ◌∷◌, ◌++◌, drop, Option, Some, None, if◌then◌else◌}
 use Rattle.live_lines.specs.Cutting.{Held, all_lines, lines_from}
 use Rattle.two_part.specs.declared.Parts.{Parts}
-use Rattle.two_part.specs.TwoPart.{parts_of}
+use Rattle.two_part.specs.TwoPart.{document_in, parts_of}
 
 -- which documents are accepted, what is written first for one, and the answer to a line behind it
 -- after the lines before that
@@ -23,10 +23,6 @@ abbrev pub text_for : Follow → List ℕ → List Held → List ℕ
 text_for follow document lines =
     follow.first_text document
     ++ (if follow.accepts document then answers follow document [] lines else [])
-
--- a document lies from the start of its place to before the end
-abbrev pub document_in : List ℕ → Parts → List ℕ
-document_in input parts = drop parts.start (take parts.end input)
 
 abbrev pub text_at : (List ℕ → List Held) → Follow → List ℕ → Option Parts → List ℕ
 text_at lines_in follow input None = []

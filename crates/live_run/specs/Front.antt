@@ -3,8 +3,7 @@ use Rattle.std.specs.Prelude.{◌≡◌, ℕ, ◌<◌, ◌≤◌, true, List, �
 use Rattle.std.specs.Str.Parse.{digits_value}
 use Rattle.text_scan.specs.Numbers.{is_number}
 use Rattle.two_part.specs.declared.Parts.{Parts}
-use Rattle.two_part.specs.TwoPart.{parts_of}
-use Rattle.live_run.specs.Follow.{document_in}
+use Rattle.two_part.specs.TwoPart.{document_in, parts_of}
 use Rattle.live_run.specs.declared.front.Front.{Front}
 use Rattle.live_run.specs.declared.front.Front.TheVariants.{Open, Found, Missing, TooLong}
 

@@ -6,7 +6,7 @@ ghost use Rattle.live_run.specs.Front.{IsFront, SaysNotTooLong};
 
 use one_run::MAX_INPUT;
 use text_scan::{is_number, number_of};
-use two_part::{Parts, find_parts};
+use two_part::{Parts, find_parts, first_line_feed};
 
 /// What is known of the front.
 #[derive(Clone, Copy, Debug, PartialEq, Eq, Drop)]
@@ -39,12 +39,6 @@ pub(crate) fn front_of(bytes: &[u8]) -> Front
         return Front::TooLong;
     }
     whole(bytes)
-}
-
-fn first_line_feed(bytes: &[u8]) -> Option<usize>
-    ensures { result ≡ position (λ byte. byte == 10) bytes.now }
-{
-    bytes.iter().position(|byte| *byte == b'\n')
 }
 
 // The front where no line has ended yet.

@@ -1,13 +1,13 @@
 //! A whole conversation: the document in front, and the lines behind it.
 
-ghost use Rattle.std.specs.Prelude.{◌≡◌, ◌≢◌, ◌<◌, ◌≤◌, ℕ, List, [], Some, Err, true, false, length, vec_len, IsNone, IfSome, IfOk, IfErr, OnOk, OnErr, IsErrOf};
+ghost use Rattle.std.specs.Prelude.{◌≡◌, ◌≢◌, ◌<◌, ◌≤◌, ℕ, List, [], Some, Err, true, false, length, IsNone, IfSome, IfOk, IfErr, OnOk, OnErr, IsErrOf};
 ghost use Rattle.bwe_io.specs.Faults.{HasRisen};
 ghost use Rattle.live_stream.specs.Talk.{IsOver, NeverFall};
-ghost use Rattle.two_part.specs.TwoPart.{parts_of};
+ghost use Rattle.two_part.specs.TwoPart.{document_in, parts_of};
 ghost use Rattle.live_run.specs.Answers.{Gives, GivesFirst};
 ghost use Rattle.live_run.specs.Conversation.{Passed, Converses};
 ghost use Rattle.live_run.specs.Endings.{GoesOn, HasStopped, IsServed};
-ghost use Rattle.live_run.specs.Follow.{Follow, document_in};
+ghost use Rattle.live_run.specs.Follow.{Follow};
 ghost use Rattle.live_run.specs.Front.{HasDocument, IsFront};
 
 use crate::behind::follow_lines;
@@ -15,21 +15,18 @@ use crate::ending::status_of;
 use crate::front::{Front, front_of};
 use crate::line::answer_piece;
 use crate::{Follower, Stop};
-use bwe_io::Failed;
+use bwe_io::{Failed, zeros};
 use live_lines::LineCutter;
 use live_stream::Stream;
 use one_run::TOO_LONG;
-use std::alloc::{AllocError, Global};
-use two_part::Parts;
+use std::alloc::Global;
+use two_part::{NO_PARTS, Parts};
 
 /// The most bytes that are asked for at once.
 const PIECE: usize = 65_536;
 
 /// The line for words, of which there are none.
 const USAGE: &str = "usage: bwe-live\n";
-
-/// The line for an input without a document in front.
-const NO_PARTS: &str = "refused 14 parts\n";
 
 /// Serves one conversation, and answers the status ("`bwe-live`", docs/FORMAT.md).
 ///
@@ -87,12 +84,6 @@ fn refuse<S: Stream>(line: &[u8], status: u8, stream: &mut S) -> Result<u8, Stop
         Ok(()) => Ok(status),
         Err(_) => Err(Stop::WriteFault),
     }
-}
-
-fn zeros(alloc: Global, size: usize) -> Result<Vec<u8>, AllocError>
-    ensures { IfOk result (λ buffer. vec_len buffer ≡ size) }
-{
-    vec![in alloc; 0u8; size]
 }
 
 // Writes a line that ends the conversation.

@@ -1,12 +1,12 @@
 //! An accepted document followed line by line: what `bwe-live` writes first, and what it answers to
 //! each line behind it.
 //!
-//! `LiveSession` is the follower that the program runs. Its two calls answer by definitions over
-//! the bytes of the document and the lines (`specs/Answers.antt`): the table text, or the line of a
-//! refusal, and then the answer of each line. The laws of `specs/Laws.antt` are contracts of
-//! functions here: tables that are kept by changes, counts that never fall, refused lines that
-//! count for nothing, and the promise of a snapshot, also of its printed bytes. Nothing is promised
-//! of time, nor after a want of memory.
+//! The program follows by a `LiveSession`: `Following` of `bwe_live`, the follower that it runs,
+//! holds one. Its two calls answer by definitions over the bytes of the document and the lines
+//! (`specs/Answers.antt`): the table text, or the line of a refusal, and then the answer of each
+//! line. The laws of `specs/Laws.antt` are contracts of functions here: tables that are kept by
+//! changes, counts that never fall, refused lines that count for nothing, and the promise of a
+//! snapshot, also of its printed bytes. Nothing is promised of time, nor after a want of memory.
 #![tactic(auto)]
 
 mod answer;

@@ -3,12 +3,12 @@ use Rattle.std.proofs.Common.{◌≡◌, ℕ, List, Some, Ok, ap, ap₂, sym, �
 use Rattle.std.specs.Prelude.{drop}
 use Rattle.plan_doc.specs.Document.{Accepted, document}
 use Rattle.two_part.specs.declared.Parts.{Parts}
-use Rattle.two_part.specs.TwoPart.{parts_of}
-use Rattle.opened_document.specs.Parted.{accepted_parts, document_bytes, parts_at, with_part}
+use Rattle.two_part.specs.TwoPart.{document_in, parts_of}
+use Rattle.opened_document.specs.Parted.{accepted_parts, parts_at, with_part}
 
 -- the parts that were found, of which the first is accepted
 pub accepted_behind : (input : List ℕ) (parts : Parts) (bytes part : List ℕ) (accepted : Accepted) → Some parts ≡ parts_of input → document bytes ≡ Ok accepted
-    → bytes ≡ document_bytes input parts → part ≡ drop parts.end input → accepted_parts input ≡ Ok (record { accepted = accepted; part = part })
+    → bytes ≡ document_in input parts → part ≡ drop parts.end input → accepted_parts input ≡ Ok (record { accepted = accepted; part = part })
 accepted_behind input parts bytes part accepted found read front behind =
     ap (parts_at input) (sym found)
     ∙ ap₂ (λ (rest first : List ℕ). with_part rest (document first)) (sym behind) (sym front)

@@ -1,12 +1,12 @@
 -- The parts of an input of two parts, and what it gets.
-use Rattle.std.specs.Prelude.{◌≡◌, ℕ, List, take, drop, codes, Option, Some, None, Result, Ok, Err}
+use Rattle.std.specs.Prelude.{◌≡◌, ℕ, List, drop, Option, Some, None, Result, Ok, Err}
 use Rattle.one_run.specs.Endings.{Reply}
 use Rattle.plan_doc.specs.Accepted.{IsDocumentOf}
 use Rattle.plan_doc.specs.Conditions.{IsUsable}
 use Rattle.plan_doc.specs.Document.{Accepted, document}
 use Rattle.plan_doc.specs.Refusals.{Refusal}
 use Rattle.two_part.specs.declared.Parts.{Parts}
-use Rattle.two_part.specs.TwoPart.{parts_of}
+use Rattle.two_part.specs.TwoPart.{document_in, no_parts_line, parts_of}
 use Rattle.opened_document.specs.declared.parted.Parted as read
 use Rattle.opened_document.specs.declared.parted.Parted.TheVariants.{Read, Refused}
 use Rattle.opened_document.specs.Refused.{refused_reply}
@@ -18,11 +18,7 @@ pub record AcceptedParts : Type 0 where
 
 -- an input without parts is refused before its document is read
 abbrev pub no_parts_reply : Reply
-no_parts_reply = record { status = 3; text = codes "refused 14 parts\n" }
-
--- the document's bytes lie from the start of its place to before the end
-abbrev pub document_bytes : List ℕ → Parts → List ℕ
-document_bytes input parts = drop parts.start (take parts.end input)
+no_parts_reply = record { status = 3; text = no_parts_line }
 
 abbrev pub with_part : List ℕ → Result Accepted Refusal → Result AcceptedParts Reply
 with_part part (Ok accepted) = Ok (record { accepted = accepted; part = part })
@@ -31,7 +27,7 @@ with_part part (Err refusal) = Err (refused_reply refusal)
 abbrev pub parts_at : List ℕ → Option Parts → Result AcceptedParts Reply
 parts_at input None = Err no_parts_reply
 parts_at input (Some parts) =
-    with_part (drop parts.end input) (document (document_bytes input parts))
+    with_part (drop parts.end input) (document (document_in input parts))
 
 -- the two parts of an input, or what is written for a refused one
 abbrev pub accepted_parts : List ℕ → Result AcceptedParts Reply

@@ -9,7 +9,7 @@ use bwe_specs::OutOfMemory;
 use one_run::Answer;
 use plan_doc::{Document, read_document};
 use std::alloc::Global;
-use two_part::find_parts;
+use two_part::{NO_PARTS, find_parts};
 
 /// The parts of an input, or what is written for a refused one.
 #[derive(Drop)]
@@ -44,6 +44,6 @@ fn no_parts(alloc: Global) -> Result<Answer, OutOfMemory>
 {
     Ok(Answer {
         status: 3,
-        text: format!(in alloc; "refused 14 parts\n")?.into_bytes(),
+        text: format!(in alloc; "{NO_PARTS}")?.into_bytes(),
     })
 }

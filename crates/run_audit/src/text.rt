@@ -1,5 +1,5 @@
 //! The text of a verdict.
-ghost use Rattle.std.specs.Prelude.{◌≡◌, ◌++◌, IfOk, OnOk, codes, decimal, string_bytes};
+ghost use Rattle.std.specs.Prelude.{◌≡◌, ◌++◌, IfOk, OnOk, string_bytes};
 ghost use Rattle.run_audit.specs.AuditText.{cause_text, verdict_line};
 
 use crate::verdict::{AuditCause, AuditVerdict};
@@ -11,67 +11,21 @@ pub fn audit_text(alloc: Global, verdict: AuditVerdict) -> Result<Vec<u8>, OutOf
     ensures { IfOk result (λ text. text.items ≡ verdict_line verdict) }
 {
     let mut text = String::new(alloc);
-    push_verdict(alloc, &mut text, verdict)?;
+    push_verdict(&mut text, verdict)?;
     Ok(text.into_bytes())
 }
 
 #[tactic(auto, unfolding(crate::specs::AuditText::verdict_line))]
-fn push_verdict(alloc: Global, text: &mut String, verdict: AuditVerdict) -> Result<(), AllocError>
+fn push_verdict(text: &mut String, verdict: AuditVerdict) -> Result<(), AllocError>
     ensures { OnOk result (string_bytes text.new ≡ string_bytes text.old ++ verdict_line verdict) }
 {
     match verdict {
         AuditVerdict::Legal => text.push_str("legal\n"),
         AuditVerdict::Wrong { line, cause } => {
-            push_fault(alloc, text, "wrong at line ", line, cause)
+            let cause = name_of_cause(cause);
+            write!(text, "wrong at line {line}: {cause}\n")
         }
     }
-}
-
-// Puts these words, a line's number and a cause at the end of the text.
-fn push_fault(
-    alloc: Global,
-    text: &mut String,
-    words: &str,
-    line: u64,
-    cause: AuditCause,
-) -> Result<(), AllocError>
-    ensures { OnOk result
-        (string_bytes text.new
-        ≡ string_bytes text.old
-        ++ (words.now ++ decimal line ++ codes ": " ++ cause_text cause ++ codes "\n")) }
-{
-    push_word_and_number(alloc, text, words, line)?;
-    text.push_str(": ")?;
-    push_cause(text, cause)?;
-    text.push_str("\n")
-}
-
-// Puts a number at the end of the text.
-fn push_number(alloc: Global, text: &mut String, number: u64) -> Result<(), AllocError>
-    ensures { OnOk result (string_bytes text.new ≡ string_bytes text.old ++ decimal number) }
-{
-    let digits = format!(in alloc; "{number}")?;
-    text.push_str(digits.as_str())
-}
-
-// Puts a word and a number at the end of the text.
-fn push_word_and_number(
-    alloc: Global,
-    text: &mut String,
-    word: &str,
-    number: u64,
-) -> Result<(), AllocError>
-    ensures { OnOk result
-        (string_bytes text.new ≡ string_bytes text.old ++ word.now ++ decimal number) }
-{
-    text.push_str(word)?;
-    push_number(alloc, text, number)
-}
-
-fn push_cause(text: &mut String, cause: AuditCause) -> Result<(), AllocError>
-    ensures { OnOk result (string_bytes text.new ≡ string_bytes text.old ++ cause_text cause) }
-{
-    text.push_str(name_of_cause(cause))
 }
 
 #[tactic(auto, unfolding(crate::specs::AuditText::cause_text))]

@@ -15,11 +15,11 @@ is_feed byte = byte == 10
 parts-some : {X : Type 0} (p : X → Bool) (xs : List X) → 0 < length (slice_split p xs)
 parts-some p xs = omega (arith, length-slice_split p xs)
 
-more_lines : (piece : List ℕ) (pieces : List (List ℕ)) → 0 < length pieces → all_but_last (piece ∷ pieces) ≡ piece ∷ all_but_last pieces
+pub more_lines : (piece : List ℕ) (pieces : List (List ℕ)) → 0 < length pieces → all_but_last (piece ∷ pieces) ≡ piece ∷ all_but_last pieces
 more_lines piece [] some = absurd (omega (arith, some))
 more_lines piece (next ∷ pieces) some = refl
 
-same_last : (piece : List ℕ) (pieces : List (List ℕ)) → 0 < length pieces → last_of (piece ∷ pieces) ≡ last_of pieces
+pub same_last : (piece : List ℕ) (pieces : List (List ℕ)) → 0 < length pieces → last_of (piece ∷ pieces) ≡ last_of pieces
 same_last piece [] some = absurd (omega (arith, some))
 same_last piece (next ∷ pieces) some = refl
 

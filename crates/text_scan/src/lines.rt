@@ -30,6 +30,7 @@ impl<'a> Model for Lines<'a> {
 }
 
 impl<'a> Lines<'a> {
+    /// All lines of a text, from number 0 on.
     pub fn new(text: &'a [u8]) -> Lines<'a>
         ensures { result
             ≡ record {

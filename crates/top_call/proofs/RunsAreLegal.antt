@@ -17,11 +17,11 @@ use Rattle.run_audit.specs.AuditText.{verdict_line}
 use Rattle.run_audit.specs.declared.verdict.AuditVerdict.{AuditVerdict}
 use Rattle.run_audit.specs.declared.verdict.AuditVerdict.TheVariants.{Legal}
 use Rattle.run_text.specs.RunText.{run_text_of}
-use Rattle.two_part.specs.TwoPart.{IsTwoPart, parts_behind}
+use Rattle.two_part.specs.TwoPart.{IsTwoPart, document_in, parts_behind}
 use Rattle.two_part.proofs.PartsFacts.{parts_complete}
 use Rattle.audit_answer.specs.AuditReply.{IsAuditReply, audit_status}
 use Rattle.top_call.specs.Laws.{RunsAreLegal}
-use Rattle.opened_document.specs.Parted.{IsReplyBehind, accepted_parts, document_bytes}
+use Rattle.opened_document.specs.Parted.{IsReplyBehind, accepted_parts}
 use Rattle.top_call.specs.RunLine.{IsRunReply}
 use Rattle.audit_answer.proofs.Audits.{legal_at-0}
 use Rattle.opened_document.proofs.Behind.{accepted_behind}
@@ -69,7 +69,7 @@ module _ (digits bytes rest : List ℕ) where
   in-parts = sym (ap (λ (first : List ℕ). first ++ rest) (append_assoc digits (10 ∷ []) bytes) ∙ append_assoc digits (10 ∷ bytes) rest)
 
   -- the bytes of the document
-  document-at : document_bytes (digits ++ 10 ∷ (bytes ++ rest)) (parts_behind digits (length bytes)) ≡ bytes
+  document-at : document_in (digits ++ 10 ∷ (bytes ++ rest)) (parts_behind digits (length bytes)) ≡ bytes
   unfolding whole
   document-at =
       ap (λ (input : List ℕ). drop (length digits + 1) (take (length digits + 1 + length bytes) input)) in-parts
@@ -89,7 +89,7 @@ parts-are : (accepted : Accepted) (input digits bytes rest : List ℕ) → IsTwo
     → accepted_parts input ≡ Ok (record { accepted = accepted; part = rest })
 parts-are accepted input digits bytes rest two read =
     accepted_behind input (parts_behind digits (length bytes)) bytes rest accepted (sym (parts_complete input digits bytes rest two)) read
-    (sym (document-at digits bytes rest) ∙ ap (λ (whole : List ℕ). document_bytes whole (parts_behind digits (length bytes))) (sym two.in_order))
+    (sym (document-at digits bytes rest) ∙ ap (λ (whole : List ℕ). document_in whole (parts_behind digits (length bytes))) (sym two.in_order))
     (sym (rest-at digits bytes rest) ∙ ap (λ (whole : List ℕ). drop (length digits + 1 + length bytes) whole) (sym two.in_order))
 
 -- ---- the law

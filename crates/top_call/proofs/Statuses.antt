@@ -16,12 +16,12 @@ use Rattle.run_audit.specs.declared.verdict.AuditVerdict.{AuditVerdict}
 use Rattle.run_audit.specs.declared.verdict.AuditVerdict.TheVariants as audited
 use Rattle.doc_names.specs.NameTexts.{NameTexts}
 use Rattle.two_part.specs.declared.Parts.{Parts}
-use Rattle.two_part.specs.TwoPart.{parts_of}
+use Rattle.two_part.specs.TwoPart.{document_in, parts_of}
 use Rattle.audit_law.specs.DocumentRun.{script_verdict}
 use Rattle.audit_answer.specs.AuditReply.{IsAuditReply, audit_reply, audit_status}
 use Rattle.line_answers.specs.EnforceReply.{enforce_accepted, enforced_by}
 use Rattle.line_answers.specs.EstimateReply.{estimate_accepted, table_behind}
-use Rattle.opened_document.specs.Parted.{IsReplyBehind, behind_reply, document_bytes, no_parts_reply, parts_at, with_part}
+use Rattle.opened_document.specs.Parted.{IsReplyBehind, behind_reply, no_parts_reply, parts_at, with_part}
 use Rattle.line_answers.specs.Replies.{check_accepted, levels_accepted, read_reply, solve_accepted, verdict_status}
 use Rattle.opened_document.specs.Refused.{refused_reply}
 use Rattle.top_call.specs.RunLine.{IsRunReply}
@@ -84,7 +84,7 @@ audited-with part (Err refusal) given is = is-same given (refused_reply refusal)
 
 audited-parts : (input : List ℕ) (parts : Option Parts) (given : Reply) → IsReplyBehind IsAuditReply (parts_at input parts) given → IsOfAnswer given.status
 audited-parts input None given is = is-same given no_parts_reply is is-refused
-audited-parts input (Some parts) given is = audited-with (drop parts.end input) (document (document_bytes input parts)) given is
+audited-parts input (Some parts) given is = audited-with (drop parts.end input) (document (document_in input parts)) given is
 
 pub replied : (line : CommandLine) (input : List ℕ) (given : Reply) → replies line input given → IsOfAnswer given.status
 replied Solve input given is = is-same given _ is (read-of solve_accepted (λ accepted. is-done) (document input))

@@ -1,5 +1,5 @@
 -- Where the document of a two-part input lies.
-use Rattle.std.specs.Prelude.{◌≡◌, ℕ, ◌+◌, ◌≤◌, true, ◌&&◌, ◌==◌, List, ◌∷◌, ◌++◌, length, take, position, Option, Some, None}
+use Rattle.std.specs.Prelude.{◌≡◌, ℕ, ◌+◌, ◌≤◌, true, ◌&&◌, ◌==◌, List, ◌∷◌, ◌++◌, length, take, drop, codes, position, Option, Some, None}
 use Rattle.std.specs.Prelude.{if◌then◌else◌, nat_le, option_and_then}
 use Rattle.std.specs.Str.{all_ascii_digits}
 use Rattle.std.specs.Str.Parse.{digits_value}
@@ -27,6 +27,14 @@ pub record AreParts (bytes : List ℕ) (parts : Parts) : Type 0 where
   pub rest : List ℕ
   pub two_part : IsTwoPart bytes digits document rest
   pub are : parts ≡ parts_behind digits (length document)
+
+-- the document of an input lies from the start of its place to before the end
+abbrev pub document_in : List ℕ → Parts → List ℕ
+document_in input parts = drop parts.start (take parts.end input)
+
+-- the line for an input without parts
+abbrev pub no_parts_line : List ℕ
+no_parts_line = codes "refused 14 parts\n"
 
 -- ---- the parts, as they are found
 

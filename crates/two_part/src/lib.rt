@@ -11,6 +11,9 @@ ghost use Rattle.two_part.specs.TwoPart.{AreParts, IsTwoPart, parts_behind, part
 
 use text_scan::number_of;
 
+/// The line for an input without parts.
+pub const NO_PARTS: &str = "refused 14 parts\n";
+
 /// Where the document lies, in bytes from the start of the input. The second part is what follows
 /// `end`.
 #[derive(Clone, Copy, Debug, PartialEq, Eq, Drop)]
@@ -43,7 +46,8 @@ pub fn find_parts(bytes: &[u8]) -> Option<Parts>
     })
 }
 
-fn first_line_feed(bytes: &[u8]) -> Option<usize>
+/// The place of the first line feed.
+pub fn first_line_feed(bytes: &[u8]) -> Option<usize>
     ensures { result ≡ position (λ byte. byte == 10) bytes.now }
 {
     bytes.iter().position(|byte| *byte == b'\n')

@@ -3,7 +3,7 @@ use Rattle.std.specs.Prelude.{IsNone}
 use Rattle.live_run.specs.Answers.{Gives, GivesFirst}
 use Rattle.live_run.specs.Conversation.{Converses, Passed}
 use Rattle.live_run.specs.Endings.{HasStopped, refused}
-use Rattle.live_run.specs.Follow.{document_in}
+use Rattle.two_part.specs.TwoPart.{document_in}
 use Rattle.live_run.proofs.Conversing.{Converses-append, Converses-gives}
 use Rattle.live_run.proofs.Ends.{ends-after, first-part, refused-text}
 use Rattle.live_run.proofs.Steps.{Converses-kept, stop-cases, whole-nothing}

@@ -1,7 +1,7 @@
 use Rattle.std.proofs.Common.{◌≡◌, ◌-◌, List, [], ◌++◌, ℕ, Ok, Err, ap, refl, sym, length, take, drop, arith}
 use Rattle.live_run.specs.Conversation.{Converses, Passed}
 use Rattle.live_run.specs.Endings.{HasStopped}
-use Rattle.live_run.specs.Follow.{document_in}
+use Rattle.two_part.specs.TwoPart.{document_in}
 use Rattle.live_run.proofs.Conversing.{Converses-gives, Converses-nothing}
 use Rattle.live_run.proofs.Ends.{before-opened, behind-nothing, behind-opened, first-text, goes-behind, opened-due, opened-whole}
 use Rattle.live_run.proofs.Steps.{stop-cases}
