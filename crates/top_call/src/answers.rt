@@ -13,11 +13,7 @@ use std::alloc::Global;
 
 /// What a line writes for its input ("Command lines", docs/FORMAT.md), for each line that needs no
 /// threads, and with which status. It waits for nobody.
-pub fn answer_in_turn(
-    alloc: Global,
-    line: CommandLine,
-    input: &[u8],
-) -> Result<Answer, OutOfMemory>
+pub fn answer_in_turn(alloc: Global, line: CommandLine, input: &[u8]) -> Result<Answer, OutOfMemory>
     requires range { IsInRange line }
     requires one_thread { needs_threads line ≡ false }
     ensures { IfOk result (λ answer. replies line input.now answer) }
