@@ -6,7 +6,7 @@
 //! - `played`: a board that is opened, on which one case is played, and that is ended and closed.
 //! - `told`, `rounds`, `full_log`, `memory`: what is played, in one thread.
 //! - `beside`: a report that is answered while another thread's table is made.
-//! - `runs`: whole runs by `run_crew`, one of them under a gate that holds a reader (`held_gate`).
+//! - `runs`: whole runs by `run_crew`, two of them under gates that hold a reader (`held_gate`).
 //!
 //! Some bodies meet every clause and are wrong. Each was tried by hand, and a test refuses it:
 //! - a `read` that enters no published copy and shows what the last `learn` brought:
@@ -20,6 +20,8 @@
 //! - a reporter that keeps its acknowledgement, a reader that learns none before a read, and a
 //!   settle that is not made, whose reader is told nothing then:
 //!   `a_held_reader_is_told_what_was_settled`;
+//! - a reporter that leaves its acknowledgement only where none was left, and a reader that learns
+//!   none after its second read: `a_reader_is_told_of_the_later_settle`;
 //! - a call that the gate is not told of: the calls that the same test counts.
 //!
 //! A helper answers whether all went as it has to, or compares for itself: the fewer values that

@@ -1,4 +1,4 @@
-//! A gate that holds a reader until a settle was answered, and counts the calls of each kind.
+//! Gates that hold a reader until a settle was answered, one of which counts the calls of each kind.
 
 use board::{Bases, Profile, View};
 use crew_actors::{Actor, Gate};
@@ -28,6 +28,17 @@ impl Calls {
 fn count(calls: &AtomicU64) {
     let before = calls.load(Ordering::SeqCst);
     calls.store(before.saturating_add(1), Ordering::SeqCst);
+}
+
+// Waits for at most so many turns until so many calls were counted. A hold that ran out is noted.
+fn hold(calls: &AtomicU64, wanted: u64, missed: &AtomicU64) {
+    for _ in 0..TURNS {
+        if calls.load(Ordering::SeqCst) >= wanted {
+            return;
+        }
+        yield_now();
+    }
+    count(missed);
 }
 
 /// A gate for one reporter of two reports, and one reader.
@@ -82,24 +93,13 @@ impl ToldGate {
             Actor::Reader { .. } => &self.reader,
         }
     }
-
-    // Waits for at most so many turns until so many calls were answered.
-    fn hold(&self, calls: &Calls, answered: u64) {
-        for _ in 0..TURNS {
-            if calls.answered.load(Ordering::SeqCst) >= answered {
-                return;
-            }
-            yield_now();
-        }
-        count(&self.missed);
-    }
 }
 
 impl Gate for ToldGate {
     fn before(&self, actor: Actor, call: u64) {
         count(&self.calls_of(actor).begun);
         if let (Actor::Reporter { .. }, 0) = (actor, call) {
-            self.hold(&self.reader, 1);
+            hold(&self.reader.answered, 1, &self.missed);
         }
     }
 
@@ -115,7 +115,70 @@ impl Gate for ToldGate {
     ) {
         count(&self.reader.answered);
         if call == 0 {
-            self.hold(&self.reporter, 3);
+            hold(&self.reporter.answered, 3, &self.missed);
+        }
+    }
+}
+
+/// A gate for two reporters of one report each, and one reader.
+///
+/// Each reporter's report, call 0, waits for a read: that of reporter 0 until the first was shown,
+/// that of reporter 1 until the second was. Behind each of the two the reader is held until that
+/// reporter's settle, call 1, was answered.
+#[derive(Drop)]
+pub struct TurnsGate {
+    first: AtomicU64,
+    second: AtomicU64,
+    reader: AtomicU64,
+    missed: AtomicU64,
+}
+
+impl TurnsGate {
+    pub fn new() -> TurnsGate {
+        TurnsGate {
+            first: AtomicU64::new(0),
+            second: AtomicU64::new(0),
+            reader: AtomicU64::new(0),
+            missed: AtomicU64::new(0),
+        }
+    }
+
+    /// How many holds ran out of turns.
+    pub fn missed(&self) -> u64 {
+        self.missed.load(Ordering::SeqCst)
+    }
+}
+
+impl Gate for TurnsGate {
+    fn before(&self, actor: Actor, call: u64) {
+        if let (Actor::Reporter { number }, 0) = (actor, call) {
+            hold(
+                &self.reader,
+                u64::from(number).saturating_add(1),
+                &self.missed,
+            );
+        }
+    }
+
+    fn after(&self, actor: Actor, _call: u64) {
+        match actor {
+            Actor::Reporter { number: 0 } => count(&self.first),
+            Actor::Reporter { .. } => count(&self.second),
+            _ => {}
+        }
+    }
+
+    fn shown<T: Posted, N: Profile<T>, B: Bases>(
+        &self,
+        _reader: u32,
+        call: u64,
+        _view: &View<'_, T, N, B>,
+    ) {
+        count(&self.reader);
+        match call {
+            0 => hold(&self.first, 2, &self.missed),
+            1 => hold(&self.second, 2, &self.missed),
+            _ => {}
         }
     }
 }

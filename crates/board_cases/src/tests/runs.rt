@@ -1,7 +1,7 @@
 //! Whole runs on a board, each actor in a thread of its own.
 
 use crate::tests::demand_by;
-use crate::tests::held_gate::ToldGate;
+use crate::tests::held_gate::{ToldGate, TurnsGate};
 use crew::run_crew;
 use crew_actors::OpenGate;
 use crew_log::{CrewLog, ReadLine};
@@ -69,6 +69,35 @@ fn is_told(log: &CrewLog<SmallTable>) -> bool {
         }
     }
     (log.readers.len(), log.history.len()) == (1, 2)
+}
+
+// Two reporters of a demand each, and one reader of three reads, in turns: the second reporter
+// begins once the reader was shown what the first one had settled. So the third line has the floor
+// of the later acknowledgement.
+#[test]
+fn a_reader_is_told_of_the_later_settle(rt: HostRuntime) -> Result<(), Fail> {
+    let alloc = rt.alloc();
+    let scripts = [
+        vec![in alloc; demand_by(0, 80)]?,
+        vec![in alloc; demand_by(1, 40)]?,
+    ];
+    for _ in 0..RUNS {
+        let gate = TurnsGate::new();
+        let log = run_crew(&rt, alloc, SmallMaker::new(2, 1), &scripts, 1, 3, &gate)?;
+        assert!(rt; gate.missed() == 0 && is_told_in_turns(&log));
+    }
+    Ok(())
+}
+
+// Whether the one reader was shown nothing, then the first demand, then both.
+fn is_told_in_turns(log: &CrewLog<SmallTable>) -> bool {
+    for reader in &log.readers {
+        let lines = [line_of(0, 0), line_of(1, 80), line_of(2, 120)];
+        if reader.reads.as_slice() != &lines[..] || reader.last != line_of(2, 120) {
+            return false;
+        }
+    }
+    log.readers.len() == 1
 }
 
 // The line of a read that showed what its reader had been told of.
