@@ -126,14 +126,14 @@ def test_make_builds_what_the_program_stands_on_in_order(project):
 
 def test_the_longest_chain_of_crates_is_begun_first(project):
     assert run(project, "tools/chains").stdout.split() == [*CRATES][:3] + ["aside", "bwe"]
-    (project / "crates/aside/src/lib.rt").write_text("right\n" * 9)
+    (project / "crates/aside/src/lib.rt").write_text("right\n" * 300)
     assert run(project, "tools/chains").stdout.split() == ["words", "aside", *[*CRATES][1:3], "bwe"]
 
 
 def test_one_processor_takes_the_longest_chain_first(project):
     lines = (project / "crates.txt").read_text().replace("bwe: tables", "bwe: tables aside")
     (project / "crates.txt").write_text(lines)
-    (project / "crates/aside/src/lib.rt").write_text("right\n" * 9)
+    (project / "crates/aside/src/lib.rt").write_text("right\n" * 300)
     one = str(min(os.sched_getaffinity(0)))
     assert run(project, "taskset", "-c", one, "make").returncode == 0
     assert proved(project) == ["words", "aside", "numbers", "tables", "bwe"]
