@@ -13,14 +13,14 @@ pub run_crew-requires-clause-scripts : goal.run_crew-requires-clause-scripts
 run_crew-requires-clause-scripts g c lifetimes within =
     let scripts = c.in_ok-scripts.scripts.items in
     let tasks : tasks_in c.args.document ≡ task_count (plan_in c.args.document) =
-    sym c.requires.usable.task_owners ∙ ap (λ owners. length owners.items) (sym c.open.ensures.task_owners) ∙ c.open.ensures.owners ∙ ap task_count c.open.ensures.plan in
+    sym c.requires.usable.task_owners ∙ ap (λ owners. length owners.items) (sym c.open-allocator.ensures.task_owners) ∙ c.open-allocator.ensures.owners ∙ ap task_count c.open-allocator.ensures.plan in
     let counted : AreOfReporters (task_count (plan_in c.args.document)) (link_count c.args.document) scripts =
     subst (λ tasks. AreOfReporters tasks (link_count c.args.document) scripts) tasks c.in_ok-scripts.ensures.scripts in
-    let planned = subst (λ plan. AreOfReporters (task_count plan) (length plan.capacities) scripts) (sym c.open.ensures.plan) counted in
+    let planned = subst (λ plan. AreOfReporters (task_count plan) (length plan.capacities) scripts) (sym c.open-allocator.ensures.plan) counted in
     rw (c.deref.ensures.value) planned
 
 pub returns-clause-log : goal.returns-clause-log
 returns-clause-log g c =
     run-is c.args.document c.requires.usable c.in_ok-scripts.scripts.items c.in_ok-scripts.ensures.split c.args.readers c.args.reads c.in_ok-log.log
     (subst (λ plan. IsLegalCrewLog (λ reports table. table ≡ allocation plan reports) total_of (task_count plan) (length plan.capacities) c.in_ok-scripts.scripts.items c.args.readers c.args.reads c.in_ok-log.log)
-    c.open.ensures.plan (rw (c.deref.ensures.value) at c.in_ok-log.ensures.legal))
+    c.open-allocator.ensures.plan (rw (c.deref.ensures.value) at c.in_ok-log.ensures.legal))
