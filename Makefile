@@ -1,7 +1,7 @@
-# Proves and builds the programs bwe and bwe-live, and checks them.
+# Proves and builds the programs bwe, bwe-solve and bwe-live, and checks them.
 #
-## make          proves and builds both, on all processors; what has not changed is left as it is
-## make bwe      proves and builds bwe alone
+## make          proves and builds all, on all processors; what has not changed is left as it is
+## make bwe      proves and builds bwe alone; make bwe_solve what a first table needs
 ## make check    every proof, the edits that have to be refused, every test, then the whole cases
 ## make edits    the edits that the gate leaves out, of crates whose proof is long
 ## make cases    the whole cases alone, on the built program

@@ -2,19 +2,19 @@
 """tools/cases.py [PROGRAM [CASE..]]: runs whole cases on the built programs, side by side on all
 processors.
 
-Where PROGRAM is left out these are crates/bwe/out/bwe and, where crates.txt has it,
-crates/bwe_live/out/bwe_live. A program with `live` in its name runs the cases of cases/live, any
-other one all others. A CASE is a folder of cases/, as solve/drain (cases/README.md). Every byte of
-standard output and the status have to be those of the case, and nothing may come on standard error;
-a conversation is held over two pipes (tools/conversations.py). Where no case is named, these
-follow, for `bwe`:
+Where PROGRAM is left out these are the built `bwe`, `bwe_solve` and `bwe_live`. A program with
+`live` in its name runs the cases of cases/live, one with `solve` in its name those of the line
+`solve`, without that word, and any other one all but cases/live. A CASE is a folder of cases/, as
+solve/drain (cases/README.md). Every byte of standard output and the status have to be those of the
+case, and nothing may come on standard error; a conversation is held over two pipes
+(tools/conversations.py). Where no case is named, these follow, for `bwe`:
 
 - examples: each text of examples/ is what the program writes;
 - documents: made documents get the answers of a second implementation (tools/compare.py);
 - runs: made documents are run on threads, and each printed run is checked (tools/runs.py);
 - summaries: `bulk` ends with the total of the table that `solve` writes of the made document;
 
-and for `bwe-live`:
+for `bwe_solve` the examples of that line, and for `bwe_live`:
 
 - examples: the conversations of examples/live/ are held;
 - followed: made conversations, in which each table that is kept by changes has to be the one that
@@ -25,7 +25,6 @@ where all did.
 """
 
 import os
-import re
 import shutil
 import subprocess
 import sys
@@ -40,7 +39,7 @@ import runs
 
 TOP = Path(__file__).resolve().parent.parent
 CASES, EXAMPLES = TOP / "cases", TOP / "examples"
-BWE, LIVE = TOP / "crates/bwe/out/bwe", TOP / "crates/bwe_live/out/bwe_live"
+BWE, SOLVE, LIVE = (TOP / f"crates/{name}/out/{name}" for name in ("bwe", "bwe_solve", "bwe_live"))
 DOCUMENTS, RUNS, FOLLOWED = 200, 3, 40
 SUMMED = ["1", "200", "4000"]
 SECONDS = 120
@@ -71,7 +70,10 @@ def fault_of_folder(program, folder):
 def fault_of_case(program, folder):
     words = (folder / "args").read_bytes().splitlines()
     ran = subprocess.run(
-        [program, *words], input=stream(folder, "stdin"), capture_output=True, timeout=SECONDS
+        [program, *words_for(program, words)],
+        input=stream(folder, "stdin"),
+        capture_output=True,
+        timeout=SECONDS,
     )
     status, wanted = int((folder / "status").read_text()), stream(folder, "stdout")
     if ran.returncode != status:
@@ -79,6 +81,16 @@ def fault_of_case(program, folder):
     if ran.stderr:
         return f"on standard error: {ran.stderr[:400]!r}"
     return first_difference(ran.stdout, wanted)
+
+
+def words_for(program, words):
+    """The words of a line; the program for `solve` alone takes none."""
+    return words[1:] if kind_of(program) == "solve" else words
+
+
+def kind_of(program):
+    """Which cases are for the program, by its name."""
+    return next((kind for kind in ("live", "solve") if kind in program.name), "cases")
 
 
 def first_difference(found, wanted):
@@ -109,7 +121,8 @@ def examples():
 
 def fault_of_example(program, example):
     text, words, given = example
-    ran = subprocess.run([program, *words], input=given, capture_output=True, timeout=SECONDS)
+    line = [program, *words_for(program, words)]
+    ran = subprocess.run(line, input=given, capture_output=True, timeout=SECONDS)
     return first_difference(ran.stdout, text.read_bytes())
 
 
@@ -149,7 +162,7 @@ def copied(built, room):
     """A copy, which no later build changes, and which runs where the program has lost its mode."""
     if built.suffix:
         return built
-    program = shutil.copyfile(built, f"{room}/{built.name}")
+    program = shutil.copyfile(built, Path(room) / built.name)
     os.chmod(program, 0o755)
     return program
 
@@ -157,8 +170,14 @@ def copied(built, room):
 def folders_for(built):
     """The folders of cases that are for this program."""
     files = [*CASES.glob("*/*/args"), *CASES.glob("*/*/conversation*")]
-    is_live = "live" in built.name
-    return sorted({file.parent for file in files if (file.parent.parent.name == "live") == is_live})
+    return sorted({file.parent for file in files if is_for(built, file.parent)})
+
+
+def is_for(built, folder):
+    kind, args = kind_of(built), folder / "args"
+    if kind == "solve":
+        return args.exists() and args.read_bytes().splitlines() == [b"solve"]
+    return (folder.parent.name == "live") == (kind == "live")
 
 
 def counts_of(built, named, room):
@@ -166,17 +185,20 @@ def counts_of(built, named, room):
     program = copied(built, room)
     folders = named or folders_for(built)
     found = side_by_side(fault_of_folder, program, folders, lambda it: str(it.relative_to(CASES)))
-    yield told("live" if "live" in built.name else "cases", found)
+    kind = kind_of(built)
+    yield told(kind, found)
     if named:
         return
-    if "live" in built.name:
+    if kind == "live":
         talks = sorted(EXAMPLES.glob("live/*.conversation"))
         found = side_by_side(conversations.fault_of, program, talks, lambda it: it.name)
         yield told("examples", found)
         yield told("followed", follow.results(program, solver(room), FOLLOWED))
         return
-    texts = list(examples())
+    texts = [it for it in examples() if kind == "cases" or it[1] == ["solve"]]
     yield told("examples", side_by_side(fault_of_example, program, texts, lambda it: it[0].name))
+    if kind == "solve":
+        return
     yield told("documents", compare.results(program, DOCUMENTS))
     yield told("runs", runs.results(program, RUNS))
     yield told("summaries", [(" ".join(SUMMED), fault_of_summary(program, SUMMED))])
@@ -187,19 +209,11 @@ def solver(room):
     return copied(BWE, room)
 
 
-def built_programs():
-    """The programs of crates.txt that are to be run, and a line for the one that it has not."""
-    if re.search("^bwe_live[ :]", (TOP / "crates.txt").read_text(), re.MULTILINE):
-        return [BWE, LIVE]
-    print("live: skipped, since crates.txt has no bwe_live", flush=True)
-    return [BWE]
-
-
 def main(words):
     if words[:1] == ["--help"]:
         print(__doc__)
         return 0
-    programs = [Path(words[0])] if words else built_programs()
+    programs = [Path(words[0])] if words else [BWE, SOLVE, LIVE]
     named = [CASES / name for name in words[1:]]
     counts = []
     with tempfile.TemporaryDirectory() as room:

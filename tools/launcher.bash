@@ -1,12 +1,22 @@
 # What the launchers bwe and bwe-live share; each sources this file once it has said what it is:
 # `here`, the folder of the repository; `name`, how it is called; `crate`, what it launches; a
-# function `help`.
-program=$here/crates/$crate/out/$crate
+# function `help`. `alone`, where it is set, is the crate of a program for the line `solve` alone.
 
-# How long a build from nothing takes, by the contributor's page.
+# Says which crate is the program.
+launch() {
+    crate=$1
+    program=$here/crates/$crate/out/$crate
+}
+launch "$crate"
+
+# How long a build from nothing takes, by the contributor's page: that of `bwe`, where the page has
+# no row for the crate.
 build_time() {
-    sed -nE 's/^\| `make bwe` \| ([0-9]+) .*/some \1 minutes on four processors/p' \
-        "$here/CONTRIBUTING.md"
+    local it
+    for it in "$crate" bwe; do
+        sed -nE "s/^\| \`make $it\` \| ([0-9]+) .*/some \1 minutes on four processors/p" \
+            "$here/CONTRIBUTING.md"
+    done | head -n 1
 }
 
 # make in the repository, also where make called this.
@@ -20,12 +30,18 @@ version() {
     kit=$(rt version 2>/dev/null) || kit="none on the PATH"
     echo "$name $(sed -nE 's/^## ([0-9.]+).*/\1/p' "$here/CHANGELOG.md" | head -n 1)"
     echo "kit: $kit"
+    echo "program: $(what_stands)"
+    # shellcheck disable=SC2154  # set by the launcher
+    [ -z "$alone" ] || { launch "$alone" && echo "for solve alone: $(what_stands)"; }
+}
+
+what_stands() {
     if [ ! -f "$program" ]; then
-        echo "program: not built yet"
+        echo "not built yet"
     elif is_stale; then
-        echo "program: built of other sources than these; the next call builds it again"
+        echo "built of other sources than these; the next call builds it again"
     else
-        echo "program: built of these very sources"
+        echo "built of these very sources"
     fi
 }
 

@@ -220,7 +220,11 @@ def test_help_and_version_need_no_build(project):
         assert f"\n  {line} " in told.stdout
     version = run(project, "./bwe", "--version")
     assert version.returncode == 0
-    assert version.stdout.splitlines()[1:] == ["kit: a kit of tests", "program: not built yet"]
+    assert version.stdout.splitlines()[1:] == [
+        "kit: a kit of tests",
+        "program: not built yet",
+        "for solve alone: not built yet",
+    ]
     assert proved(project) == []
 
 
@@ -256,15 +260,50 @@ def test_bytes_and_status_are_those_of_the_program(project):
 
 
 def test_the_first_call_builds_and_a_newer_source_builds_again(project):
-    told = run(project, "./bwe", "solve", given="a document")
-    assert (told.returncode, told.stdout) == (3, "words: solve\na document")
+    told = run(project, "./bwe", "check", given="a document")
+    assert (told.returncode, told.stdout) == (3, "words: check\na document")
     assert told.stderr.startswith("bwe: not built yet")
     assert re.search(r": some [0-9]+ minutes on four processors\n", told.stderr)
     proved(project)
     old_files(project)
     (project / "crates/tables/src/lib.rt").write_text("another\n")
-    assert run(project, "./bwe", "solve").stderr.startswith("bwe: sources are newer")
+    assert run(project, "./bwe", "check").stderr.startswith("bwe: sources are newer")
     assert proved(project) == ["tables", "bwe"]
+
+
+@pytest.fixture(name="first_table")
+def made_first_table(project):
+    """The project with a program for `solve` alone, over one library."""
+    source = project / "crates/bwe_solve/src/main.rt"
+    source.parent.mkdir(parents=True)
+    source.write_text("right\n")
+    with (project / "crates.txt").open("a") as lines:
+        lines.write("bwe_solve: words\n")
+    old_files(project)
+    return project
+
+
+@pytest.mark.parametrize("words", [["solve"], ["solve", "a document"]])
+def test_solve_is_served_by_its_own_program_until_all_is_built(first_table, words):
+    (first_table / "a document").write_text("a document")
+    told = run(first_table, "./bwe", *words, given="a document")
+    assert (told.returncode, told.stdout) == (3, "words: \na document")
+    assert told.stderr.startswith("bwe: solve has a program of its own")
+    assert re.search(r": some [0-9]+ minutes on four processors\n", told.stderr)
+    assert proved(first_table) == ["words", "bwe_solve"]
+    told = run(first_table, "./bwe", *words, given="a document")
+    assert (told.stdout, told.stderr) == ("words: \na document", "")
+    version = run(first_table, "./bwe", "--version").stdout.splitlines()
+    assert version[2].endswith("not built yet") and version[3].endswith("of these very sources")
+    run(first_table, "make")
+    told = run(first_table, "./bwe", *words, given="a document")
+    assert (told.stdout, told.stderr) == ("words: solve\na document", "")
+
+
+def test_solve_of_no_file_is_for_the_whole_program(first_table):
+    told = run(first_table, "./bwe", "solve", "absent")
+    assert told.stdout == "words: solve absent\n"
+    assert proved(first_table) == ["words", "numbers", "tables", "bwe"]
 
 
 @pytest.mark.parametrize(
@@ -359,14 +398,14 @@ def test_links_are_followed(project, tmp_path):
 
 def test_without_the_kit_it_says_what_is_missing(project, tmp_path):
     (tmp_path / "bin/rt").unlink()
-    told = run(project, "./bwe", "solve")
+    told = run(project, "./bwe", "check")
     assert (told.returncode, told.stdout) == (70, "")
     assert "no command rt" in told.stderr and "rattle-kit-" in told.stderr
 
 
 def test_a_failed_build_ends_with_status_70(project):
     (project / "crates/words/src/lib.rt").write_text("wrong\n")
-    told = run(project, "./bwe", "solve")
+    told = run(project, "./bwe", "check")
     assert (told.returncode, told.stdout) == (70, "")
     assert (
         told.stderr.endswith("bwe: words is not proved\nbwe: the build failed\n")

@@ -7,7 +7,8 @@ use Rattle.std.proofs.lemmas.Bool.{and_parts, leb-true}
 use Rattle.command_line.specs.declared.CommandLine.{CommandLine}
 use Rattle.command_line.specs.declared.CommandLine.TheVariants as commands
 use Rattle.command_line.specs.Ranges.{IsInRange}
-use Rattle.command_line.specs.Lines.{Text, Given, is_number, number_in, number_given, run_line, alone, line_of_texts, estimate_of, levels_of, options_of, nothing_given, size_of}
+use Rattle.text_scan.specs.Numbers.{is_number}
+use Rattle.command_line.specs.Lines.{Text, Given, number_in, number_given, run_line, alone, line_of_texts, estimate_of, levels_of, options_of, nothing_given, size_of}
 
 abbrev IsBetween : ℕ → ℕ → Option ℕ → Type 0
 IsBetween least most None = Unit {0}

@@ -5,7 +5,8 @@ use Rattle.std.specs.List.{list_any}
 use Rattle.clap.specs.Faults.{defaults_fault, step_fault, turn_fault, walk_fault, word_fault}
 use Rattle.clap.specs.Simple.{Shape}
 use Rattle.clap.specs.Walk.{Held, Row, Rule, Step, Text, Walk, after_step, arg_by_index, idle, used, value, walked}
-use Rattle.command_line.specs.Lines.{is_hyphens, is_number, number_in, size_in, size_of}
+use Rattle.text_scan.specs.Numbers.{is_number}
+use Rattle.command_line.specs.Lines.{is_hyphens, number_in, size_in, size_of}
 use Rattle.command_line.specs.Matches.{place_rule, size_given}
 use Rattle.clap.specs.Simple.{filled, with_index}
 use Rattle.command_line.proofs.Clear.{and_false, and_true, is_clear, or_else-clear}

@@ -7,7 +7,8 @@ use Rattle.clap.specs.Lexer.{long_of, short_of}
 use Rattle.clap.specs.Simple.{Shape}
 use Rattle.clap.specs.Walk.{Held, Text, Waiting, subcommand_met}
 use Rattle.clap.specs.Faults.{word_fault}
-use Rattle.command_line.specs.Lines.{Name, is_hyphens, is_number, name_of, number_in, option_of}
+use Rattle.text_scan.specs.Numbers.{is_number}
+use Rattle.command_line.specs.Lines.{Name, is_hyphens, name_of, number_in, option_of}
 use Rattle.command_line.proofs.Clear.{is_clear}
 
 hyphen_is_no_digit : (byte : ℕ) (rest : Text) → (byte == 45) ≡ true → is_number (byte ∷ rest) ≡ false

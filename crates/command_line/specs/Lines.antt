@@ -2,9 +2,10 @@
 use Rattle.std.specs.Prelude.{ℕ, Bool, ◌&&◌, ◌==◌, List, [], ◌∷◌, ◌++◌, map, length, codes, String, Option, Some, None}
 use Rattle.std.specs.Prelude.{if◌then◌else◌, string_bytes, nat_le, option_map, option_and_then}
 use Rattle.std.specs.List.{list_any, before_first, after_first}
-use Rattle.std.specs.Str.{all_ascii_digits, bytes_eq}
+use Rattle.std.specs.Str.{bytes_eq}
 use Rattle.std.specs.Str.Parse.{digits_value}
 use Rattle.std.specs.declared.alloc.Global.{Global}
+use Rattle.text_scan.specs.Numbers.{is_number}
 use Rattle.command_line.specs.declared.matches.Size.{Size}
 use Rattle.command_line.specs.declared.CommandLine.{CommandLine}
 use Rattle.command_line.specs.declared.CommandLine.TheVariants.{Solve, Check, Run, Make, Bulk, Audit, Tiers, Enforce, Estimate, Levels}
@@ -17,10 +18,6 @@ abbrev pub texts_of : List (String Global) → List Text
 texts_of words = map string_bytes words
 
 -- ---- numbers
-
--- one to 20 ASCII digits
-abbrev pub is_number : Text → Bool
-is_number text = all_ascii_digits text && (nat_le 1 (length text) && nat_le (length text) 20)
 
 -- the number of a text, where it is one from `least` to `most`
 abbrev pub number_in : ℕ → ℕ → Text → Option ℕ

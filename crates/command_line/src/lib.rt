@@ -1,9 +1,8 @@
-//! The words of a command line: which line they are, or the usage line.
+//! The words of a command line: which line they are, if they are one.
 //!
 //! The top call asks `command_line_of_words` once, before it reads anything, and serves the line
-//! that it answers, whose numbers are in their ranges. Words that are no line get `USAGE`. The
-//! definition Command line (`specs/Lines.antt`) alone decides: `clap` splits the words, and each
-//! text is read here.
+//! that it answers, whose numbers are in their ranges. The definition Command line
+//! (`specs/Lines.antt`) alone decides: `clap` splits the words, and each text is read here.
 #![tactic(auto)]
 
 ghost use Rattle.std.specs.Prelude.{◌≡◌, IfOk, IfSome};
@@ -16,10 +15,6 @@ use std::alloc::Global;
 
 mod matches;
 mod number;
-
-/// The line for words that are no command line.
-pub const USAGE: &str =
-    "usage: bwe solve | check | run [--readers N] [--reads N] | make SEED GROUPS TASKS | bulk SEED GROUPS TASKS | audit | tiers | enforce | estimate WINDOW HEADROOM | levels SHARE\n";
 
 /// A command line ("Command lines", docs/FORMAT.md).
 #[derive(Clone, Copy, Debug, PartialEq, Eq, Drop)]

@@ -2,6 +2,8 @@
 ghost use Rattle.std.specs.Prelude.{◌≡◌};
 ghost use Rattle.command_line.specs.Lines.{number_in as number_from};
 
+use text_scan::number_of;
+
 // The number of the text, where it is one from `least` to `most`.
 pub(crate) fn number_in(text: &str, least: u32, most: u32) -> Option<u32>
     ensures { result ≡ number_from least most text.now }
@@ -17,8 +19,5 @@ pub(crate) fn number_in(text: &str, least: u32, most: u32) -> Option<u32>
 pub(crate) fn any_number(text: &str) -> Option<u64>
     ensures { result ≡ number_from 0 18446744073709551615 text.now }
 {
-    if text.len() > 20 || text.starts_with('+') {
-        return None;
-    }
-    text.parse().ok()
+    number_of(text.as_bytes())
 }

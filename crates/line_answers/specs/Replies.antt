@@ -1,32 +1,25 @@
--- What the input of a line gets.
-use Rattle.std.specs.Prelude.{ℕ, List, min, Result, Ok, Err}
+-- What the input of `check` and of `levels` gets.
+use Rattle.std.specs.Prelude.{ℕ, List, min}
 use Rattle.bwe_specs.specs.declared.network.Closing.{Closing}
 use Rattle.bwe_specs.specs.declared.network.Verdict.{Verdict}
 use Rattle.bwe_specs.specs.declared.network.Verdict.TheVariants.{Right, Wrong}
 use Rattle.bwe_specs.specs.declared.report.Report.{Report}
-use Rattle.bwe_specs.specs.Allocation.{Plan, allocation, wan_after}
+use Rattle.bwe_specs.specs.Allocation.{Plan, wan_after}
 use Rattle.bwe_specs.specs.Reports.{demand_after}
 use Rattle.bwe_specs.specs.RightClosings.{verdict}
 use Rattle.bwe_specs.specs.Tree.{Cluster}
 use Rattle.one_run.specs.Endings.{Reply}
 use Rattle.doc_names.specs.NameTexts.{NameTexts}
-use Rattle.table_text.specs.TableText.{text_of}
 use Rattle.table_text.specs.CheckText.{verdict_line}
 use Rattle.table_text.specs.LevelsText.{levels_text_of}
 use Rattle.parallel_values.specs.Levels.{levels}
-use Rattle.plan_doc.specs.Document.{Accepted, document}
-use Rattle.plan_doc.specs.Refusals.{Refusal}
+use Rattle.plan_doc.specs.Document.{Accepted}
 use Rattle.plan_doc.specs.Plans.{plan_of}
-use Rattle.opened_document.specs.Refused.{refused_reply}
 
 -- status 0 where the closings are right, else 1
 abbrev pub verdict_status : Verdict → ℕ
 verdict_status Right = 0
 verdict_status (Wrong at cause) = 1
-
--- `solve`: the table of the allocation of the script
-abbrev pub table_reply : NameTexts → Plan → List Report → Reply
-table_reply names plan script = record { status = 0; text = text_of names (allocation plan script) }
 
 -- `check`: the verdict on the closings, under the demands and capacities after the script
 abbrev pub check_reply : NameTexts → Plan → List Report → List Closing → Reply
@@ -45,10 +38,7 @@ levels_reply asked names top demand clusters =
     let share = min asked top in
     values_reply names share (levels top demand clusters share)
 
--- `solve`, `check` and `levels` of an accepted document
-abbrev pub solve_accepted : Accepted → Reply
-solve_accepted accepted = table_reply accepted.names (plan_of accepted) accepted.script
-
+-- `check` and `levels` of an accepted document
 abbrev pub check_accepted : Accepted → Reply
 check_accepted accepted =
     check_reply accepted.names (plan_of accepted) accepted.script accepted.closings
@@ -56,12 +46,3 @@ check_accepted accepted =
 abbrev pub levels_accepted : ℕ → Accepted → Reply
 levels_accepted share accepted =
     levels_reply share accepted.names accepted.top (demand_after accepted.script) accepted.clusters
-
--- what is read as a document gets, by what an accepted one gets
-abbrev pub read_reply : (Accepted → Reply) → Result Accepted Refusal → Reply
-read_reply accepted_reply (Ok accepted) = accepted_reply accepted
-read_reply accepted_reply (Err refusal) = refused_reply refusal
-
--- what an input gets that is one document
-abbrev pub document_reply : (Accepted → Reply) → List ℕ → Reply
-document_reply accepted_reply input = read_reply accepted_reply (document input)

@@ -7,7 +7,8 @@ ghost use Rattle.bwe_specs.specs.RightClosings.{verdict as verdict_of};
 ghost use Rattle.doc_names.specs.NameTexts.{texts_of};
 ghost use Rattle.plan_doc.specs.Conditions.{IsUsable};
 ghost use Rattle.plan_doc.specs.Plans.{plan_in};
-ghost use Rattle.line_answers.specs.Replies.{check_accepted, check_reply, document_reply, verdict_status};
+ghost use Rattle.opened_document.specs.Refused.{document_reply};
+ghost use Rattle.line_answers.specs.Replies.{check_accepted, check_reply, verdict_status};
 
 use allocator::Allocator;
 use bottleneck_cert::Verdict;

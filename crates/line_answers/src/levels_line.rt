@@ -6,7 +6,8 @@ ghost use Rattle.parallel_values.specs.Levels.{levels_in};
 ghost use Rattle.plan_doc.specs.Conditions.{IsUsable};
 ghost use Rattle.policy_tree.specs.Trees.{demand_in};
 ghost use Rattle.doc_names.specs.NameTexts.{texts_of};
-ghost use Rattle.line_answers.specs.Replies.{document_reply, levels_accepted, levels_reply, values_reply};
+ghost use Rattle.opened_document.specs.Refused.{document_reply};
+ghost use Rattle.line_answers.specs.Replies.{levels_accepted, levels_reply, values_reply};
 
 use bwe_specs::OutOfMemory;
 use doc_names::Names;

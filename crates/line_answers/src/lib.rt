@@ -1,5 +1,5 @@
-//! What each line of the program writes for its input, but for `audit`, which has a crate of its
-//! own, `audit_answer`, and for `run`, which stands in `bwe_cli`.
+//! What each line of the program writes for its input, but for `solve` and `audit`, which have crates
+//! of their own, `solve_answer` and `audit_answer`, and for `run`, which stands in `bwe_cli`.
 //!
 //! The top call makes a whole answer by one of these, and then writes it. The contract of each says
 //! the one reply that an input has. Nothing is promised of time, nor that memory is there.
@@ -10,7 +10,6 @@ mod enforce_line;
 mod estimate_line;
 mod levels_line;
 mod made;
-mod solve_line;
 mod tiers_line;
 
 pub use check_line::check;
@@ -18,5 +17,4 @@ pub use enforce_line::enforce;
 pub use estimate_line::estimate;
 pub use levels_line::{levels, levels_on_threads};
 pub use made::{bulk, make};
-pub use solve_line::solve;
 pub use tiers_line::tiers;

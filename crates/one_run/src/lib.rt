@@ -1,9 +1,9 @@
 //! One call: what it may read, what it writes, and its status.
 //!
-//! The top call reads by `read_input` and ends by `finish`, by `refuse_input` or by `write_usage`;
-//! `Ending` says of a whole call how it may end, for the line that its words are. The whole text is
-//! made before its first byte is written. Nothing is promised of which answer a line has, nor that
-//! memory is there.
+//! A program has its words by `words_of`. The top call reads by `read_input` and ends by `finish`,
+//! by `refuse_input` or by `write_usage`; `Ending` says of a whole call how it may end, for the line
+//! that its words are. The whole text is made before its first byte is written. Nothing is promised
+//! of which answer a line has, nor that memory is there.
 #![tactic(auto)]
 
 ghost use Rattle.std.specs.Prelude.{◌≡◌, ◌+◌, true, false, IfOk, IsErrOf, MatchResult};
@@ -13,12 +13,19 @@ ghost use Rattle.one_run.specs.Endings.{IsInput, IsSilent, Writes, max_input, to
 
 use bwe_io::{ReadError, Sink, Source, read_all, write_all};
 use bwe_specs::OutOfMemory;
-use command_line::USAGE;
 use std::alloc::Global;
 use std::marker::Model;
 
+mod words;
+
+pub use words::words_of;
+
 /// The most bytes of an input.
 pub const MAX_INPUT: u64 = 67_108_864;
+
+/// The line for words that are no command line.
+pub const USAGE: &str =
+    "usage: bwe solve | check | run [--readers N] [--reads N] | make SEED GROUPS TASKS | bulk SEED GROUPS TASKS | audit | tiers | enforce | estimate WINDOW HEADROOM | levels SHARE\n";
 
 /// The line for an input that has more bytes.
 pub const TOO_LONG: &str = "refused input longer than 67108864 bytes\n";

@@ -22,8 +22,9 @@ use Rattle.audit_answer.specs.AuditReply.{IsAuditReply, audit_reply, audit_statu
 use Rattle.line_answers.specs.EnforceReply.{enforce_accepted, enforced_by}
 use Rattle.line_answers.specs.EstimateReply.{estimate_accepted, table_behind}
 use Rattle.opened_document.specs.Parted.{IsReplyBehind, behind_reply, no_parts_reply, parts_at, with_part}
-use Rattle.line_answers.specs.Replies.{check_accepted, levels_accepted, read_reply, solve_accepted, verdict_status}
-use Rattle.opened_document.specs.Refused.{refused_reply}
+use Rattle.line_answers.specs.Replies.{check_accepted, levels_accepted, verdict_status}
+use Rattle.opened_document.specs.Refused.{read_reply, refused_reply}
+use Rattle.solve_answer.specs.SolveReply.{solve_accepted}
 use Rattle.top_call.specs.RunLine.{IsRunReply}
 use Rattle.top_call.specs.Statuses.{AcceptedIsAnswered, AnAnswerIsWhole, IsAnswered, IsOfAnswer, IsSilent, IsTakenIn, IsWithoutFault, NothingIsWritten}
 use Rattle.line_answers.specs.TiersReply.{tiers_accepted, unless_refused}

@@ -1,12 +1,13 @@
--- The laws that join two lines.
-use Rattle.std.specs.Prelude.{◌≡◌, ℕ, ◌≤◌, ◌++◌, List, length, codes, Some}
+-- The laws that join two lines, and two calls.
+use Rattle.std.specs.Prelude.{◌≡◌, ◌↔◌, ℕ, ◌≤◌, ◌++◌, List, length, codes, Some}
 use Rattle.std.specs.Io.KnownBytes.{Appends, Keeps}
 use Rattle.bwe_io.specs.Bytes.{AppendsPrefix}
 use Rattle.bwe_io.specs.Faults.{HasRisen}
 use Rattle.command_line.specs.Lines.{Text, command_line_of}
 use Rattle.command_line.specs.Ranges.{IsInRange}
-use Rattle.command_line.specs.declared.CommandLine.TheVariants.{Audit, Run}
+use Rattle.command_line.specs.declared.CommandLine.TheVariants.{Audit, Run, Solve}
 use Rattle.one_run.specs.Endings.{Reply, Served, max_input}
+use Rattle.solve_answer.specs.SolveCall.{IsSolved}
 use Rattle.two_part.specs.TwoPart.{IsTwoPart}
 use Rattle.top_call.specs.TopCall.{IsServed, replies}
 
@@ -53,3 +54,10 @@ WhatRanIsFoundLegal S K T L =
     → IsTwoPart input digits document text → length input ≤ max_input
     → audited.left audited.source ≡ Some input → IsServed (Some Audit) audited status
     → IsFoundLegal audited status
+
+-- ---- the call that serves `solve` alone
+
+-- `solve_once` may end as a call for the line `solve` may, and in no other way.
+abbrev pub SolvedIsServed : Type 0 → Type 0 → Type 0
+SolvedIsServed S K =
+    (served : Served S K) (status : ℕ) → IsSolved served status ↔ IsServed (Some Solve) served status

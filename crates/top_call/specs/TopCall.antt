@@ -4,7 +4,9 @@ use Rattle.command_line.specs.declared.CommandLine.{CommandLine}
 use Rattle.command_line.specs.declared.CommandLine.TheVariants.{Solve, Check, Run, Make, Bulk, Audit, Tiers, Enforce, Estimate, Levels}
 use Rattle.one_run.specs.Endings.{Ending, Reply, Served}
 use Rattle.plan_doc.specs.Document.{document}
-use Rattle.line_answers.specs.Replies.{check_accepted, document_reply, levels_accepted, solve_accepted}
+use Rattle.line_answers.specs.Replies.{check_accepted, levels_accepted}
+use Rattle.solve_answer.specs.SolveReply.{solve_accepted}
+use Rattle.opened_document.specs.Refused.{document_reply}
 use Rattle.top_call.specs.RunLine.{IsRunReply}
 use Rattle.line_answers.specs.MadeLines.{bulk_reply, make_reply}
 use Rattle.opened_document.specs.Parted.{IsReplyBehind, accepted_parts, parts_reply}

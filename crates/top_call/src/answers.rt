@@ -7,8 +7,9 @@ ghost use Rattle.top_call.specs.TopCall.{needs_threads, replies};
 use audit_answer::audit;
 use bwe_specs::OutOfMemory;
 use command_line::CommandLine;
-use line_answers::{bulk, check, enforce, estimate, levels, make, solve, tiers};
+use line_answers::{bulk, check, enforce, estimate, levels, make, tiers};
 use one_run::Answer;
+use solve_answer::solve;
 use std::alloc::Global;
 
 /// What a line writes for its input ("Command lines", docs/FORMAT.md), for each line that needs no

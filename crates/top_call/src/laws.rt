@@ -1,7 +1,7 @@
 //! What a status tells of a call, and what joins two lines, each law the contract of a function
 //! that does nothing.
 
-ghost use Rattle.top_call.specs.Laws.{RunsAreLegal, WhatRanIsFoundLegal};
+ghost use Rattle.top_call.specs.Laws.{RunsAreLegal, SolvedIsServed, WhatRanIsFoundLegal};
 ghost use Rattle.top_call.specs.Statuses.{AcceptedIsAnswered, AnAnswerIsWhole, NothingIsWritten};
 
 use bwe_io::{Sink, Source};
@@ -35,4 +35,10 @@ pub fn runs_are_legal()
 /// memory is wanting.
 pub fn what_ran_is_found_legal<S: Source, K: Sink, T: Source, L: Sink>()
     ensures { WhatRanIsFoundLegal S K T L }
+{}
+
+/// A call that serves `solve` alone, as the program `bwe-solve` makes it, may end as a call for the
+/// line `solve` may, and in no other way.
+pub fn solved_is_served<S: Source, K: Sink>()
+    ensures { SolvedIsServed S K }
 {}

@@ -3,7 +3,7 @@
 use crate::tests::documents::{EMPTY, EMPTY_IN_TWO_PARTS};
 use crate::tests::words_of;
 use bwe_io::{MemorySink, MemorySource, Sink, Source, SureSink, SureSource, read_all};
-use command_line::USAGE;
+use one_run::USAGE;
 use std::alloc::{AllocError, Global};
 use std::test::Fail;
 use top_call::bwe_once;

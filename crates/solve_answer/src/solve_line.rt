@@ -5,7 +5,8 @@ ghost use Rattle.bwe_specs.specs.declared.report.Report.{Report};
 ghost use Rattle.doc_names.specs.NameTexts.{texts_of};
 ghost use Rattle.plan_doc.specs.Conditions.{IsUsable};
 ghost use Rattle.plan_doc.specs.Plans.{plan_in};
-ghost use Rattle.line_answers.specs.Replies.{document_reply, solve_accepted, table_reply};
+ghost use Rattle.opened_document.specs.Refused.{document_reply};
+ghost use Rattle.solve_answer.specs.SolveReply.{solve_accepted, table_reply};
 
 use allocator::Allocator;
 use bwe_specs::OutOfMemory;
@@ -26,8 +27,8 @@ pub fn solve(alloc: Global, input: &[u8]) -> Result<Answer, OutOfMemory>
     }
 }
 
-/// The table of the document's script.
-pub(crate) fn solve_document(alloc: Global, document: Document) -> Result<Answer, OutOfMemory>
+/// The table of an accepted document's script.
+pub fn solve_document(alloc: Global, document: Document) -> Result<Answer, OutOfMemory>
     requires { IsUsable document }
     ensures { IfOk result (λ answer. answer
         ≡ table_reply (texts_of document.names) (plan_in document) document.script.items) }

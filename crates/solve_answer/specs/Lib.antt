@@ -1,0 +1,2 @@
+pub mod SolveReply
+pub mod SolveCall
