@@ -5,7 +5,8 @@ use Rattle.std.specs.List.{list_any}
 use Rattle.clap.specs.Faults.{defaults_fault, step_fault, turn_fault, walk_fault, word_fault}
 use Rattle.clap.specs.Simple.{Shape, filled, with_index}
 use Rattle.clap.specs.Walk.{Held, Row, Step, Text, Walk, after_step, arg_by_long, idle, used, value, walked, word_met}
-use Rattle.command_line.specs.Lines.{estimate_in, estimate_of, is_hyphens, is_number, levels_in, levels_of, number_in}
+use Rattle.text_scan.specs.Numbers.{is_number}
+use Rattle.command_line.specs.Lines.{estimate_in, estimate_of, is_hyphens, levels_in, levels_of, number_in}
 use Rattle.command_line.specs.Matches.{estimate_given, levels_given, place_rule}
 use Rattle.command_line.specs.declared.CommandLine.{CommandLine}
 use Rattle.command_line.proofs.Clear.{and_false, and_true, is_clear, or_else-clear}

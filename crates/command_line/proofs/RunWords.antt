@@ -12,7 +12,8 @@ use Rattle.clap.specs.Simple.{filled, with_index}
 use Rattle.clap.specs.Walk.{Held, Row, Rule, Step, Text, Walk, arg_by_long, has_row, idle, option, plain_word, settled_rows, after_step, used, walked, with_default, with_values}
 use Rattle.clap.specs.declared.builder.value_parser.Reading.{Reading}
 use Rattle.clap.specs.declared.parser.matches.ValueSource.{ValueSource}
-use Rattle.command_line.specs.Lines.{Given, Name, readers, reads, is_hyphens, is_number, name_of, number_given, option_of, option_word, options_of, run_line, with_text}
+use Rattle.text_scan.specs.Numbers.{is_number}
+use Rattle.command_line.specs.Lines.{Given, Name, readers, reads, is_hyphens, name_of, number_given, option_of, option_word, options_of, run_line, with_text}
 use Rattle.command_line.specs.Matches.{given_in, option_rule, texts_in}
 use Rattle.command_line.proofs.Clear.{and_true, is_clear, or_else-clear}
 use Rattle.command_line.proofs.Turns.{at, hold, stray, unknown_is_plain, word_is_plain}
