@@ -65,7 +65,7 @@ tools:
 
 look:
 	@echo "bwe: a look before any proof: what follows is compiled, and not proved" >&2
-	@cd crates/bwe && rt try -- solve <../../examples/shared-link.json
+	@cd crates/bwe_solve && rt try <../../examples/shared-link.json
 
 bench: bwe
 	@tools/bench.py
