@@ -6,7 +6,7 @@
 ## make edits    the edits that the gate leaves out, of crates whose proof is long
 ## make cases    the whole cases alone, on the built program
 ## make tools    the tests of tools/
-## make look     a first table in some two minutes; nothing of it is proved
+## make look     a first table in a minute; nothing of it is proved
 ## make bench    times of the program on made documents
 ## make clean    removes all that was proved and built
 #
