@@ -271,16 +271,20 @@ def test_the_first_call_builds_and_a_newer_source_builds_again(project):
     assert proved(project) == ["tables", "bwe"]
 
 
-@pytest.fixture(name="first_table")
-def made_first_table(project):
-    """The project with a program for `solve` alone, over one library."""
-    source = project / "crates/bwe_solve/src/main.rt"
+def with_program(project, name):
+    """The project with one more program, over one library, which echoes what it reads."""
+    source = project / "crates" / name / "src/main.rt"
     source.parent.mkdir(parents=True)
     source.write_text("right\n")
     with (project / "crates.txt").open("a") as lines:
-        lines.write("bwe_solve: words\n")
+        lines.write(f"# top\n{name}: words\n")
     old_files(project)
     return project
+
+
+@pytest.fixture(name="first_table")
+def made_first_table(project):
+    return with_program(project, "bwe_solve")
 
 
 @pytest.mark.parametrize("words", [["solve"], ["solve", "a document"]])
@@ -341,14 +345,7 @@ def test_words_without_a_file_reach_the_program(project, words):
 
 @pytest.fixture(name="two_programs")
 def made_two_programs(project):
-    """The project with a second program, which echoes what it reads."""
-    source = project / "crates/bwe_live/src/main.rt"
-    source.parent.mkdir(parents=True)
-    source.write_text("right\n")
-    with (project / "crates.txt").open("a") as lines:
-        lines.write("# top\nbwe_live: words\n")
-    old_files(project)
-    return project
+    return with_program(project, "bwe_live")
 
 
 def test_make_builds_both_programs_and_bwe_alone(two_programs):
