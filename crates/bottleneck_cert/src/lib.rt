@@ -155,12 +155,12 @@ fn verdict_on<V: GroupValues, L: Ledger>(
     requires front { IsFront V.meaning front.old }
     requires dues { AreDues (wan_in V.meaning front.old) (closings_in front.old) dues.old }
     requires none { closings_in front.old ≡ [] }
-    requires top { top ≡ (V.meaning front.old.values.now).top }
+    requires top { top ≡ (wan_in V.meaning front.old).top }
     ensures verdict { IfOk result
         (λ verdict. verdict ≡ verdict_of (wan_in V.meaning front.old) closings.now) }
     ensures ticks { steps.new
         ≤ steps.old + looks_ahead (wan_in V.meaning front.old) (closings_in front.old) dues.old
-        + (2 * length front.old.topology.now.capacities + 1) }
+        + (2 * length (wan_in V.meaning front.old).capacities + 1) }
 {
     for place in 0..closings.len() {
         let closing = closings[place];
@@ -187,7 +187,7 @@ fn cause_of<V: GroupValues, L: Ledger>(
 ) -> Result<Option<Cause>, OutOfMemory>
     requires front { IsFront V.meaning front.now }
     requires dues { AreDues (wan_in V.meaning front.now) (closings_in front.now) dues.old }
-    requires top { top ≡ (V.meaning front.now.values.now).top }
+    requires top { top ≡ (wan_in V.meaning front.now).top }
     ensures cause { IfOk result (λ cause. cause
         ≡ cause_after (wan_in V.meaning front.now) (closings_in front.now) closing) }
     ensures dues { OnOk result
@@ -197,7 +197,7 @@ fn cause_of<V: GroupValues, L: Ledger>(
     ensures ticks { steps.new
         + looks_ahead (wan_in V.meaning front.now) (closings_in front.now) dues.new
         ≤ steps.old + looks_ahead (wan_in V.meaning front.now) (closings_in front.now) dues.old
-        + (2 * length front.now.topology.now.capacities + 1) }
+        + (2 * length (wan_in V.meaning front.now).capacities + 1) }
     ensures ticks_none { IfOk result (λ cause. cause ≡ None
         → steps.new + looks_ahead (wan_in V.meaning front.now) (closings_in front.now) dues.new
         ≤ steps.old + looks_ahead (wan_in V.meaning front.now) (closings_in front.now) dues.old) }
@@ -240,9 +240,9 @@ fn share_cause<V: GroupValues, L: Ledger>(
     steps: &mut Steps<L>,
 ) -> Result<Option<Cause>, OutOfMemory>
     requires front { IsFront V.meaning front.now }
-    requires link { closing.link < length front.now.topology.now.capacities }
+    requires link { closing.link < length (wan_in V.meaning front.now).capacities }
     requires last { last_share (closings_in front.now) ≤ closing.share }
-    requires below { closing.share < (V.meaning front.now.values.now).top }
+    requires below { closing.share < (wan_in V.meaning front.now).top }
     ensures cause { IfOk result (λ cause. cause
         ≡ share_cause_of
         (over_at (wan_in V.meaning front.now) (closings_in front.now) closing.share)
@@ -250,7 +250,7 @@ fn share_cause<V: GroupValues, L: Ledger>(
         (is_over_at (wan_in V.meaning front.now) (closings_in front.now) (closing.share + 1)
         closing.link)
         (over_at (wan_in V.meaning front.now) (closings_in front.now) (closing.share + 1)))) }
-    ensures ticks { steps.new ≤ steps.old + (2 * length front.now.topology.now.capacities + 1) }
+    ensures ticks { steps.new ≤ steps.old + (2 * length (wan_in V.meaning front.now).capacities + 1) }
 {
     if let Some(link) = front.first_over(alloc, closing.share, steps)? {
         return Ok(Some(Cause::OverBefore { link }));

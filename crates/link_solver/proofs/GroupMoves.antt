@@ -15,7 +15,7 @@ use Rattle.mpfa_fill.specs.Standing.{standing_of, standing_under}
 use Rattle.mpfa_fill.proofs.Closed.{some-more}
 use Rattle.link_solver.specs.declared.due.Due.{Due}
 use Rattle.link_solver.specs.Dues.{Moves, came_to, Marks}
-use Rattle.link_solver.specs.Front.{IsHeld}
+use Rattle.mpfa_fill.specs.Growth.{IsHeld}
 use Rattle.link_solver.specs.Looks.{links_of, links_over_all, looks_in, moves_at, moves_of, looks_ahead}
 use Rattle.bwe_specs.proofs.Sums.{sum_below-room}
 use Rattle.link_solver.proofs.Looks.{sum_below-times, looks-all, looks-moved}

@@ -1,5 +1,5 @@
 -- The groups move on at a closing, one after the other.
-use Rattle.std.proofs.Common.{◌≡◌, ℕ, ◌+◌, ◌*◌, ◌<◌, ◌≤◌, false, List, ◌∷◌, length, refl, sym, arith, subst, inl, inr, slice_index_or}
+use Rattle.std.proofs.Common.{◌≡◌, ℕ, ◌+◌, ◌*◌, ◌<◌, ◌≤◌, false, List, ◌∷◌, length, reverse, refl, sym, ap, arith, subst, inl, inr, slice_index_or}
 use Rattle.std.proofs.lemmas.Bool.{cases_eq}
 use Rattle.bwe_specs.specs.declared.network.Closing.{Closing}
 use Rattle.bwe_specs.specs.Bounded.{sum_below}
@@ -11,11 +11,17 @@ use Rattle.bwe_specs.proofs.Bounds.{sum_below-more}
 use Rattle.mpfa_fill.specs.declared.standing.Standing.{Standing}
 use Rattle.mpfa_fill.specs.declared.standing.Standing.TheVariants.{Grows, Stopped}
 use Rattle.mpfa_fill.specs.Standing.{standing_under}
+use Rattle.mpfa_fill.specs.GroupValues.{Values}
+use Rattle.mpfa_fill.specs.declared.growth.Growth.{Growth}
+use Rattle.mpfa_fill.specs.Growth.{IsGrowth, IsGrowthOf, KeepsParts as KeepsGrowth}
+use Rattle.mpfa_fill.specs.Growth.{wan_in as growth_wan, closings_in as growth_closings}
+use Rattle.mpfa_fill.proofs.Growths.{growth-along}
 use Rattle.link_solver.specs.declared.due.Due.{Due}
 use Rattle.link_solver.specs.Dues.{due_at, IsMarked, Marks}
-use Rattle.link_solver.specs.Front.{HasElsewhere, IsHeld, IsUpOver}
+use Rattle.mpfa_fill.specs.Growth.{HasElsewhere, IsHeld, IsUpOver}
 use Rattle.link_solver.specs.Looks.{looks_in, moves_of}
-use Rattle.link_solver.proofs.Closes.{held-after, marked-more}
+use Rattle.mpfa_fill.proofs.Closed.{held-after}
+use Rattle.link_solver.proofs.Closes.{marked-more}
 use Rattle.link_solver.proofs.GroupMoves.{moves-same, keeps-path_group, looks-group}
 use Rattle.link_solver.proofs.Walks.{UsesNot}
 
@@ -96,3 +102,10 @@ module _ (wan : Wan) (never_falls : NeverFalls wan) (earlier : List Closing) (cl
           sum_below-more group (moves_of wan earlier),
         );
       }
+
+-- what a growth is after its groups came up and a closing was added, under the closings before
+pub growth-after : {V : Type 0} (meaning : V → Values) (old up new : Growth V) → KeepsGrowth old up → new.standings ≡ up.standings → new.sums ≡ up.sums → IsGrowth meaning up
+    → IsGrowthOf (meaning old.values.now) (growth_wan meaning old) (growth_closings old) new.standings.items new.sums
+growth-after meaning old up new parts standings sums is =
+    subst (λ s. IsGrowthOf (meaning old.values.now) (growth_wan meaning old) (growth_closings old) s.items new.sums) (sym standings)
+    (growth-along _ _ _ _ _ _ _ _ _ _ _ (ap meaning (sym parts.network.values)) (sym parts.network.plan) (ap (λ n. n.capacities) (sym parts.network.topology)) (ap (λ cs. reverse cs.items) (sym parts.closings)) sums is)

@@ -47,6 +47,13 @@ impl<'a> GroupsByLink<'a> {
         Ok(GroupsByLink { plan, lists })
     }
 
+    /// The path groups.
+    pub(crate) fn plan(&self) -> &PathPlan
+        ensures { result.now ≡ self.now }
+    {
+        self.plan
+    }
+
     /// The groups that use the link on a path group, in ascending order.
     pub(crate) fn on(&self, link: u32) -> &[u32]
         ensures { AreGroupsOn self.now link result.now }

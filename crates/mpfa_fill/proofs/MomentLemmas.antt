@@ -1,6 +1,7 @@
 -- Moments, as the code's parts make them.
 use Rattle.std.proofs.Common.{◌≡◌, ℕ, suc, ◌<◌, ◌≤◌, List, [], ◌∷◌, ◌++◌, length, reverse, Some, None, sym, ◌∙◌, ap, ap₂, subst}
 use Rattle.std.proofs.lemmas.List.{reverse-append}
+use Rattle.bwe_specs.specs.declared.limits.TheConstants.{MAX_TOTAL}
 use Rattle.bwe_specs.specs.declared.network.Closing.{Closing}
 use Rattle.bwe_specs.specs.Bounded.{sum_below}
 use Rattle.bwe_specs.specs.Filling.{Wan, State, next_amounts, step_by, filling_step, first_state, IsReached}
@@ -10,26 +11,13 @@ use Rattle.bwe_specs.proofs.Growth.{amounts_at-closed, amounts_at-start}
 use Rattle.bwe_specs.proofs.Steps.{reached-sound, next_amounts-is, step-below, closing-right}
 use Rattle.bwe_specs.specs.Values.{NeverFalls}
 use Rattle.mpfa_fill.specs.GroupValues.{Values, AreGroupValues, wan_of}
-use Rattle.mpfa_fill.specs.Moment.{IsMomentOf}
-use Rattle.link_sums.specs.Sums.{Sums}
-use Rattle.mpfa_fill.specs.declared.standing.Standing.{Standing}
 
 pub never_falls : (values : Values) (groups : List PathGroups) (capacities : List ℕ) → AreGroupValues values → NeverFalls (wan_of values groups capacities)
 never_falls values groups capacities known = record { next = known.never_falls }
 
 -- all groups have at most so much together
-pub together : (values : Values) (groups : List PathGroups) → AreGroupValues values → values.groups ≡ length groups → sum_below (length groups) (λ group. values.value group values.top) ≤ 20_000_000_000_000_000
-together values groups known count = subst (λ n. sum_below n (λ group. values.value group values.top) ≤ 20_000_000_000_000_000) count known.together
-
--- a moment of equal parts
-pub moment-along : (values values' : Values) (groups groups' : List PathGroups) (capacities capacities' : List ℕ) (share : ℕ) (closings closings' : List Closing) (standings : List Standing) (sums : Sums)
-    → values ≡ values' → groups ≡ groups' → capacities ≡ capacities' → closings ≡ closings'
-    → IsMomentOf values' (wan_of values' groups' capacities') share closings' standings sums → IsMomentOf values (wan_of values groups capacities) share closings standings sums
-moment-along values values' groups groups' capacities capacities' share closings closings' standings sums e f h k is =
-    subst (λ v. IsMomentOf v (wan_of v groups capacities) share closings standings sums) (sym e)
-    (subst (λ gs. IsMomentOf values' (wan_of values' gs capacities) share closings standings sums) (sym f)
-    (subst (λ cs. IsMomentOf values' (wan_of values' groups' cs) share closings standings sums) (sym h)
-    (subst (λ cs. IsMomentOf values' (wan_of values' groups' capacities') share cs standings sums) (sym k) is)))
+pub together : (values : Values) (groups : List PathGroups) → AreGroupValues values → values.groups ≡ length groups → sum_below (length groups) (λ group. values.value group values.top) ≤ MAX_TOTAL
+together values groups known count = subst (λ n. sum_below n (λ group. values.value group values.top) ≤ MAX_TOTAL) count known.together
 
 pub reverse_push : (closings : List Closing) (closing : Closing) → reverse (closings ++ closing ∷ []) ≡ closing ∷ reverse closings
 reverse_push closings closing = reverse-append closings (closing ∷ [])

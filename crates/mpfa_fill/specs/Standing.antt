@@ -1,18 +1,9 @@
--- How a group stands at a moment of a filling.
-use Rattle.std.specs.Prelude.{◌≡◌, ℕ, ◌<◌, Option, Some, None, List, [], if◌then◌else◌, slice_index_or}
+-- How a group stands under the closings so far.
+use Rattle.std.specs.Prelude.{ℕ, ◌<◌, Option, Some, None, List, [], if◌then◌else◌, slice_index_or}
 use Rattle.bwe_specs.specs.declared.network.Closing.{Closing}
 use Rattle.bwe_specs.specs.Paths.{PathGroups, path_group_at, path_group_count, uses, current_path_group}
-use Rattle.bwe_specs.specs.Filling.{Wan, current_path_group_of, stop_share}
 use Rattle.mpfa_fill.specs.declared.standing.Standing.{Standing}
 use Rattle.mpfa_fill.specs.declared.standing.Standing.TheVariants.{Grows, Stopped}
-
--- a group grows on its path group and has so much in all, or it stopped at a share
-abbrev pub IsStanding : Wan → List Closing → ℕ → ℕ → Standing → Type 0
-IsStanding wan closings share group (Grows place value) =
-    (current_path_group_of wan closings group ≡ Some place) × (value ≡ wan.value group share)
-IsStanding wan closings share group (Stopped at) =
-    (current_path_group_of wan closings group ≡ None)
-    × ((until : ℕ) → stop_share (slice_index_or wan.groups group []) closings until ≡ at)
 
 -- the path group on which the group grows is one of its own
 abbrev pub IsPlaced : List PathGroups → ℕ → Standing → Type 0

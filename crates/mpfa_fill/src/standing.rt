@@ -1,4 +1,4 @@
-//! How a group stands at a moment of a filling.
+//! How a group stands under the closings so far.
 
 ghost use Rattle.std.specs.Prelude.{◌≡◌, ℕ, ◌<◌, [], length, map, slice_index_or, IfOk, OnOk};
 ghost use Rattle.std.specs.List.{list_any};
@@ -20,7 +20,7 @@ pub enum Standing {
 }
 
 /// How each group stands at first: on its first path group, with nothing.
-pub fn first_standings(alloc: Global, plan: &PathPlan) -> Result<Vec<Standing>, OutOfMemory>
+pub(crate) fn first_standings(alloc: Global, plan: &PathPlan) -> Result<Vec<Standing>, OutOfMemory>
     ensures plan { OnOk result (IsPlan plan.now) }
     ensures standings { IfOk result (λ standings. standings.items
         ≡ map (λ group. standing_of (path_group_under (slice_index_or plan.now group []) []) 0 0)
@@ -34,7 +34,7 @@ pub fn first_standings(alloc: Global, plan: &PathPlan) -> Result<Vec<Standing>, 
 }
 
 /// How a group stands after one more closing, the last of these.
-pub fn standing_after(
+pub(crate) fn standing_after(
     plan: &PathPlan,
     group: u32,
     closings: &[Closing],
@@ -102,7 +102,11 @@ fn uses_closed(plan: &PathPlan, group: u32, place: u32, closings: &[Closing]) ->
 }
 
 /// The stop shares, where a group that still grows stops at the top.
-pub fn stop_shares(alloc: Global, standings: &[Standing], top: u64) -> Result<Vec<u64>, OutOfMemory>
+pub(crate) fn stop_shares(
+    alloc: Global,
+    standings: &[Standing],
+    top: u64,
+) -> Result<Vec<u64>, OutOfMemory>
     ensures { IfOk result (λ shares. shares.items ≡ map (stop_of top) standings.now) }
 {
     let shares = standings

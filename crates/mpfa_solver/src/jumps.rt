@@ -71,7 +71,7 @@ fn advanced<'a, V: GroupValues, L: Ledger>(
 ) -> Result<Moment<'a, V>, OutOfMemory>
     requires moment { IsMoment V.meaning moment }
     requires reached { IsReached (wan_in V.meaning moment) (state_of moment) }
-    requires top { top ≡ (V.meaning moment.values.now).top }
+    requires top { top ≡ (wan_in V.meaning moment).top }
     requires below { (state_of moment).share < top }
     requires named { AreLinks (wan_in V.meaning moment) notes.old.named.items }
     requires left { 62 ≤ notes.old.left }

@@ -77,7 +77,7 @@ returns-clause-least g c =
     λ none.
     absurd
     (c.is_named.ensures.other c.if-is_named.false
-    (next-found wan (never_falls _ _ _ c.requires.front.known) earlier c.args.closing c.next_closing.new.dues c.in_ok-next.next c.in_ok-next.ensures.next
+    (next-found wan (never_falls _ _ _ c.requires.front.growth.known) earlier c.args.closing c.next_closing.new.dues c.in_ok-next.next c.in_ok-next.ensures.next
     (cause-none wan earlier c.args.closing
     (sym (c.in_ok-share_cause.ensures.cause
     ∙ cause-share wan earlier c.args.closing
@@ -95,7 +95,7 @@ returns-clause-ticks_none g c =
     λ none.
     absurd
     (c.is_named.ensures.other c.if-is_named.false
-    (next-found wan (never_falls _ _ _ c.requires.front.known) earlier c.args.closing c.next_closing.new.dues c.in_ok-next.next c.in_ok-next.ensures.next
+    (next-found wan (never_falls _ _ _ c.requires.front.growth.known) earlier c.args.closing c.next_closing.new.dues c.in_ok-next.next c.in_ok-next.ensures.next
     (cause-none wan earlier c.args.closing
     (sym (c.in_ok-share_cause.ensures.cause
     ∙ cause-share wan earlier c.args.closing

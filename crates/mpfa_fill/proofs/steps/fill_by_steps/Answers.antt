@@ -44,4 +44,4 @@ loop-moment-preserved g c =
 pub into_filling-requires-clause-fits : goal.into_filling-requires-clause-fits
 into_filling-requires-clause-fits g c =
     let i = c.loop-moment.invariant in
-    fits-reached _ (never_falls _ _ _ i.moment.known) (state_of c.loop-moment.moment) (subst (λ w. IsReached w (state_of c.loop-moment.moment)) (sym i.wan) i.reached)
+    fits-reached _ (never_falls _ _ _ i.moment.growth.known) (state_of c.loop-moment.moment) (subst (λ w. IsReached w (state_of c.loop-moment.moment)) (sym i.wan) i.reached)

@@ -16,7 +16,7 @@ use Rattle.mpfa_solver.proofs.jumps.advanced.Goals.{then-share-top+in_ok-step, e
 pub step-requires-clause-reached : goal.step-requires-clause-reached
 step-requires-clause-reached g c =
     let wan : Wan = wan_in g.V.GroupValues.meaning c.args.moment in
-    let never : NeverFalls wan = never_falls _ _ _ c.requires.moment.known in
+    let never : NeverFalls wan = never_falls _ _ _ c.requires.moment.growth.known in
     let e = c.in_ok-moment.ensures in
     subst (λ w. IsReached w (state_of c.in_ok-moment.moment)) (sym e.wan)
     (risen-reached wan _ never (state_of c.args.moment) (state_of c.in_ok-moment.moment) e.wan c.requires.reached e.closings e.answer e.moment.amounts)
@@ -24,7 +24,7 @@ step-requires-clause-reached g c =
 pub returns-clause-reached : goal.returns-clause-reached
 returns-clause-reached g c =
     let wan : Wan = wan_in g.V.GroupValues.meaning c.args.moment in
-    let never : NeverFalls wan = never_falls _ _ _ c.requires.moment.known in
+    let never : NeverFalls wan = never_falls _ _ _ c.requires.moment.growth.known in
     let e = c.in_ok-moment.ensures in
     let next : State = state_of c.in_ok-moment.moment in
     let reached : IsReached wan next = risen-reached wan _ never (state_of c.args.moment) next e.wan c.requires.reached e.closings e.answer e.moment.amounts in
@@ -39,7 +39,7 @@ returns-clause-reached g c =
 pub returns-clause-search : goal.returns-clause-search
 returns-clause-search g c =
     let wan : Wan = wan_in g.V.GroupValues.meaning c.args.moment in
-    let never : NeverFalls wan = never_falls _ _ _ c.requires.moment.known in
+    let never : NeverFalls wan = never_falls _ _ _ c.requires.moment.growth.known in
     let e = c.in_ok-moment.ensures in
     let state : State = state_of c.args.moment in
     let next : State = state_of c.in_ok-moment.moment in
@@ -67,20 +67,20 @@ returns-clause-search g c =
 pub returns-in_err-moment-clause-right_hints : goal.returns-in_err-moment-clause-right_hints
 returns-in_err-moment-clause-right_hints g c right =
     let wan : Wan = wan_in g.V.GroupValues.meaning c.args.moment in
-    let never : NeverFalls wan = never_falls _ _ _ c.requires.moment.known in
+    let never : NeverFalls wan = never_falls _ _ _ c.requires.moment.growth.known in
     c.in_err-moment.ensures.right_hint
     (hint-read wan never (state_of c.args.moment) c.args.hints.now c.closings.result.now c.share.result c.args.top c.hint_at-hint.result c.requires.reached c.closings.ensures c.share.ensures c.requires.top c.hint_at-hint.ensures right)
 
 pub returns-in_err-step-clause-right_hints : goal.returns-in_err-step-clause-right_hints
 returns-in_err-step-clause-right_hints g c right =
     let wan : Wan = wan_in g.V.GroupValues.meaning c.args.moment in
-    let never : NeverFalls wan = never_falls _ _ _ c.requires.moment.known in
+    let never : NeverFalls wan = never_falls _ _ _ c.requires.moment.growth.known in
     c.in_ok-moment.ensures.right_hint
     (hint-read wan never (state_of c.args.moment) c.args.hints.now c.closings.result.now c.share.result c.args.top c.hint_at-hint.result c.requires.reached c.closings.ensures c.share.ensures c.requires.top c.hint_at-hint.ensures right)
 
 pub returns-clause-right_hints : goal.returns-clause-right_hints
 returns-clause-right_hints g c right =
     let wan : Wan = wan_in g.V.GroupValues.meaning c.args.moment in
-    let never : NeverFalls wan = never_falls _ _ _ c.requires.moment.known in
+    let never : NeverFalls wan = never_falls _ _ _ c.requires.moment.growth.known in
     c.in_ok-moment.ensures.right_hint
     (hint-read wan never (state_of c.args.moment) c.args.hints.now c.closings.result.now c.share.result c.args.top c.hint_at-hint.result c.requires.reached c.closings.ensures c.share.ensures c.requires.top c.hint_at-hint.ensures right)

@@ -86,7 +86,7 @@ loop-notes-preserved g c =
 pub into_filling-requires-clause-fits : goal.into_filling-requires-clause-fits
 into_filling-requires-clause-fits g c =
     let i = c.loop-notes.invariant in
-    fits-reached _ (never_falls _ _ _ i.moment.known) (state_of c.loop-notes.moment) (subst (λ w. IsReached w (state_of c.loop-notes.moment)) (sym i.wan) i.reached)
+    fits-reached _ (never_falls _ _ _ i.moment.growth.known) (state_of c.loop-notes.moment) (subst (λ w. IsReached w (state_of c.loop-notes.moment)) (sym i.wan) i.reached)
 
 pub returns-clause-ticks : goal.returns-clause-ticks
 returns-clause-ticks g c =

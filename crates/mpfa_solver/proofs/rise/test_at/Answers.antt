@@ -20,7 +20,7 @@ pub bound_by-requires-clause-high : goal.bound_by-requires-clause-high
 bound_by-requires-clause-high g c =
     let r = c.requires.rise in
     let gone = c.go_to.ensures in
-    let never : NeverFalls g.S.Search.wan = subst NeverFalls r.same_wan (never_falls _ _ _ r.is_moment.known) in
+    let never : NeverFalls g.S.Search.wan = subst NeverFalls r.same_wan (never_falls _ _ _ r.is_moment.growth.known) in
     let over : over_at g.S.Search.wan g.S.Search.closings c.args.share ≡ Some c.in-Some.link =
     sym (over-along _ _ _ _ _ _ (gone.wan ∙ r.same_wan) (gone.closings ∙ r.same_closings) gone.share) ∙ sym c.first_over.ensures ∙ c.in-Some.is in
     let above : g.S.Search.low < c.args.share = omega (arith, c.requires.above, r.same_low) in

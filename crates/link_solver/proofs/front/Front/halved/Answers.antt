@@ -7,7 +7,7 @@ loop-high-preserved-then-is_over_at g c =
     let i = c.loop-high.invariant in
     let low = c.loop-high.low in
     let high = c.loop-high.high in
-    let width : high - low ≤ 1_000_000_000 = omega (arith, i.upto, c.requires.within, c.requires.front.known.top_small) in
+    let width : high - low ≤ 1_000_000_000 = omega (arith, i.upto, c.requires.within, c.requires.front.growth.known.top_small) in
     record {
       from = i.from;
       order = omega (arith, c.loop-high-test.true);
@@ -27,7 +27,7 @@ loop-high-preserved g c =
     let i = c.loop-high.invariant in
     let low = c.loop-high.low in
     let high = c.loop-high.high in
-    let width : high - low ≤ 1_000_000_000 = omega (arith, i.upto, c.requires.within, c.requires.front.known.top_small) in
+    let width : high - low ≤ 1_000_000_000 = omega (arith, i.upto, c.requires.within, c.requires.front.growth.known.top_small) in
     record {
       from = omega (arith, i.from);
       order = omega (arith, c.loop-high-test.true);

@@ -1,8 +1,10 @@
 use Rattle.std.proofs.Common.{◌∙◌, ap}
+use Rattle.bwe_specs.specs.Filling.{Wan}
 use Rattle.bwe_specs.specs.Paths.{lowest_over}
+use Rattle.mpfa_fill.specs.Moment.{wan_in}
 use Rattle.mpfa_fill.proofs.moment.Moment.first_over.Goals as goal
 
 pub returns : goal.returns
 returns g c =
-    c.first_over.ensures.of_plan c.args.self.now.plan.now c.requires.moment.summed
-    ∙ ap (lowest_over c.args.self.now.plan.now c.args.self.now.topology.now.capacities) c.requires.moment.amounts
+    let wan : Wan = wan_in g.V.GroupValues.meaning c.args.self.now in
+    c.first_over.ensures ∙ ap (lowest_over wan.groups wan.capacities) c.requires.moment.amounts

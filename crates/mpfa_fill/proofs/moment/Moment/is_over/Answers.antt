@@ -1,9 +1,10 @@
-use Rattle.std.proofs.Common.{◌∙◌, ap, ap₂, arith, nat_lt}
-use Rattle.bwe_specs.specs.Paths.{link_load}
+use Rattle.std.proofs.Common.{◌∙◌, ap}
+use Rattle.bwe_specs.specs.Filling.{Wan}
+use Rattle.bwe_specs.specs.Paths.{is_over}
+use Rattle.mpfa_fill.specs.Moment.{wan_in}
 use Rattle.mpfa_fill.proofs.moment.Moment.is_over.Goals as goal
 
 pub returns : goal.returns
 returns g c =
-    let m = c.requires.moment in
-    ap₂ nat_lt c.capacity.ensures
-    (c.load.ensures ∙ m.summed.loads c.args.link (omega (arith, m.links, c.requires.link)) ∙ ap (λ x. link_load c.args.self.now.plan.now x c.args.link) m.amounts)
+    let wan : Wan = wan_in g.V.GroupValues.meaning c.args.self.now in
+    c.is_over.ensures ∙ ap (λ x. is_over wan.groups wan.capacities x c.args.link) c.requires.moment.amounts

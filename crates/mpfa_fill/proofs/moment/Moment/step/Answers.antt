@@ -11,7 +11,7 @@ pub close_link-requires-clause-right : goal.close_link-requires-clause-right
 close_link-requires-clause-right g c =
     let wan : Wan = wan_in g.V.GroupValues.meaning c.args.self.now in
     let state : State = state_of c.args.self.now in
-    let never : NeverFalls wan = never_falls _ _ _ c.requires.moment.known in
+    let never : NeverFalls wan = never_falls _ _ _ c.requires.moment.growth.known in
     let tried = c.go_to.ensures in
     let back = c.go_to-in-Some.ensures in
     let next : c.go_to.new.self.share ≡ suc state.share = tried.share ∙ ap (λ s. s + 1) c.share-share.ensures ∙ add-one state.share in
@@ -23,7 +23,7 @@ pub returns-in_ok-close_link-clause-step : goal.returns-in_ok-close_link-clause-
 returns-in_ok-close_link-clause-step g c =
     let wan : Wan = wan_in g.V.GroupValues.meaning c.args.self.now in
     let state : State = state_of c.args.self.now in
-    let never : NeverFalls wan = never_falls _ _ _ c.requires.moment.known in
+    let never : NeverFalls wan = never_falls _ _ _ c.requires.moment.growth.known in
     let tried = c.go_to.ensures in
     let back = c.go_to-in-Some.ensures in
     let closed = c.in_ok-close_link.ensures in
@@ -39,7 +39,7 @@ pub returns-in_default-clause-step : goal.returns-in_default-clause-step
 returns-in_default-clause-step g c =
     let wan : Wan = wan_in g.V.GroupValues.meaning c.args.self.now in
     let state : State = state_of c.args.self.now in
-    let never : NeverFalls wan = never_falls _ _ _ c.requires.moment.known in
+    let never : NeverFalls wan = never_falls _ _ _ c.requires.moment.growth.known in
     let tried = c.go_to.ensures in
     let next : c.go_to.new.self.share ≡ suc state.share = tried.share ∙ ap (λ s. s + 1) c.share-share.ensures ∙ add-one state.share in
     step-rises wan never state c.requires.reached c.requires.below (state_of c.go_to.new.self) next tried.closings

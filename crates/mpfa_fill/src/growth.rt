@@ -1,0 +1,344 @@
+//! The groups of a filling, each as it was when it last came up to its value.
+
+ghost use Rattle.std.specs.Prelude.{◌≡◌, ℕ, ◌+◌, ◌-◌, ◌<◌, ◌≤◌, ◌∷◌, ◌++◌, [], true, length, map, reverse, set, IfOk, OnOk, MatchOption, None};
+ghost use Rattle.bwe_specs.specs.Reports.{numbers};
+ghost use Rattle.bwe_specs.specs.Paths.{path_group_count, lowest_over, is_over as is_link_over};
+ghost use Rattle.bwe_specs.specs.Filling.{closed_links};
+ghost use Rattle.bwe_specs.specs.RightClosings.{last_share, amounts_at, over_at};
+ghost use Rattle.path_groups.specs.Plan.{IsBuiltOn};
+ghost use Rattle.link_sums.specs.Sums.{amount_at, IsSummedOver, total_of, rows_in};
+ghost use Rattle.mpfa_fill.specs.GroupValues.{Values, AreGroupValues, wan_of};
+ghost use Rattle.mpfa_fill.specs.Standing.{IsPlaced, standing_under};
+ghost use Rattle.mpfa_fill.specs.LastFit.{is_over_at, GrowsNotOver};
+ghost use Rattle.mpfa_fill.specs.Growth.{wan_in, closings_in, added_in, standing_at, IsUp, IsUpOver, KeepsParts, KeepsNetwork, IsGrowth, IsTermOf, AreTermsOn};
+ghost use Rattle.mpfa_fill.specs.Filling.{IsFilling};
+
+use crate::standing::{Standing, first_standings, standing_after, stop_shares};
+use crate::steps::Filling;
+use crate::values::GroupValues;
+use bwe_specs::{Closing, MAX_TOTAL, OutOfMemory};
+use link_sums::LinkSums;
+use path_groups::PathPlan;
+use std::alloc::Global;
+use wan_topology::Topology;
+
+/// The closings so far, and how each group stands under them.
+///
+/// A group that grows has on its path group what was added of it, and its value above that of its
+/// standing. What was added is summed over the links.
+#[derive(Drop)]
+pub struct Growth<'a, V: GroupValues> {
+    values: &'a V,
+    topology: &'a Topology,
+    plan: &'a PathPlan,
+    closings: Vec<Closing>,
+    standings: Vec<Standing>,
+    sums: LinkSums,
+}
+
+/// A group that grows over a link: where, how much was added there, and the value above which it
+/// has more.
+#[derive(Clone, Copy)]
+pub struct Term {
+    group: u32,
+    place: u32,
+    amount: u64,
+    value: u64,
+}
+
+impl<'a, V: GroupValues> Growth<'a, V> {
+    /// Nothing is closed and every amount is 0.
+    pub fn open(
+        alloc: Global,
+        values: &'a V,
+        topology: &'a Topology,
+        plan: &'a PathPlan,
+    ) -> Result<Growth<'a, V>, OutOfMemory>
+        requires built_on { IsBuiltOn topology.now plan.now }
+        requires values { AreGroupValues (V.meaning values.now) }
+        requires groups { (V.meaning values.now).groups ≡ length plan.now }
+        ensures growth { IfOk result (IsGrowth V.meaning) }
+        ensures wan { IfOk result (λ growth.
+            wan_in V.meaning growth
+            ≡ wan_of (V.meaning values.now) plan.now topology.now.capacities) }
+        ensures closings { IfOk result (λ growth. closings_in growth ≡ []) }
+        ensures none { IfOk result
+            (λ growth. (group place : ℕ) → added_in growth group place ≡ 0) }
+    {
+        let sums = LinkSums::open(alloc, topology, plan)?;
+        let standings = first_standings(alloc, plan)?;
+        Ok(Growth {
+            values,
+            topology,
+            plan,
+            closings: Vec::new(alloc),
+            standings,
+            sums,
+        })
+    }
+
+    /// How many links there are.
+    pub fn links(&self) -> u32
+        ensures { result ≡ length (wan_in V.meaning self.now).capacities }
+    {
+        self.topology.links()
+    }
+
+    /// How many groups there are.
+    pub fn groups(&self) -> u32
+        ensures { result ≡ length (wan_in V.meaning self.now).groups }
+    {
+        self.plan.groups()
+    }
+
+    /// The closings so far, in their order.
+    pub fn closings(&self) -> &[Closing]
+        ensures { reverse result.now ≡ closings_in self.now }
+    {
+        &self.closings
+    }
+
+    /// Whether what was added puts the link over.
+    pub fn is_over(&self, link: u32) -> bool
+        requires growth { IsGrowth V.meaning self.now }
+        requires link { link < length (wan_in V.meaning self.now).capacities }
+        ensures { let wan = wan_in V.meaning self.now in
+            result ≡ is_link_over wan.groups wan.capacities (added_in self.now) link }
+    {
+        self.sums.load(link) > self.topology.capacity(link)
+    }
+
+    /// The lowest link that what was added puts over.
+    pub fn first_over(&self) -> Option<u32>
+        requires growth { IsGrowth V.meaning self.now }
+        ensures { let wan = wan_in V.meaning self.now in
+            result ≡ lowest_over wan.groups wan.capacities (added_in self.now) }
+    {
+        self.sums.first_over(self.topology)
+    }
+
+    /// Adds what the group has at the share, if it grows. It takes no memory.
+    pub fn bring_up(&mut self, group: u32, share: u64)
+        requires group { group < length self.old.plan.now }
+        requires growth { IsGrowth V.meaning self.old }
+        requires last { last_share (closings_in self.old) ≤ share }
+        requires within { share ≤ (wan_in V.meaning self.old).top }
+        ensures growth { IsGrowth V.meaning self.new }
+        ensures wan { wan_in V.meaning self.new ≡ wan_in V.meaning self.old }
+        ensures parts { KeepsParts self.old self.new }
+        ensures up { IsUp (wan_in V.meaning self.old) share group (standing_at self.new group) }
+        ensures others { (other : ℕ) → (other ≡ group → ⊥)
+            → standing_at self.new other ≡ standing_at self.old other }
+    {
+        let Standing::Grows { place, value } = self.standings[group as usize] else {
+            return;
+        };
+        let now = self.values.value(group, share);
+        change(&mut self.sums, self.plan, group, place, value, now);
+        self.standings[group as usize] = Standing::Grows { place, value: now };
+    }
+
+    /// Adds what the group has at the share, if it grows over the link.
+    pub fn bring_up_over(&mut self, group: u32, link: u32, share: u64)
+        requires group { group < length self.old.plan.now }
+        requires growth { IsGrowth V.meaning self.old }
+        requires last { last_share (closings_in self.old) ≤ share }
+        requires within { share ≤ (wan_in V.meaning self.old).top }
+        ensures growth { IsGrowth V.meaning self.new }
+        ensures wan { wan_in V.meaning self.new ≡ wan_in V.meaning self.old }
+        ensures parts { KeepsParts self.old self.new }
+        ensures up { IsUpOver (wan_in V.meaning self.old) link share group
+            (standing_at self.new group) }
+        ensures others { (other : ℕ) → (other ≡ group → ⊥)
+            → standing_at self.new other ≡ standing_at self.old other }
+    {
+        if let Standing::Grows { place, .. } = self.standings[group as usize]
+            && self.plan.uses(group, place, link)
+        {
+            self.bring_up(group, share);
+        }
+    }
+
+    /// Adds what all groups that grow have at the share. It takes no memory.
+    pub fn bring_all_up(&mut self, share: u64)
+        requires growth { IsGrowth V.meaning self.old }
+        requires last { last_share (closings_in self.old) ≤ share }
+        requires within { share ≤ (wan_in V.meaning self.old).top }
+        ensures growth { IsGrowth V.meaning self.new }
+        ensures wan { wan_in V.meaning self.new ≡ wan_in V.meaning self.old }
+        ensures parts { KeepsParts self.old self.new }
+        ensures up { added_in self.new
+            ≡ amounts_at (wan_in V.meaning self.old) (closings_in self.old) share }
+    {
+        for group in 0..self.plan.groups() {
+            self.bring_up(group, share);
+        }
+    }
+
+    /// Adds a closing. Each group that grew over its link has to move on next.
+    pub fn close(&mut self, closing: Closing) -> Result<(), OutOfMemory>
+        ensures closings { OnOk result
+            (self.new.closings.items ≡ self.old.closings.items ++ closing ∷ []) }
+        ensures network { KeepsNetwork self.old self.new }
+        ensures standings { self.new.standings ≡ self.old.standings }
+        ensures sums { self.new.sums ≡ self.old.sums }
+    {
+        self.closings.push(closing)?;
+        Ok(())
+    }
+
+    /// The group goes on with its next open path group, if it grew over the link of the last
+    /// closing. It answers how the group stood before, and how it stands now.
+    pub fn move_on(&mut self, group: u32, closing: Closing) -> (Standing, Standing)
+        requires group { group < length self.old.plan.now }
+        requires standings { length self.old.standings.items ≡ length self.old.plan.now }
+        requires placed { IsPlaced self.old.plan.now group (standing_at self.old group) }
+        ensures before { result.0 ≡ standing_at self.old group }
+        ensures after { result.1 ≡ standing_under self.old.plan.now group
+            (closed_links (closings_in self.old)) closing (standing_at self.old group) }
+        ensures standings { self.new.standings.items
+            ≡ set self.old.standings.items group result.1 }
+        ensures network { KeepsNetwork self.old self.new }
+        ensures closings { self.new.closings ≡ self.old.closings }
+        ensures sums { self.new.sums ≡ self.old.sums }
+    {
+        let before = self.standings[group as usize];
+        let after = standing_after(self.plan, group, &self.closings, closing, before);
+        self.standings[group as usize] = after;
+        (before, after)
+    }
+
+    /// The group, if it grows over the link.
+    pub fn term_of(&self, group: u32, link: u32) -> Option<Term>
+        requires growth { IsGrowth V.meaning self.now }
+        requires group { group < length self.now.plan.now }
+        ensures { MatchOption result
+            (GrowsNotOver (wan_in V.meaning self.now) (closings_in self.now) link group)
+            (IsTermOf (wan_in V.meaning self.now) (closings_in self.now) (added_in self.now)
+            group) }
+    {
+        let Standing::Grows { place, value } = self.standings[group as usize] else {
+            return None;
+        };
+        if !self.plan.uses(group, place, link) {
+            return None;
+        }
+        let amount = self.sums.amount(self.plan, group, place);
+        Some(Term {
+            group,
+            place,
+            amount,
+            value,
+        })
+    }
+
+    /// Whether the link is over at the share, if nothing closes on the way there. The terms are the
+    /// groups that grow over it.
+    pub fn is_over_at(&self, terms: &[Term], link: u32, share: u64) -> bool
+        requires growth { IsGrowth V.meaning self.now }
+        requires link { link < length (wan_in V.meaning self.now).capacities }
+        requires terms { AreTermsOn (wan_in V.meaning self.now) (closings_in self.now)
+            (added_in self.now) link terms.now }
+        requires last { last_share (closings_in self.now) ≤ share }
+        requires within { share ≤ (wan_in V.meaning self.now).top }
+        ensures { result
+            ≡ is_over_at (wan_in V.meaning self.now) (closings_in self.now) share link }
+    {
+        let mut load = self.sums.load(link) as u128;
+        let mut held = self.topology.capacity(link) as u128;
+        for term in terms {
+            let then = self.amount_then(*term, share);
+            held += self.plan.load(term.group, term.place, link, term.amount) as u128;
+            load += self.plan.load(term.group, term.place, link, then) as u128;
+        }
+        load > held
+    }
+
+    // What the group of the term has at the share, on the path group where it grows.
+    fn amount_then(&self, term: Term, share: u64) -> u64
+        requires growth { IsGrowth V.meaning self.now }
+        requires term { IsTermOf (wan_in V.meaning self.now) (closings_in self.now)
+            (added_in self.now) term.group term }
+        requires last { last_share (closings_in self.now) ≤ share }
+        requires within { share ≤ (wan_in V.meaning self.now).top }
+        ensures amount { result
+            ≡ amounts_at (wan_in V.meaning self.now) (closings_in self.now) share
+            term.group term.place }
+        ensures small { result ≤ MAX_TOTAL }
+    {
+        term.amount + self.values.value(term.group, share) - term.value
+    }
+
+    /// The filling, once no link is over at the top.
+    pub fn into_filling(self, alloc: Global, top: u64) -> Result<Filling, OutOfMemory>
+        requires growth { IsGrowth V.meaning self }
+        requires top { top ≡ (wan_in V.meaning self).top }
+        requires fits { over_at (wan_in V.meaning self) (closings_in self) top ≡ None }
+        ensures { IfOk result (IsFilling (wan_in V.meaning self.entry)) }
+    {
+        let mut growth = self;
+        growth.bring_all_up(top);
+        let amounts = amounts_of(alloc, growth.plan, &growth.sums)?;
+        let shares = stop_shares(alloc, &growth.standings, top)?;
+        Ok(Filling {
+            closings: growth.closings,
+            amounts,
+            shares,
+        })
+    }
+}
+
+// Raises or lowers an amount as a value has changed. Where it has not, no load is touched.
+fn change(sums: &mut LinkSums, plan: &PathPlan, group: u32, place: u32, from: u64, to: u64)
+    requires summed { IsSummedOver plan.now sums.old }
+    requires group { group < length plan.now }
+    requires place { place < path_group_count plan.now group }
+    requires total { total_of plan.now sums.old.amounts + (to - from) ≤ MAX_TOTAL }
+    requires amount { from - to ≤ amount_at sums.old.amounts group place }
+    ensures summed { IsSummedOver plan.now sums.new }
+    ensures links { length sums.new.loads ≡ length sums.old.loads }
+    ensures amount { amount_at sums.new.amounts group place + from
+        ≡ amount_at sums.old.amounts group place + to }
+    ensures others { (group' place' : ℕ) → (group' ≡ group → place' ≡ place → ⊥)
+        → amount_at sums.new.amounts group' place' ≡ amount_at sums.old.amounts group' place' }
+{
+    if from < to {
+        sums.raise(plan, group, place, to - from);
+    } else if to < from {
+        sums.lower(plan, group, place, from - to);
+    }
+}
+
+// The amounts in rows.
+fn amounts_of(alloc: Global, plan: &PathPlan, sums: &LinkSums) -> Result<Vec<Vec<u64>>, OutOfMemory>
+    requires { IsSummedOver plan.now sums.now }
+    ensures { IfOk result (λ rows. rows_in rows.items
+        ≡ map (λ group. map (amount_at sums.now.amounts group)
+        (numbers (path_group_count plan.now group))) (numbers (length plan.now))) }
+{
+    let mut rows = Vec::new(alloc);
+    for group in 0..plan.groups() {
+        rows.push(row_of(alloc, plan, sums, group)?)?;
+    }
+    Ok(rows)
+}
+
+// The amounts of one group.
+fn row_of(
+    alloc: Global,
+    plan: &PathPlan,
+    sums: &LinkSums,
+    group: u32,
+) -> Result<Vec<u64>, OutOfMemory>
+    requires rows { IsSummedOver plan.now sums.now }
+    requires group { group < length plan.now }
+    ensures { IfOk result
+        (λ row. row.items
+        ≡ map (amount_at sums.now.amounts group) (numbers (path_group_count plan.now group))) }
+{
+    let mut row = Vec::new(alloc);
+    for place in 0..plan.places(group) {
+        row.push(sums.amount(plan, group, place))?;
+    }
+    Ok(row)
+}
