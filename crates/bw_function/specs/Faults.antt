@@ -1,5 +1,6 @@
 -- What is wrong with a list of points, pairs of a share and an amount.
 use Rattle.std.specs.Prelude.{ℕ, ◌+◌, List, [], ◌∷◌, nat_lt, nat_le, Option, Some, None, if◌then◌else◌}
+use Rattle.std.specs.Option.{option_or}
 use Rattle.bwe_specs.specs.declared.limits.TheConstants.{MAX_AMOUNT}
 use Rattle.bw_function.specs.declared.fault.FunctionFault.{FunctionFault}
 use Rattle.bw_function.specs.declared.fault.FunctionFault.TheVariants.{Empty, NotFromZero, ShareNotRising, ShareOverTop, AmountFalling, AmountOverMax}
@@ -13,16 +14,11 @@ point_fault before point top place =
     else if nat_lt MAX_AMOUNT point.1 then Some (AmountOverMax place)
     else None
 
--- a fault, or else that of a later point
-abbrev pub fault_or : Option FunctionFault → Option FunctionFault → Option FunctionFault
-fault_or (Some fault) later = Some fault
-fault_or None later = later
-
 -- the first fault of the points that come after another, from a place on
 unfoldable pub later_fault : ℕ × ℕ → List (ℕ × ℕ) → ℕ → ℕ → Option FunctionFault
 later_fault before [] top place = None
 later_fault before (point ∷ later) top place =
-    fault_or (point_fault before point top place) (later_fault point later top (place + 1))
+    option_or (point_fault before point top place) (later_fault point later top (place + 1))
 
 -- the first fault of a list of points under a top share
 abbrev pub function_fault : List (ℕ × ℕ) → ℕ → Option FunctionFault

@@ -1,5 +1,6 @@
 -- Why links are refused: the first fault of what is given.
 use Rattle.std.specs.Prelude.{◌≡◌, ℕ, suc, List, [], ◌∷◌, ◌++◌, length, nat_lt, if◌then◌else◌, Option, Some, None}
+use Rattle.std.specs.Option.{option_or}
 use Rattle.std.specs.List.{list_any}
 use Rattle.std.specs.Str.{bytes_eq}
 use Rattle.wan_topology.specs.declared.fault.TopologyFault.{TopologyFault}
@@ -15,16 +16,11 @@ link_fault names number link =
     (if bytes_eq link.from link.to then Some (SelfLink number) else
     (if nat_lt 1_000_000_000_000 link.capacity then Some (CapacityOverMax number) else None))
 
--- a link's fault, or else that of a later link
-abbrev pub fault_or : Option TopologyFault → Option TopologyFault → Option TopologyFault
-fault_or (Some fault) later = Some fault
-fault_or None later = later
-
 -- the first fault of links, the first of which has this number, after links of these names
 unfoldable pub first_link_fault : List (List ℕ) → ℕ → List Link → Option TopologyFault
 first_link_fault names number [] = None
 first_link_fault names number (link ∷ later) =
-    fault_or (link_fault names number link)
+    option_or (link_fault names number link)
     (first_link_fault (names ++ link.name ∷ []) (suc number) later)
 
 -- the fault of the links of an input: their number is looked at first
