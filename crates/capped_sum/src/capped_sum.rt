@@ -75,7 +75,7 @@ impl CappedSum {
         requires demand { demand ≤ MAX_AMOUNT }
         ensures before { IfOk result (λ before. before ≡ (task_at self.old.tasks task).demand) }
         ensures ok { OnOk result (self.new ≡ with_demand self.old task demand) }
-        ensures err { OnErr result (self.new ≡ self.old) }
+        ensures refused { OnErr result (self.new ≡ self.old) }
     {
         let held = self.tasks[task as usize];
         self.tasks[task as usize] = Task {

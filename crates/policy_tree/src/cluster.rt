@@ -80,7 +80,7 @@ impl ClusterNode {
         requires task { task < job_tasks (job_at (user_at self.old.users user).jobs job) }
         requires demand { demand ≤ MAX_AMOUNT }
         ensures ok { OnOk result (self.new ≡ cluster_with self.old user job task demand) }
-        ensures err { OnErr result (self.new ≡ self.old) }
+        ensures refused { OnErr result (self.new ≡ self.old) }
     {
         self.users[user].set(job, task, demand)?;
         Ok(())

@@ -75,7 +75,7 @@ impl JobNode {
         requires task { task < length self.old.sum.tasks }
         requires demand { demand ≤ MAX_AMOUNT }
         ensures ok { OnOk result (self.new ≡ job_with self.old task demand) }
-        ensures err { OnErr result (self.new ≡ self.old) }
+        ensures refused { OnErr result (self.new ≡ self.old) }
     {
         self.sum.set(task, demand)?;
         Ok(())

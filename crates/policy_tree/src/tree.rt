@@ -89,7 +89,7 @@ impl PolicyTree {
         requires task { task < length self.old.demands }
         requires demand { demand ≤ MAX_AMOUNT }
         ensures ok { OnOk result (self.new ≡ asking self.old task demand) }
-        ensures err { OnErr result (self.new ≡ self.old) }
+        ensures refused { OnErr result (self.new ≡ self.old) }
     {
         let home = self.homes[task as usize];
         self.clusters[home.cluster].set(home.user, home.job, home.task, demand)?;

@@ -72,7 +72,7 @@ impl UserNode {
         requires task { task < job_tasks (job_at self.old.jobs job) }
         requires demand { demand ≤ MAX_AMOUNT }
         ensures ok { OnOk result (self.new ≡ user_with self.old job task demand) }
-        ensures err { OnErr result (self.new ≡ self.old) }
+        ensures refused { OnErr result (self.new ≡ self.old) }
     {
         self.jobs[job].set(task, demand)?;
         Ok(())

@@ -16,7 +16,7 @@ pub invariant_of-self : goal.invariant_of-self
 invariant_of-self c =
     let b = (goal.at.invariant_of-self c).After-index_mut in
     let users = c.self.inside.users.items in
-    let same : set users c.args.user c.set.new.self ≡ users = ap (set users c.args.user) (c.in_err-set.ensures.err ∙ read b) ∙ set-get_or users c.args.user _ in
+    let same : set users c.args.user c.set.new.self ≡ users = ap (set users c.args.user) (c.in_err-set.ensures.refused ∙ read b) ∙ set-get_or users c.args.user _ in
     subst (λ (users : List UserState). IsClusterState (record { configured = configured_by c.self.inside.transform; users = users })) (sym same) c.self.invariant
 
 pub invariant_of-self-2 : goal.invariant_of-self-2

@@ -43,15 +43,15 @@ invariant_of-self c =
     let at = found (goal.at.invariant_of-self c).After-index-home in
     let clusters = c.self.inside.clusters.items in
     let place = c.index-home.result.now.cluster in
-    let same : set clusters place c.set.new.self ≡ clusters = ap (set clusters place) (c.in_err-set.ensures.err ∙ read (goal.at.invariant_of-self c).After-index_mut at.cluster) ∙ set-get_or clusters place _ in
+    let same : set clusters place c.set.new.self ≡ clusters = ap (set clusters place) (c.in_err-set.ensures.refused ∙ read (goal.at.invariant_of-self c).After-index_mut at.cluster) ∙ set-get_or clusters place _ in
     subst (λ (states : List ClusterState). IsKeptTree c.self.inside.top states c.self.inside.homes.items c.self.inside.firsts.items (lists_of c.self.inside.children)) (sym same) c.self.invariant
 
-pub returns-in_err-set-clause-err : goal.returns-in_err-set-clause-err
-returns-in_err-set-clause-err c =
-    let at = found (goal.at.returns-in_err-set-clause-err c).After-index-home in
+pub returns-in_err-set-clause-refused : goal.returns-in_err-set-clause-refused
+returns-in_err-set-clause-refused c =
+    let at = found (goal.at.returns-in_err-set-clause-refused c).After-index-home in
     let clusters = c.self.inside.clusters.items in
     let place = c.index-home.result.now.cluster in
-    let same : set clusters place c.set.new.self ≡ clusters = ap (set clusters place) (c.in_err-set.ensures.err ∙ read (goal.at.returns-in_err-set-clause-err c).After-index_mut at.cluster) ∙ set-get_or clusters place _ in
+    let same : set clusters place c.set.new.self ≡ clusters = ap (set clusters place) (c.in_err-set.ensures.refused ∙ read (goal.at.returns-in_err-set-clause-refused c).After-index_mut at.cluster) ∙ set-get_or clusters place _ in
     MatchResult-from_err c.from_residual.result _ _ c.from_residual.ensures.0 (λ error. ap (tree_of c.self.inside.top) same ∙ c.self.view_is)
 
 pub invariant_of-self-2 : goal.invariant_of-self-2

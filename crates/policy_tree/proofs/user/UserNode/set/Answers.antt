@@ -16,7 +16,7 @@ pub invariant_of-self : goal.invariant_of-self
 invariant_of-self c =
     let b = (goal.at.invariant_of-self c).After-index_mut in
     let jobs = c.self.inside.jobs.items in
-    let same : set jobs c.args.job c.set.new.self ≡ jobs = ap (set jobs c.args.job) (c.in_err-set.ensures.err ∙ read b) ∙ set-get_or jobs c.args.job _ in
+    let same : set jobs c.args.job c.set.new.self ≡ jobs = ap (set jobs c.args.job) (c.in_err-set.ensures.refused ∙ read b) ∙ set-get_or jobs c.args.job _ in
     subst (λ (jobs : List JobState). IsUserState (record { configured = configured_by c.self.inside.transform; jobs = jobs })) (sym same) c.self.invariant
 
 pub invariant_of-self-2 : goal.invariant_of-self-2
