@@ -33,7 +33,7 @@ ranked_of task =
 
 -- the sums over all tasks fit
 pub record SumsFit (ranked : List RankedTask) : Type 0 where
-  pub weights : sum_by (λ task. task.weight) ranked ≤ 20_000_000
+  pub weights : sum_by (λ task. task.weight) ranked ≤ MAX_TASKS * MAX_WEIGHT
   pub demands : sum_by (λ task. task.demand) ranked ≤ MAX_TOTAL
 
 -- the tasks in the order of those amounts

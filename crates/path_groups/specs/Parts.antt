@@ -1,13 +1,14 @@
 -- How the amount on a path group is split over the links.
-use Rattle.std.specs.Prelude.{◌≡◌, ℕ, ◌≤◌, List, map, All, Bool, true, ◌==◌, nat_eq}
+use Rattle.std.specs.Prelude.{◌≡◌, ℕ, ◌*◌, ◌≤◌, List, map, All, Bool, true, ◌==◌, nat_eq}
 use Rattle.std.specs.List.{list_any, IsDistinct}
+use Rattle.bwe_specs.specs.declared.limits.TheConstants.{MAX_PATHS, MAX_WEIGHT}
 use Rattle.bwe_specs.specs.Paths.{PathGroup, uses, weight_of, weight_over}
 use Rattle.path_groups.specs.declared.part.LinkPart.{LinkPart}
 
 -- the part has a weight, no greater than the whole
 pub record IsPart (part : LinkPart) : Type 0 where
   pub weighs : 1 ≤ part.whole
-  pub is_light : part.whole ≤ 16_000
+  pub is_light : part.whole ≤ MAX_PATHS * MAX_WEIGHT
   pub within : part.weight ≤ part.whole
 
 -- a link's part of the path group: the weights of the paths over it, of the weights of all

@@ -1,6 +1,6 @@
 //! A plan: the path groups of each group.
 
-ghost use Rattle.std.specs.Prelude.{◌≡◌, ℕ, ◌<◌, ◌≤◌, List, length, map, All, IfOk, IfErr, OnOk, None, vec_len};
+ghost use Rattle.std.specs.Prelude.{◌≡◌, ℕ, ◌*◌, ◌<◌, ◌≤◌, List, length, map, All, IfOk, IfErr, OnOk, None, vec_len};
 ghost use Rattle.bwe_specs.specs.Paths.{path_group_at, path_group_count, load_on, uses, weight_of};
 ghost use Rattle.path_groups.specs.Given.{path_groups_of, AreInRange, path_group_of, groups_of};
 ghost use Rattle.path_groups.specs.Faults.{plan_fault, TellsFault};
@@ -11,7 +11,7 @@ use crate::check::first_fault;
 use crate::fault::PathError;
 use crate::given::{GroupSpec, PathSpec};
 use crate::part::{LinkPart, has_part, parts_of};
-use bwe_specs::{MAX_GROUPS, MAX_TOTAL};
+use bwe_specs::{MAX_GROUPS, MAX_PATHS, MAX_TOTAL, MAX_WEIGHT};
 use std::alloc::{AllocError, Global};
 use std::marker::Model;
 use wan_topology::Topology;
@@ -135,7 +135,8 @@ impl PathPlan {
 
     // The path groups of one group, with their parts.
     fn path_groups(alloc: Global, places: Vec<Vec<PathSpec>>) -> Result<Vec<PathGroup>, AllocError>
-        requires { All (λ paths. weight_of (path_group_of paths) ≤ 16_000) places.items }
+        requires { All (λ paths. weight_of (path_group_of paths) ≤ MAX_PATHS * MAX_WEIGHT)
+            places.items }
         ensures held { IfOk result
             (λ held. path_groups_held held ≡ map path_group_of places.items) }
         ensures parts { IfOk result (λ held. All HoldsParts held.items) }
