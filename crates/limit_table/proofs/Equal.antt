@@ -1,17 +1,11 @@
 -- Tests that two lines are equal.
-use Rattle.std.proofs.Common.{◌≡◌, ◌↔◌, ℕ, List, Bool, true, false, ◌&&◌, eqb, IsTrue, Option, Some, None, ap, refl}
+use Rattle.std.proofs.Common.{◌≡◌, ◌↔◌, ℕ, List, Bool, ◌&&◌, eqb, IsTrue, Option, Some, None, ap, refl}
+use Rattle.std.proofs.lemmas.Bool.{and_from, and_parts}
 use Rattle.std.proofs.lemmas.Bool.Decides.{Decides-eqb}
 use Rattle.std.specs.Bool.{Decides}
 use Rattle.std.specs.Option.{option_eq}
 use Rattle.bwe_specs.specs.declared.network.Closing.{Closing}
 use Rattle.bwe_specs.specs.Allocation.{PlaceLine, GroupLine}
-
-both-true : (x y : Bool) → (x && y) ≡ true → (x ≡ true) × (y ≡ true)
-both-true true y both = (refl, both)
-both-true false y both = absurd (cc)
-
-both : (x y : Bool) → x ≡ true → y ≡ true → (x && y) ≡ true
-both x y first second = rw (first, second) refl
 
 same_closed : (x y : Option ℕ) → Decides (option_eq eqb x y) (x ≡ y)
 same_closed None None = (λ _. refl, λ _. refl)
@@ -28,9 +22,9 @@ same_place_line amount amount' closed closed' amounts links = rw (amounts, links
 -- the derived test of two lines of places
 pub same_place : (x y : PlaceLine) → Decides (eqb x.amount y.amount && option_eq eqb x.closed y.closed) (x ≡ y)
 same_place x y = (
-  (λ test. let parts = both-true _ _ test in
+  (λ test. let parts = and_parts _ _ test in
       same_place_line _ _ _ _ ((Decides-eqb x.amount y.amount).0 parts.0) ((same_closed x.closed y.closed).0 parts.1)),
-  (λ e. both _ _ ((Decides-eqb x.amount y.amount).1 (ap (λ line. line.amount) e)) ((same_closed x.closed y.closed).1 (ap (λ line. line.closed) e))),
+  (λ e. and_from _ _ ((Decides-eqb x.amount y.amount).1 (ap (λ line. line.amount) e)) ((same_closed x.closed y.closed).1 (ap (λ line. line.closed) e))),
 )
 
 abbrev group_line : ℕ → ℕ → List PlaceLine → GroupLine
@@ -53,7 +47,7 @@ same_closing_of link link' share share' links shares = rw (links, shares) refl
 -- the derived test of two closings
 pub same_closing : (x y : Closing) → Decides (eqb x.link y.link && eqb x.share y.share) (x ≡ y)
 same_closing x y = (
-  (λ test. let parts = both-true _ _ test in
+  (λ test. let parts = and_parts _ _ test in
       same_closing_of _ _ _ _ ((Decides-eqb x.link y.link).0 parts.0) ((Decides-eqb x.share y.share).0 parts.1)),
-  (λ e. both _ _ ((Decides-eqb x.link y.link).1 (ap (λ closing. closing.link) e)) ((Decides-eqb x.share y.share).1 (ap (λ closing. closing.share) e))),
+  (λ e. and_from _ _ ((Decides-eqb x.link y.link).1 (ap (λ closing. closing.link) e)) ((Decides-eqb x.share y.share).1 (ap (λ closing. closing.share) e))),
 )

@@ -1,9 +1,9 @@
 -- A plan of sound groups.
-use Rattle.std.proofs.Common.{◌≡◌, ℕ, ◌<◌, ◌≤◌, Bool, true, false, ◌&&◌, List, [], ◌∷◌, ◌++◌, length, map, refl, sym, ◌∙◌, ap, subst, arith, suc, get_or, inl, inr, append_assoc}
+use Rattle.std.proofs.Common.{◌≡◌, ℕ, ◌<◌, ◌≤◌, true, List, [], ◌∷◌, ◌++◌, length, map, refl, sym, ◌∙◌, ap, subst, arith, suc, get_or, inl, inr, append_assoc}
 use Rattle.std.specs.Prelude.{All}
 use Rattle.std.specs.Str.{bytes_eq}
 use Rattle.std.proofs.Math.ListN.{get_or-eq_default}
-use Rattle.std.proofs.lemmas.Bool.{cases_lt}
+use Rattle.std.proofs.lemmas.Bool.{and_parts, cases_lt}
 use Rattle.std.proofs.lemmas.List.{length-map, map_push}
 use Rattle.bwe_specs.specs.Paths.{PathGroup, path_group_at, path_group_count, weight_of}
 use Rattle.wan_topology.specs.Network.{Network, sites_of}
@@ -45,17 +45,13 @@ module _ (network : Network) (groups : List Group) (sound : All (IsSoundGroup ne
     inside : (group : ℕ) → group < length (path_groups_of groups) → group < length groups
     inside group lt = omega (arith, lt, length-map groups (λ g. g.path_groups))
 
-  and-true : (a b : Bool) → (a && b) ≡ true → (a ≡ true) × (b ≡ true)
-  and-true true b e = (refl, e)
-  and-true false b e = absurd (cc)
-
   leads-linked : (from to : List ℕ) (links : List ℕ) → leads network from to links ≡ true → is_linked network links ≡ true
   unfolding leads
   leads-linked from to [] e = refl
   leads-linked from to (link ∷ []) e = refl
   leads-linked from to (link ∷ next ∷ later) e =
-      let rest = (and-true (bytes_eq (sites_of network link).from from) (leads network (sites_of network link).to to (next ∷ later)) e).1 in
-      let here = (and-true (bytes_eq (sites_of network next).from (sites_of network link).to) (leads network (sites_of network next).to to later) rest).0 in
+      let rest = (and_parts (bytes_eq (sites_of network link).from from) (leads network (sites_of network link).to to (next ∷ later)) e).1 in
+      let here = (and_parts (bytes_eq (sites_of network next).from (sites_of network link).to) (leads network (sites_of network next).to to later) rest).0 in
       let linked = leads-linked (sites_of network link).to to (next ∷ later) rest in
       rw (here, linked)
 

@@ -1,11 +1,12 @@
 -- A member that is put among others, and what slots then hold.
-use Rattle.std.proofs.Common.{◌≡◌, ℕ, Bool, true, false, List, Option, Some, None, Result, Ok, Err, refl, sym, ap, ◌∙◌}
-use Rattle.std.specs.Prelude.{◌||◌, ◌&&◌, is_some, option_map}
+use Rattle.std.proofs.Common.{◌≡◌, ℕ, true, false, List, Option, Some, None, Result, Ok, Err, refl, sym, ap, ◌∙◌}
+use Rattle.std.specs.Prelude.{◌||◌, is_some, option_map}
 use Rattle.std.specs.Ordering.{is_eq, nat_cmp, match_ordering}
 use Rattle.std.specs.declared.cmp.Ordering.{Ordering}
 use Rattle.std.specs.declared.cmp.Ordering.TheVariants.{Less, Equal, Greater}
 use Rattle.std.specs.Cmp.Lexicographic.{slice_cmp, nat_list_eq_equiv}
 use Rattle.std.specs.Str.{bytes_eq}
+use Rattle.std.proofs.lemmas.Bool.{and_from, and_parts}
 use Rattle.std.proofs.lemmas.Map.Text.{is_eq-slice_cmp}
 use Rattle.serde_json.specs.Data.{Data, object, Members, no_members, member, put}
 use Rattle.serde_json.specs.Find.{get, get_member}
@@ -71,27 +72,15 @@ pub kept : {X Y : Type 0} (key other : DocKey) (view : X → Y) (read : Data →
 unfolding optional
 kept key other view read found k d slot is apart e = rw (is, get_other (word key) (word other) d found apart) e
 
-and_left : (a b : Bool) → (a && b) ≡ true → a ≡ true
-and_left true b e = refl
-and_left false b e = absurd cc
-
-and_right : (a b : Bool) → (a && b) ≡ true → b ≡ true
-and_right true b e = e
-and_right false b e = absurd cc
-
-and_both : (a b : Bool) → a ≡ true → b ≡ true → (a && b) ≡ true
-and_both true b e f = f
-and_both false b e f = e
-
 pub only : (required others : List DocKey) (found : Members) (k : List ℕ) (d : Data) → (is_one_of required k || is_one_of others k) ≡ true → has_only required others found ≡ true → has_only required others (put k d found) ≡ true
 unfolding has_only
-only required others no_members k d known h = and_both _ true known refl
+only required others no_members k d known h = and_from _ true known refl
 only required others (member l e ms) k d known h = by (slice_cmp nat_cmp k l) (only required others ms k d known) where
   by : (o : Ordering) → (has_only required others ms ≡ true → has_only required others (put k d ms) ≡ true)
       → has_only required others (match_ordering o (member k d (member l e ms)) (member l d ms) (member l e (put k d ms))) ≡ true
-  by Less more = and_both _ _ known h
+  by Less more = and_from _ _ known h
   by Equal more = h
-  by Greater more = and_both _ _ (and_left _ _ h) (more (and_right _ _ h))
+  by Greater more = let parts = and_parts _ _ h in and_from _ _ parts.0 (more parts.1)
 
 -- ---- an object of which all is known
 

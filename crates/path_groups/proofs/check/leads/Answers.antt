@@ -1,5 +1,6 @@
 use Rattle.std.proofs.Common.{◌∙◌, sym}
-use Rattle.path_groups.proofs.Chains.{leads-elsewhere, leads-on, leads-end, not-true, not-false}
+use Rattle.std.proofs.lemmas.Bool.{not-true, not-false}
+use Rattle.path_groups.proofs.Chains.{leads-elsewhere, leads-on, leads-end}
 use Rattle.path_groups.proofs.check.leads.Goals as goal
 
 pub returns-then-ne : goal.returns-then-ne
