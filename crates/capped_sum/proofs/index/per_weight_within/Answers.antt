@@ -1,13 +1,10 @@
-use Rattle.std.proofs.Common.{rules, true, false, ◌≡◌, ◌<◌, ℕ, length, get_or, nat_le, leb-true, leb-false, arith, List}
+use Rattle.std.proofs.Common.{rules, true, false, ◌≡◌, ◌<◌, length, get_or, nat_le, leb-true, leb-false, arith}
+use Rattle.std.proofs.lemmas.List.{get_or_default}
 use Rattle.std.proofs.lemmas.List.Sorted.{IsPartitionPoint-from_clause, IsPartitionedBy-leb}
 use Rattle.std.specs.List.Sorted.{IsPartitionPoint}
-use Rattle.capped_sum.specs.declared.index.SumsBefore.{SumsBefore}
 use Rattle.capped_sum.proofs.Most.{full-partitioned, found-most, found-none, IsFoundMost}
 use Rattle.capped_sum.proofs.index.per_weight_within.Goals as goal
 use Rattle.capped_sum.proofs.index.per_weight_within.Goals.{After-partition_point-full}
-
-get_or-any : (before : List SumsBefore) (k : ℕ) → k < length before → get_or before k (record { weights = 0; demands = 0 }) ≡ get_or before k (get_or before k (record { weights = 0; demands = 0 }))
-get_or-any before k lt = search rules
 
 at : (c : After-partition_point-full) → IsPartitionPoint (λ sum. nat_le sum c.args.amount ≡ true) (λ sum. nat_le sum c.args.amount ≡ false) c.args.when_full.now c.partition_point-full.result
 at c =
@@ -22,8 +19,8 @@ here c within =
     found-most c.args.tasks.now c.args.ranked.now c.args.before.now c.args.when_full.now c.args.amount c.partition_point-full.result _ _ c.requires.in_range c.requires.index c.requires.when_full within
     (λ j d lt. leb-true _ _ (point.0 j d (omega (arith, c.requires.when_full.size)) lt))
     (λ j d le inside. leb-false _ _ (point.1 j d le inside))
-    (get_or-any c.args.before.now c.partition_point-full.result (omega (arith, size, within)))
-    (get_or-any c.args.before.now (length c.args.ranked.now) (omega (arith, size)))
+    (get_or_default c.args.before.now c.partition_point-full.result _ _ (omega (arith, size, within)))
+    (get_or_default c.args.before.now (length c.args.ranked.now) _ _ (omega (arith, size)))
 
 pub returns-then-full-ranked : goal.returns-then-full-ranked
 returns-then-full-ranked c =
@@ -31,7 +28,7 @@ returns-then-full-ranked c =
     let end = c.if-full-ranked.true in
     found-none c.args.tasks.now c.args.ranked.now c.args.before.now c.args.when_full.now c.args.amount _ c.requires.in_range c.requires.index c.requires.when_full
     (λ j d lt. leb-true _ _ (point.0 j d (omega (arith, c.requires.when_full.size)) (omega (arith, end))))
-    (get_or-any c.args.before.now (length c.args.ranked.now) (omega (arith, c.requires.index.sums.size)))
+    (get_or_default c.args.before.now (length c.args.ranked.now) (record { weights = 0; demands = 0 }) _ (omega (arith, c.requires.index.sums.size)))
 
 pub overflow_sub-open : goal.overflow_sub-open
 overflow_sub-open c =
