@@ -2,6 +2,7 @@
 use Rattle.std.proofs.Common.{◌≡◌, ℕ, ◌<◌, ◌≤◌, List, [], length, map, reverse, sum, get_or, slice_index, slice_index_or, Option, None, le_refl, ap₂, sym, ap, ◌∙◌, subst, arith, zero-add, le_trans}
 use Rattle.std.proofs.lemmas.List.FromFn.{fill_by_all, length-map-range_with_len, get_or-map-range_with_len}
 use Rattle.std.proofs.lemmas.List.{length-map, get_or-map, reverse-reverse}
+use Rattle.bwe_specs.specs.declared.limits.TheConstants.{MAX_TOTAL}
 use Rattle.bwe_specs.specs.Bounded.{sum_below}
 use Rattle.bwe_specs.specs.Paths.{path_group_at, path_group_count, link_load, load_on}
 use Rattle.bwe_specs.specs.Filling.{Wan, filling, group_stop, group_amount, closed_by}
@@ -38,13 +39,13 @@ no_line = record { share = 0; amount = 0; places = [] }
 pub no_place : PlaceLine
 no_place = record { amount = 0; closed = None }
 
-module _ (wan : Wan) (never : NeverFalls wan) (bound : sum_below (length wan.groups) (λ group. wan.value group wan.top) ≤ 20_000_000_000_000_000) where
+module _ (wan : Wan) (never : NeverFalls wan) (bound : sum_below (length wan.groups) (λ group. wan.value group wan.top) ≤ MAX_TOTAL) where
   -- all groups get at most what they may have at the top
-  pub amounts-total : total wan (filling wan).amounts ≤ 20_000_000_000_000_000
+  pub amounts-total : total wan (filling wan).amounts ≤ MAX_TOTAL
   amounts-total =
       let right = filling-right wan never in
       let closings = (filling wan).closings in
-      subst (λ amounts. total wan amounts ≤ 20_000_000_000_000_000) (sym (filling-amounts wan never))
+      subst (λ amounts. total wan amounts ≤ MAX_TOTAL) (sym (filling-amounts wan never))
       (le_trans (total-le wan never closings wan.top right.0 (last_share-le wan closings right.0) (le_refl wan.top)) bound)
 
   -- a group gets at most what it may have at the top
@@ -127,7 +128,7 @@ module _ (wan : Wan) (filled : Filling) (is : IsFilling wan filled) where
   lines-are = map-numbers no_line (line_in wan.groups filled) (group_line wan (filling wan)) (length wan.groups) line-is
 
   -- its rows can be summed
-  pub has_rows : NeverFalls wan → sum_below (length wan.groups) (λ group. wan.value group wan.top) ≤ 20_000_000_000_000_000 → HasRows wan.groups filled
+  pub has_rows : NeverFalls wan → sum_below (length wan.groups) (λ group. wan.value group wan.top) ≤ MAX_TOTAL → HasRows wan.groups filled
   has_rows never bound = record {
     rows = shaped;
     shares = ap length is.shares ∙ length-map-range_with_len _ 0 (length wan.groups);

@@ -1,6 +1,7 @@
 -- What a filling of what stands makes: the table.
 use Rattle.std.proofs.Common.{◌≡◌, ℕ, ◌<◌, ◌≤◌, List, length, map, flat_map, zip, slice_index, sum_by, ap₂, sym, ap, ◌∙◌, subst, arith, zero-add}
 use Rattle.std.proofs.lemmas.List.FromFn.{length-map-range_with_len, get_or-map-range_with_len}
+use Rattle.bwe_specs.specs.declared.limits.TheConstants.{MAX_TOTAL}
 use Rattle.bwe_specs.specs.declared.network.Closing.{Closing}
 use Rattle.bwe_specs.specs.Bounded.{sum_below}
 use Rattle.bwe_specs.specs.Paths.{PathGroups, link_load}
@@ -34,8 +35,8 @@ module _ (reported : Reported) (groups : List PathGroups) (fitted : IsFitted rep
   never = record { next = values.never_falls }
 
   -- what all groups may have at the top is bounded
-  pub bound : sum_below (length groups) (λ group. wan.value group wan.top) ≤ 20_000_000_000_000_000
-  bound = subst (λ count. sum_below count (λ group. wan.value group wan.top) ≤ 20_000_000_000_000_000) fitted.clusters values.together
+  pub bound : sum_below (length groups) (λ group. wan.value group wan.top) ≤ MAX_TOTAL
+  bound = subst (λ count. sum_below count (λ group. wan.value group wan.top) ≤ MAX_TOTAL) fitted.clusters values.together
 
   module _ (filled : Filling) (is : IsFilling (wan_by reported groups) filled) where
     pub made-rows : HasRows groups filled
@@ -44,8 +45,8 @@ module _ (reported : Reported) (groups : List PathGroups) (fitted : IsFitted rep
     pub made-shaped : AreRowsOf groups (rows_in filled.amounts.items)
     made-shaped = shaped wan filled is
 
-    pub made-total : total_of groups (rows_in filled.amounts.items) ≤ 20_000_000_000_000_000
-    made-total = subst (λ n. n ≤ 20_000_000_000_000_000) (sym (total-is wan filled is)) (amounts-total wan never bound)
+    pub made-total : total_of groups (rows_in filled.amounts.items) ≤ MAX_TOTAL
+    made-total = subst (λ n. n ≤ MAX_TOTAL) (sym (total-is wan filled is)) (amounts-total wan never bound)
 
     module _ (lines : List GroupLine) (are : lines ≡ map (line_in groups filled) (numbers (length groups))) where
       made-lines : lines ≡ map (group_line wan (filling wan)) (numbers (length groups))
@@ -85,7 +86,7 @@ module _ (reported : Reported) (groups : List PathGroups) (fitted : IsFitted rep
         pub made-is_table : IsTree reported.tree → IsNetwork reported.network → IsTable (table_parts reported.prefix limits lines loads closings)
         made-is_table tree network = record {
           total =
-              subst (λ n. n ≤ 20_000_000_000_000_000)
+              subst (λ n. n ≤ MAX_TOTAL)
               (sym (ap (sum_by (λ line. line.amount)) made-lines ∙ sum_by-numbers (λ line. line.amount) (group_line wan (filling wan)) (length groups)))
               (amounts-total wan never bound);
           tasks = omega (arith, ap length made-limits, length-limits_of (plan_by reported groups) (demand_in reported.tree) wan (filling wan), fitted.tasks, tree.few);

@@ -1,6 +1,7 @@
 -- What all groups may have together at a share, and after a script.
 use Rattle.std.proofs.Common.{◌≡◌, ℕ, ◌≤◌, ◌∙◌, List, length, sum, min, ap, arith, le_refl}
 use mathlib.Core.Path.{fun_ext}
+use Rattle.bwe_specs.specs.declared.limits.TheConstants.{MAX_TOTAL}
 use Rattle.bwe_specs.specs.Bounded.{sum_below}
 use Rattle.bwe_specs.specs.declared.report.Report.{Report}
 use Rattle.bwe_specs.specs.Allocation.{Plan}
@@ -17,7 +18,7 @@ use Rattle.parallel_values.specs.Levels.{levels_in}
 use Rattle.doc_names.specs.NameTexts.{NameTexts}
 use Rattle.line_answers.specs.Replies.{levels_reply, values_reply}
 
-pub levels-together : (tree : Tree) (share : ℕ) → AreValues (length tree.clusters) tree.top (value_in tree) → share ≤ tree.top → sum (levels_in tree share) ≤ 20_000_000_000_000_000
+pub levels-together : (tree : Tree) (share : ℕ) → AreValues (length tree.clusters) tree.top (value_in tree) → share ≤ tree.top → sum (levels_in tree share) ≤ MAX_TOTAL
 levels-together tree share are within =
     let groups = length tree.clusters in
     let below : sum_below groups (λ group. value_in tree group share) ≤ sum_below groups (λ group. value_in tree group tree.top) =

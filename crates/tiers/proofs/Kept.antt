@@ -2,6 +2,7 @@
 use Rattle.std.proofs.Common.{◌≡◌, ℕ, ◌+◌, ◌-◌, ◌<◌, ◌≤◌, List, [], ◌∷◌, ◌++◌, length, map, get_or, replicate, slice_index, Vec, Global, refl, sym, ap, ap₂, ◌∙◌, subst, arith, zero-add}
 use Rattle.std.proofs.lemmas.List.{get_or-map, length-replicate, get_or-replicate}
 use Rattle.std.proofs.lemmas.List.FromFn.{fill_by_all, length-map-range_with_len, get_or-map-range_with_len, map-range_with_len_more}
+use Rattle.bwe_specs.specs.declared.limits.TheConstants.{MAX_TOTAL}
 use Rattle.bwe_specs.specs.Bounded.{sum_below}
 use Rattle.bwe_specs.specs.Paths.{link_load}
 use Rattle.bwe_specs.specs.Filling.{Wan, filling}
@@ -21,7 +22,7 @@ pub list-read : {X : Type 0} (lists : List (Vec X Global)) (at : ℕ) (list : Ve
 list-read lists at list within is =
     get_or-map (λ (list : Vec _ Global). list.items) lists at list [] within ∙ ap (λ (list : Vec _ Global). list.items) (sym is)
 
-module _ (wan : Wan) (tiers : List ℕ) (never : NeverFalls wan) (bound : sum_below (length wan.groups) (λ group. wan.value group wan.top) ≤ 20_000_000_000_000_000) where
+module _ (wan : Wan) (tiers : List ℕ) (never : NeverFalls wan) (bound : sum_below (length wan.groups) (λ group. wan.value group wan.top) ≤ MAX_TOTAL) where
   -- at first no tier is filled
   pub filled-none : AreFilled wan tiers 0 (record { closings = []; amounts = []; shares = []; loads = replicate (length wan.capacities) 0 })
   filled-none = record {
@@ -39,9 +40,9 @@ module _ (wan : Wan) (tiers : List ℕ) (never : NeverFalls wan) (bound : sum_be
     pub next-shaped : AreRowsOf wan.groups (rows_in filled.amounts.items)
     next-shaped = shaped (wan_of_tier wan tiers tier) filled is
 
-    pub next-total : total_of wan.groups (rows_in filled.amounts.items) ≤ 20_000_000_000_000_000
+    pub next-total : total_of wan.groups (rows_in filled.amounts.items) ≤ MAX_TOTAL
     next-total =
-        subst (λ n. n ≤ 20_000_000_000_000_000) (sym (total-is (wan_of_tier wan tiers tier) filled is))
+        subst (λ n. n ≤ MAX_TOTAL) (sym (total-is (wan_of_tier wan tiers tier) filled is))
         (amounts-total (wan_of_tier wan tiers tier) (tier-never wan tiers never tier (amounts_below wan tiers tier)) (tier-bound wan tiers never bound tier))
 
     module _ (loads : List ℕ) (loads-is : loads ≡ map (link_load wan.groups (amount_at (rows_in filled.amounts.items))) (numbers (length free))) where

@@ -3,6 +3,7 @@ use Rattle.std.proofs.Common.{◌≡◌, ℕ, zero, suc, ◌+◌, ◌-◌, ◌<�
 use Rattle.std.specs.List.{Contains}
 use Rattle.std.proofs.lemmas.List.{reverse-reverse}
 use Rattle.std.proofs.lemmas.List.FromFn.{length-map-range_with_len, get_or-map-range_with_len}
+use Rattle.bwe_specs.specs.declared.limits.TheConstants.{MAX_TOTAL}
 use Rattle.bwe_specs.specs.declared.network.Closing.{Closing}
 use Rattle.bwe_specs.specs.Bounded.{sum_below}
 use Rattle.bwe_specs.specs.Paths.{link_load}
@@ -25,7 +26,7 @@ use Rattle.tiers.specs.TierLaws.{IsShared, IsUnwasted, closings_in}
 use Rattle.tiers.proofs.Tiers.{tier-counted, free-at, length-free, tier-never, own-at_most, load-more, below-fits, own-load}
 
 module _ (wan : Wan) (tiers : List ℕ) (never : NeverFalls wan) (starts : (group : ℕ) → wan.value group 0 ≡ 0)
-    (bound : sum_below (length wan.groups) (λ group. wan.value group wan.top) ≤ 20_000_000_000_000_000)
+    (bound : sum_below (length wan.groups) (λ group. wan.value group wan.top) ≤ MAX_TOTAL)
     (one_each : length tiers ≡ length wan.groups) (clusters : List Cluster) (demand : ℕ → ℕ) (prefix : ℕ) where
   abbrev table : Tiered
   table = tiered_of wan clusters demand tiers prefix
@@ -165,7 +166,7 @@ module _ (wan : Wan) (tiers : List ℕ) (never : NeverFalls wan) (starts : (grou
 
 -- the limits of a table of tiers are at most what the tasks ask for
 pub tiers-asked : (tree : Tree) (wan : Wan) (tiers : List ℕ) → IsTree tree → ((group : ℕ) → wan.value group wan.top ≡ value_in tree group tree.top)
-    → NeverFalls wan → sum_below (length wan.groups) (λ group. wan.value group wan.top) ≤ 20_000_000_000_000_000
+    → NeverFalls wan → sum_below (length wan.groups) (λ group. wan.value group wan.top) ≤ MAX_TOTAL
     → AreAskedFor tree.top (demand_in tree) tree.clusters
     (flat_map (λ given. cluster_limits tree.top (demand_in tree) given.0 given.1) (zip tree.clusters (map (group_amount wan (tiered_amounts wan tiers)) (numbers (length tree.clusters)))))
 tiers-asked tree wan tiers is values never bound =

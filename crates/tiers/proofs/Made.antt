@@ -2,6 +2,7 @@
 use Rattle.std.proofs.Common.{◌≡◌, ℕ, ◌<◌, ◌≤◌, List, [], length, map, reverse, sum, sum_by, get_or, slice_index, slice_index_or, sym, ap, ap₂, ◌∙◌, subst, arith, zero-add, le_trans}
 use Rattle.std.proofs.lemmas.List.{get_or-map, length-map, reverse-reverse}
 use Rattle.std.proofs.lemmas.List.FromFn.{fill_by_all, length-map-range_with_len, get_or-map-range_with_len}
+use Rattle.bwe_specs.specs.declared.limits.TheConstants.{MAX_TOTAL}
 use Rattle.bwe_specs.specs.declared.network.Closing.{Closing}
 use Rattle.bwe_specs.specs.Bounded.{sum_below}
 use Rattle.bwe_specs.specs.Paths.{path_group_at, path_group_count, link_load}
@@ -20,7 +21,7 @@ use Rattle.tiers.proofs.Tiers.{own-at_most, own-load, below-fits, tier-counted}
 abbrev table_parts : ℕ → List (List Closing) → List ℕ → List GroupLine → List ℕ → Tiered
 table_parts prefix tiers limits groups loads = record { prefix = prefix; tiers = tiers; limits = limits; groups = groups; loads = loads }
 
-module _ (wan : Wan) (tiers : List ℕ) (never : NeverFalls wan) (bound : sum_below (length wan.groups) (λ group. wan.value group wan.top) ≤ 20_000_000_000_000_000)
+module _ (wan : Wan) (tiers : List ℕ) (never : NeverFalls wan) (bound : sum_below (length wan.groups) (λ group. wan.value group wan.top) ≤ MAX_TOTAL)
     (fillings : Fillings) (are : AreFilled wan tiers (tier_count tiers) fillings) (one_each : length tiers ≡ length wan.groups) where
   counted : (group : ℕ) → group < length wan.groups → slice_index tiers group < tier_count tiers
   counted group lt = tier-counted tiers group (omega (arith, one_each))
@@ -114,9 +115,9 @@ module _ (wan : Wan) (tiers : List ℕ) (never : NeverFalls wan) (bound : sum_be
         (sym (ap (λ amounts. slice_index amounts group) made-amounts ∙ get_or-map-range_with_len (group_amount wan (tiered_amounts wan tiers)) 0 (length wan.groups) group group 0 lt (zero-add group)))
         (own-at_most wan tiers never bound (slice_index tiers group) group)
 
-    pub made-total : sum_by (λ line. line.amount) lines ≤ 20_000_000_000_000_000
+    pub made-total : sum_by (λ line. line.amount) lines ≤ MAX_TOTAL
     made-total =
-        subst (λ n. n ≤ 20_000_000_000_000_000)
+        subst (λ n. n ≤ MAX_TOTAL)
         (sym (ap (sum_by (λ line. line.amount)) made-lines ∙ sum_by-numbers (λ line. line.amount) (tiered_line wan tiers) (length wan.groups)))
         (le_trans
         (sum_below-mono (length wan.groups) (group_amount wan (tiered_amounts wan tiers)) (λ group. wan.value group wan.top)

@@ -1,5 +1,6 @@
 -- One tier more, as the loop over the tiers fills it.
 use Rattle.std.proofs.Common.{◌≡◌, ℕ, ◌+◌, ◌-◌, ◌<◌, ◌≤◌, ◌^◌, List, [], length, map, replicate, slice_index, sym, ap, ◌∙◌, subst, arith}
+use Rattle.bwe_specs.specs.declared.limits.TheConstants.{MAX_TOTAL}
 use Rattle.bwe_specs.specs.Bounded.{sum_below}
 use Rattle.bwe_specs.specs.Paths.{PathGroups, link_load}
 use Rattle.bwe_specs.specs.Filling.{Wan}
@@ -26,8 +27,8 @@ module _ (tree : Tree) (initial : Network) (groups : List PathGroups) (tiers : L
   pub step-never : NeverFalls (wan_by tree initial groups)
   step-never = record { next = values.never_falls }
 
-  pub step-bound : sum_below (length groups) (λ group. value_in tree group tree.top) ≤ 20_000_000_000_000_000
-  step-bound = subst (λ count. sum_below count (λ group. value_in tree group tree.top) ≤ 20_000_000_000_000_000) clusters values.together
+  pub step-bound : sum_below (length groups) (λ group. value_in tree group tree.top) ≤ MAX_TOTAL
+  step-bound = subst (λ count. sum_below count (λ group. value_in tree group tree.top) ≤ MAX_TOTAL) clusters values.together
 
   pub step-none : IsFilledTo tree initial groups tiers 0 initial (record { closings = []; amounts = []; shares = []; loads = replicate (length initial.capacities) 0 })
   step-none = record {
@@ -61,7 +62,7 @@ module _ (tree : Tree) (initial : Network) (groups : List PathGroups) (tiers : L
       pub step-shaped : AreRowsOf groups (rows_in filled.amounts.items)
       step-shaped = next-shaped wan tiers step-never step-bound tier filled step-filling
 
-      pub step-total : total_of groups (rows_in filled.amounts.items) ≤ 20_000_000_000_000_000
+      pub step-total : total_of groups (rows_in filled.amounts.items) ≤ MAX_TOTAL
       step-total = next-total wan tiers step-never step-bound tier filled step-filling
 
       module _ (loads : List ℕ) (loads-is : loads ≡ map (link_load groups (amount_at (rows_in filled.amounts.items))) (numbers (length now.capacities))) where

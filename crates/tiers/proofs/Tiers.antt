@@ -2,6 +2,7 @@
 use Rattle.std.proofs.Common.{◌≡◌, ℕ, zero, suc, ◌+◌, ◌-◌, ◌<◌, ◌≤◌, Bool, true, false, max, List, [], ◌∷◌, length, fold, slice_index, if◌then◌else◌, le_refl, le_trans, ◌⊎◌, inl, inr, refl, sym, ap, ap₂, ◌∙◌, arith, zero-add}
 use Rattle.std.proofs.lemmas.Bool.{cases_lt, and_right, ne_eqb}
 use Rattle.std.proofs.lemmas.List.FromFn.{fill_by_all, length-map-range_with_len, get_or-map-range_with_len}
+use Rattle.bwe_specs.specs.declared.limits.TheConstants.{MAX_TOTAL}
 use Rattle.bwe_specs.specs.Bounded.{sum_below}
 use Rattle.bwe_specs.specs.Paths.{PathGroup, PathGroups, path_group_at, path_group_count, load_on, link_load}
 use Rattle.bwe_specs.specs.Filling.{Wan, filling, group_amount}
@@ -98,8 +99,8 @@ module _ (wan : Wan) (tiers : List ℕ) where
         (filling-sound (wan_of_tier wan tiers tier) (tier-never tier (amounts_below wan tiers tier))).fits link
         (omega (arith, length-free wan.groups wan.capacities (amounts_below wan tiers tier)))
 
-    module _ (bound : sum_below (length wan.groups) (λ group. wan.value group wan.top) ≤ 20_000_000_000_000_000) where
-      pub tier-bound : (tier : ℕ) → sum_below (length wan.groups) (λ group. value_in_tier tiers tier wan.value group wan.top) ≤ 20_000_000_000_000_000
+    module _ (bound : sum_below (length wan.groups) (λ group. wan.value group wan.top) ≤ MAX_TOTAL) where
+      pub tier-bound : (tier : ℕ) → sum_below (length wan.groups) (λ group. value_in_tier tiers tier wan.value group wan.top) ≤ MAX_TOTAL
       tier-bound tier =
           le_trans (sum_below-mono (length wan.groups) _ (λ group. wan.value group wan.top) (λ group lt. value-le tier group wan.top)) bound
 

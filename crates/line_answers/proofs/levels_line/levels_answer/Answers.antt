@@ -1,5 +1,6 @@
 use Rattle.std.proofs.Common.{ℕ, ◌^◌, ◌<◌, ◌≤◌, List, length, sum, subst, sym}
 use Rattle.std.proofs.lemmas.List.FromFn.{length-map-range_with_len}
+use Rattle.bwe_specs.specs.declared.limits.TheConstants.{MAX_TOTAL}
 use Rattle.policy_tree.specs.Trees.{value_in}
 use Rattle.line_answers.proofs.Together.{levels-together}
 use Rattle.line_answers.proofs.levels_line.levels_answer.Goals as goal
@@ -13,5 +14,5 @@ levels_text-requires-clause-few c =
 
 pub levels_text-requires-clause-total : goal.levels_text-requires-clause-total
 levels_text-requires-clause-total c =
-    subst (λ (values : List ℕ). sum values ≤ 20_000_000_000_000_000) (sym c.requires.values)
+    subst (λ (values : List ℕ). sum values ≤ MAX_TOTAL) (sym c.requires.values)
     (levels-together c.args.tree.now c.args.share c.what_holds.ensures.values c.requires.share)
