@@ -9,10 +9,11 @@ use Rattle.bwe_specs.specs.Filling.{Wan, filling, group_amount}
 use Rattle.bwe_specs.specs.Reports.{numbers}
 use Rattle.bwe_specs.specs.Tree.{cluster_limits}
 use Rattle.bwe_specs.specs.Values.{AreValues, NeverFalls}
-use Rattle.bwe_specs.specs.Allocation.{GroupLine, Table, group_line, limits_of}
+use Rattle.bwe_specs.specs.Allocation.{GroupLine, group_line, limits_of}
 use Rattle.bwe_specs.proofs.Sums.{sum_by-numbers}
 use Rattle.link_sums.specs.Sums.{AreRowsOf, amount_at, rows_in, total_of}
 use Rattle.limit_table.specs.Tables.{IsTable}
+use Rattle.limit_table.proofs.Followed.{table_parts}
 use Rattle.mpfa_fill.specs.declared.steps.Filling.{Filling}
 use Rattle.mpfa_fill.specs.Filling.{IsFilling}
 use Rattle.policy_tree.specs.Trees.{IsTree, demand_in, value_in}
@@ -23,9 +24,6 @@ use Rattle.allocator.specs.Reported.{Reported}
 use Rattle.allocator.specs.Allocators.{IsFitted, plan_by, table_by}
 use Rattle.allocator.specs.Tables.{wan_by}
 use Rattle.allocator.proofs.Filled.{amounts-of_lines, amounts-total, amount-at_most, shaped, total-is, loads-are, lines-are, has_rows}
-
-abbrev table_parts : ℕ → List ℕ → List GroupLine → List ℕ → List Closing → Table
-table_parts prefix limits groups loads closings = record { prefix = prefix; limits = limits; groups = groups; loads = loads; closings = closings }
 
 module _ (reported : Reported) (groups : List PathGroups) (fitted : IsFitted reported groups) (values : AreValues (length reported.tree.clusters) reported.tree.top (value_in reported.tree)) where
   abbrev wan : Wan

@@ -22,12 +22,12 @@ closings-lead : (old new : List Closing) (change : Option (List Closing)) → Is
 closings-lead old new None is = is
 closings-lead old new (Some closings) is = is.1
 
-abbrev pub parts : ℕ → List ℕ → List GroupLine → List ℕ → List Closing → Table
-parts prefix limits groups loads closings = record { prefix = prefix; limits = limits; groups = groups; loads = loads; closings = closings }
+abbrev pub table_parts : ℕ → List ℕ → List GroupLine → List ℕ → List Closing → Table
+table_parts prefix limits groups loads closings = record { prefix = prefix; limits = limits; groups = groups; loads = loads; closings = closings }
 
 pub same-parts : (prefix prefix' : ℕ) (limits limits' : List ℕ) (groups groups' : List GroupLine) (loads loads' : List ℕ) (closings closings' : List Closing)
     → prefix ≡ prefix' → limits ≡ limits' → groups ≡ groups' → loads ≡ loads' → closings ≡ closings'
-    → parts prefix limits groups loads closings ≡ parts prefix' limits' groups' loads' closings'
+    → table_parts prefix limits groups loads closings ≡ table_parts prefix' limits' groups' loads' closings'
 same-parts prefix prefix' limits limits' groups groups' loads loads' closings closings' a b c d e = rw (a, b, c, d, e) refl
 
 pub change-leads : (table : Table) (change : Change) (later : Table) → Leads table change later → with_change table change ≡ later

@@ -14,12 +14,9 @@ use Rattle.bwe_specs.proofs.Bounds.{sum_below-mono, sum_below-term}
 use Rattle.bwe_specs.proofs.Sums.{sum_by-numbers}
 use Rattle.allocator.specs.Lines.{line_of_place}
 use Rattle.allocator.proofs.Filled.{line_parts, map-numbers, no_line, no_place, place_parts, sum-numbers}
-use Rattle.tiers.specs.Tiered.{Tiered, amounts_below, filling_of_tier, wan_of_tier, tier_closings, tier_count, tiered_amounts, tiered_line}
+use Rattle.tiers.specs.Tiered.{amounts_below, filling_of_tier, wan_of_tier, tier_closings, tier_count, tiered_amounts, tiered_line}
 use Rattle.tiers.specs.Fillings.{Fillings, AreFilled, HasLine, line_in_tier, row_of, rows_by, stops_by}
 use Rattle.tiers.proofs.Tiers.{own-at_most, own-load, below-fits, tier-counted}
-
-abbrev table_parts : ℕ → List (List Closing) → List ℕ → List GroupLine → List ℕ → Tiered
-table_parts prefix tiers limits groups loads = record { prefix = prefix; tiers = tiers; limits = limits; groups = groups; loads = loads }
 
 module _ (wan : Wan) (tiers : List ℕ) (never : NeverFalls wan) (bound : sum_below (length wan.groups) (λ group. wan.value group wan.top) ≤ MAX_TOTAL)
     (fillings : Fillings) (are : AreFilled wan tiers (tier_count tiers) fillings) (one_each : length tiers ≡ length wan.groups) where
