@@ -96,16 +96,14 @@ keeps_log state piece order room = record {
   rising = λ reader inside. le_refl (get_or state.floors reader 0);
 }
 
+keeps_report : (old new : State) (piece : List Report) → IsInOrder old → (over : Bool) → is_overfull old piece ≡ over → new ≡ cond over old (record old { log = old.log ++ piece }) → Keeps old new
+keeps_report old new piece order true is n = subst (Keeps old) (sym n) (keeps_itself old order)
+keeps_report old new piece order false is n = subst (Keeps old) (sym n) (keeps_log old piece order (ltb-false MAX_REPORTS (length old.log + length piece) is))
+
 pub keeps : (total : List Report → ℕ) (reporters : ℕ) (fit : Report → Type 0) (old : State) (event : CoreEvent) (answer : Result CoreAnswer CoreError) (new : State)
     → IsMeant reporters (length old.floors) fit event → IsInOrder old → Steps total old event answer new → Keeps old new
-keeps total reporters fit old (event.Report reporter piece) (Ok answer) new meant order step = go (is_overfull old piece) refl step.1 where
-  go : (over : Bool) → is_overfull old piece ≡ over → new ≡ cond over old (record old { log = old.log ++ piece }) → Keeps old new
-  go true is n = subst (Keeps old) (sym n) (keeps_itself old order)
-  go false is n = subst (Keeps old) (sym n) (keeps_log old piece order (ltb-false MAX_REPORTS (length old.log + length piece) is))
-keeps total reporters fit old (event.Report reporter piece) (Err (Full held)) new meant order step = go (is_overfull old piece) refl step.1 where
-  go : (over : Bool) → is_overfull old piece ≡ over → new ≡ cond over old (record old { log = old.log ++ piece }) → Keeps old new
-  go true is n = subst (Keeps old) (sym n) (keeps_itself old order)
-  go false is n = subst (Keeps old) (sym n) (keeps_log old piece order (ltb-false MAX_REPORTS (length old.log + length piece) is))
+keeps total reporters fit old (event.Report reporter piece) (Ok answer) new meant order step = keeps_report old new piece order (is_overfull old piece) refl step.1
+keeps total reporters fit old (event.Report reporter piece) (Err (Full held)) new meant order step = keeps_report old new piece order (is_overfull old piece) refl step.1
 keeps total reporters fit old (event.Report reporter piece) (Err OutOfMemory) new meant order step = subst (Keeps old) (sym step.1) (keeps_itself old order)
 keeps total reporters fit old (event.Post upto) (Ok answer) new meant order step =
     let n = prefix_to_post old upto in
