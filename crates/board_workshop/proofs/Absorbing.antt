@@ -1,20 +1,18 @@
 -- What waits to be absorbed is fit for the maker.
-use Rattle.std.proofs.Common.{◌≡◌, ℕ, List, [], ◌∷◌, ◌++◌, get_or, subst, sym, ap, ◌∙◌, arith, suc, Some, None, Bor}
+use Rattle.std.proofs.Common.{◌≡◌, ℕ, List, ◌∷◌, ◌++◌, length, drop, get_or, refl, sym, ◌∙◌, ap, subst, Some, None, Bor}
 use Rattle.std.specs.Prelude.{Option, IsSome, IfSome}
 use Rattle.std.specs.Option.{option_copied, option_to_list}
 use Rattle.std.specs.List.{All}
+use Rattle.std.proofs.lemmas.List.{drop_at}
+use Rattle.std.proofs.lemmas.List.Elements.{All-drop}
 use Rattle.bwe_specs.specs.declared.report.Report.{Report}
 use Rattle.demand_book.specs.Fit.{IsFit}
 use Rattle.board_core.specs.Core.{IsAllowed}
 
-back_of : (P : Report → Type 0) (front back : List Report) → All P (front ++ back) → All P back
-back_of P [] back all = all
-back_of P (x ∷ front) back all = back_of P front back (λ k d lt. all (suc k) d (omega arith))
-
 pub fit_waiting : (reporters tasks links plan_tasks plan_links : ℕ) (taken waiting seen : List Report) → seen ≡ taken ++ waiting → All (IsAllowed reporters (IsFit tasks links)) seen
     → plan_tasks ≡ tasks → plan_links ≡ links → All (IsFit plan_tasks plan_links) waiting
 fit_waiting reporters tasks links plan_tasks plan_links taken waiting seen is allowed tasks_so links_so =
-    let all = back_of (IsAllowed reporters (IsFit tasks links)) taken waiting (subst (All (IsAllowed reporters (IsFit tasks links))) is allowed) in
+    let all : All (IsAllowed reporters (IsFit tasks links)) waiting = subst (All (IsAllowed reporters (IsFit tasks links))) (ap (drop (length taken)) is ∙ drop_at taken waiting (length taken) refl) (All-drop (IsAllowed reporters (IsFit tasks links)) (length taken) seen allowed) in
     subst (λ (n : ℕ). All (IsFit n plan_links) waiting) (sym tasks_so) (subst (λ (n : ℕ). All (IsFit tasks n) waiting) (sym links_so) (λ k d lt. (all k d lt).1))
 
 -- what the front shows is the first item
