@@ -3,6 +3,7 @@ use Rattle.std.specs.Prelude.{ℕ, ◌≡◌, ◌≤◌, List}
 use Rattle.logbook.specs.Pages.{Book}
 use Rattle.atomic_table.specs.Seated.{TableId}
 use Rattle.bwe_specs.specs.declared.report.Report.{Report}
+use Rattle.bwe_specs.specs.declared.limits.TheConstants.{MAX_READERS, MAX_REPORTERS}
 use Rattle.board_log.specs.Plan.{NamesTables}
 
 -- the identities of the bases, and for how many readers they are
@@ -22,6 +23,6 @@ pub record IsOpening {T : Type 0} (absorbed_none : Type 0) (table_of : List Repo
   pub tasks_so : plan_tasks ≡ tasks
   pub links_so : plan_links ≡ links
   pub reporters_so : reporters ≡ named_reporters
-  pub few_reporters : reporters ≤ 64
+  pub few_reporters : reporters ≤ MAX_REPORTERS
   pub some_readers : 1 ≤ readers
-  pub few_readers : readers ≤ 64
+  pub few_readers : readers ≤ MAX_READERS

@@ -2,6 +2,7 @@
 use Rattle.std.specs.Prelude.{ℕ, ◌≡◌, ◌≤◌, List, length}
 use Rattle.std.specs.List.{All}
 use Rattle.bwe_specs.specs.declared.report.Report.{Report}
+use Rattle.bwe_specs.specs.declared.limits.TheConstants.{MAX_REPORTS}
 use Rattle.board_log.specs.Roll.{Rolled}
 use Rattle.board_pair.specs.declared.pair.Posting.{Posting}
 use Rattle.board_pair.specs.Desk.{Desk, last_of}
@@ -22,7 +23,7 @@ pub record IsStanding {T : Type 0} (covers : T → ℕ) (reporters tasks links :
     (pending laid : ℕ) : Type 0 where
   pub whole_so : whole ≡ log
   pub rolled : roll ≡ record { log = log; members = reporters }
-  pub room : length log ≤ 200_000
+  pub room : length log ≤ MAX_REPORTS
   pub allowed : All (IsAllowed reporters (IsFit tasks links)) log
   pub last_covers : covers (last_of desk).table ≡ pending
   pub posted_first : covers desk.shown.table ≤ pending

@@ -17,7 +17,7 @@ use crate::steps::LogState;
 use board_log::{Bases, Beginning};
 use board_pair::{Ack, Profile};
 use board_workshop::Workshop;
-use bwe_specs::{OutOfMemory, Report};
+use bwe_specs::{MAX_REPORTS, OutOfMemory, Report};
 use demand_book::Maker;
 use std::alloc::Global;
 use std::sync::{Mutex, Wait};
@@ -64,7 +64,7 @@ impl<M: Maker, N: Profile<M::Table>, B: Bases> Board<M, N, B> {
             first reports.now) }
         ensures exact { OnOk result (pass.new.own ≡ own_of pass.old.number pass.new.seen) }
         // Full is answered just where the log has no room, and the pass has then seen that log.
-        ensures room { OnOk result (length pass.new.seen ≤ 200_000) }
+        ensures room { OnOk result (length pass.new.seen ≤ MAX_REPORTS) }
         ensures refused { IfErr result (IsRefusalAt pass.new.seen (length reports.now)) }
         ensures kept { OnErr result (pass.new.own ≡ pass.old.own) }
     {

@@ -125,7 +125,7 @@ impl<M: Maker, N: Profile<M::Table>, B: Bases> LogState<M, N, B> {
         requires allowed { All (IsAllowed N.reporters (IsFit N.tasks N.links)) reports.now }
         ensures first { IfOk result (λ first. first ≡ length self.old.log) }
         ensures log { OnOk result (self.new.log ≡ self.old.log ++ reports.now) }
-        ensures room { OnOk result (length self.new.log ≤ 200_000) }
+        ensures room { OnOk result (length self.new.log ≤ MAX_REPORTS) }
         ensures unchanged { OnErr result (self.new.log ≡ self.old.log) }
         ensures posted { self.new.posted ≡ self.old.posted }
         ensures pending { self.new.pending ≡ self.old.pending }
@@ -154,7 +154,7 @@ impl<M: Maker, N: Profile<M::Table>, B: Bases> LogState<M, N, B> {
     fn admit(&self, pass: &mut ReporterPass<B>, more: u64) -> Result<(), ReportError>
         ensures ok { OnOk result (pass.new ≡ pass.old) }
         ensures begins { OnOk result (IsPrefix pass.old.seen self.now.log) }
-        ensures room { OnOk result (length self.now.log + more ≤ 200_000) }
+        ensures room { OnOk result (length self.now.log + more ≤ MAX_REPORTS) }
         ensures held { IfErr result (IsRefusalAt self.now.log more) }
         ensures refused { IfErr result (IsRefusalAt pass.new.seen more) }
         ensures number { pass.new.number ≡ pass.old.number }

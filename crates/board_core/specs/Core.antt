@@ -1,6 +1,7 @@
 -- What contracts see of a core, and what each core keeps.
 use Rattle.std.specs.Prelude.{◌≡◌, ℕ, ◌<◌, ◌≤◌, List, take, length, slice_set, All}
 use Rattle.bwe_specs.specs.declared.report.Report.{Report}
+use Rattle.bwe_specs.specs.declared.limits.TheConstants.{MAX_REPORTS}
 use Rattle.board_core.specs.CoreRun.{State}
 
 -- the maker, how many reporters there are, and the state of the run
@@ -23,7 +24,7 @@ pub record IsInOrder (state : State) : Type 0 where
   pub floors : All (λ floor. floor ≤ state.posted) state.floors
   pub posted : state.posted ≤ state.taken
   pub taken : state.taken ≤ length state.log
-  pub room : length state.log ≤ 200_000
+  pub room : length state.log ≤ MAX_REPORTS
 
 -- the maker has taken in the first reports, the table belongs to the posted ones, and each report
 -- is allowed

@@ -1,6 +1,7 @@
 -- The run of a board as one list and a few numbers.
 use Rattle.std.specs.Prelude.{◌≡◌, ℕ, ◌+◌, ◌<◌, ◌≤◌, List, [], ◌++◌, Bool, Ok, Err, Result, length, take, replicate, slice_index, slice_set, min, max, nat_lt, if◌then◌else◌, All}
 use Rattle.bwe_specs.specs.declared.report.Report.{Report}
+use Rattle.bwe_specs.specs.declared.limits.TheConstants.{MAX_REPORTS}
 use Rattle.board_core.specs.declared.event.CoreEvent.{CoreEvent}
 use Rattle.board_core.specs.declared.event.CoreEvent.TheVariants as event
 use Rattle.board_core.specs.declared.event.CoreAnswer.{CoreAnswer}
@@ -20,9 +21,9 @@ pub record State : Type 0 where
 abbrev pub first_state : ℕ → State
 first_state readers = record { log = []; posted = 0; taken = 0; floors = replicate readers 0 }
 
--- whether the log would have more reports with the piece than a log may have, which is 200,000
+-- whether the log would have more reports with the piece than a log may have
 abbrev pub is_overfull : State → List Report → Bool
-is_overfull state piece = nat_lt 200_000 (length state.log + length piece)
+is_overfull state piece = nat_lt MAX_REPORTS (length state.log + length piece)
 
 -- how many reports a post up to a number covers
 abbrev pub prefix_to_post : State → ℕ → ℕ
@@ -57,7 +58,7 @@ state_after state (event.Read reader) =
 -- what wanting memory leaves: the maker may have taken in more for a post; a piece that is too
 -- long, a tell and a read want none
 abbrev pub IsRefused : State → CoreEvent → State → Type 0
-IsRefused old (event.Report reporter piece) new = (length old.log + length piece ≤ 200_000)
+IsRefused old (event.Report reporter piece) new = (length old.log + length piece ≤ MAX_REPORTS)
     × (new ≡ old)
 IsRefused old (event.Post upto) new = (old.taken ≤ new.taken)
     × (new.taken ≤ prefix_to_post old upto) × (new ≡ record old { taken = new.taken })
@@ -83,7 +84,7 @@ IsMeant reporters readers fit (event.Read reader) = reader < readers
 
 -- the log is full for the piece of the event
 abbrev pub IsOverfull : State → CoreEvent → Type 0
-IsOverfull state (event.Report reporter piece) = 200_000 < length state.log + length piece
+IsOverfull state (event.Report reporter piece) = MAX_REPORTS < length state.log + length piece
 IsOverfull state (event.Post upto) = ⊥
 IsOverfull state (event.Tell reader prefix) = ⊥
 IsOverfull state (event.Read reader) = ⊥

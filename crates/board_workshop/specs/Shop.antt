@@ -2,6 +2,7 @@
 use Rattle.std.specs.Prelude.{ℕ, ◌≡◌, ◌≤◌, ◌++◌, List, length}
 use Rattle.std.specs.List.{All}
 use Rattle.bwe_specs.specs.declared.report.Report.{Report}
+use Rattle.bwe_specs.specs.declared.limits.TheConstants.{MAX_REPORTS}
 use Rattle.demand_book.specs.Fit.{IsFit}
 use Rattle.board_core.specs.Core.{IsAllowed}
 use Rattle.board_log.specs.Plan.{NamesTables}
@@ -15,7 +16,7 @@ pub record IsShop {T : Type 0} (absorbed : List Report → Type 0) (table_of : L
   pub taken : List Report
   pub absorbed_so : absorbed taken
   pub seen_so : seen ≡ taken ++ waiting
-  pub room : length seen ≤ 200_000
+  pub room : length seen ≤ MAX_REPORTS
   pub allowed : All (IsAllowed reporters (IsFit tasks links)) seen
   pub names : NamesTables belongs table_of
   pub tasks_so : plan_tasks ≡ tasks
