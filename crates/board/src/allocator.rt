@@ -1,6 +1,6 @@
 //! The allocator's pass.
 
-ghost use Rattle.std.specs.Prelude.{◌≡◌, ◌+◌, ◌-◌, ◌^◌, min};
+ghost use Rattle.std.specs.Prelude.{◌≡◌, ◌+◌, ◌-◌, ◌^◌, ◌<◌, min};
 
 use board_log::Bases;
 use board_pair::Ack;
@@ -41,6 +41,13 @@ impl<B: Bases> AllocatorPass<B> {
         ensures rounds { result ≡ self.now.rounds }
     {
         self.rounds
+    }
+
+    /// Does nothing. Who calls it knows that 64 bits count the rounds.
+    pub fn what_holds(&self)
+        ensures { self.now.rounds < 2 ^ 64 }
+    {
+        let _rounds = self.rounds;
     }
 
     // Counts a round, which saw so much posted.

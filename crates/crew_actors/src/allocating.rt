@@ -22,8 +22,7 @@ pub fn make_rounds<M: Maker, N: Profile<M::Table>, B: Bases, G: Gate, R: Wait>(
     ensures seen { IsPrefix pass.old.posted pass.new.posted }
     ensures rounds { OnOk result (pass.new.rounds ≡ min (pass.old.rounds + rounds) (2 ^ 64 - 1)) }
 {
-    // The count is a number of 64 bits, as the loop has to know.
-    let _made = pass.rounds();
+    pass.what_holds();
     for call in 0..rounds {
         gate.before(Actor::Allocator, call);
         let posted = board.round(rt, alloc, pass);
