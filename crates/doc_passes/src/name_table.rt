@@ -74,9 +74,7 @@ impl<'a> NameTable<'a> {
 fn has_number(names: &IndexSet<&str>, name: &str, number: u32) -> bool
     ensures { IsTrue result → number_in (map name_view names.now.keys) name.now ≡ Ok number }
 {
-    // Who asks for the names learns that they differ.
-    let _names = names.as_slice();
-    match names.get_index(number as usize) {
+    match names.as_slice().get(number as usize) {
         Some(found) => *found == name,
         None => false,
     }
