@@ -13,7 +13,8 @@ use Rattle.bwe_specs.proofs.Bounds.{sum_below-same, sum_below-term}
 use Rattle.bwe_specs.proofs.Certificates.{filling-right, filling-amounts, last_share-le}
 use Rattle.bwe_specs.proofs.Totals.{group_amount-le, total, total-le}
 use Rattle.bwe_specs.proofs.Sums.{sum_by-numbers}
-use Rattle.link_sums.specs.Sums.{AreRowsOf, amount_at, rows_in, total_of}
+use Rattle.bwe_specs.specs.Lists.{lists_of}
+use Rattle.link_sums.specs.Sums.{AreRowsOf, amount_at, total_of}
 use Rattle.mpfa_fill.specs.declared.steps.Filling.{Filling}
 use Rattle.mpfa_fill.specs.Filling.{IsFilling}
 use Rattle.allocator.specs.Lines.{HasRows, line_in, line_of_place}
@@ -73,7 +74,7 @@ amounts-of_lines wan count all =
 
 module _ (wan : Wan) (filled : Filling) (is : IsFilling wan filled) where
   abbrev rows : List (List ℕ)
-  rows = rows_in filled.amounts.items
+  rows = lists_of filled.amounts.items
 
   row-is : (group : ℕ) → group < length wan.groups → slice_index_or rows group [] ≡ map ((filling wan).amounts group) (numbers (path_group_count wan.groups group))
   row-is group lt =

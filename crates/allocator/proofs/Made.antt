@@ -11,7 +11,8 @@ use Rattle.bwe_specs.specs.Tree.{cluster_limits}
 use Rattle.bwe_specs.specs.Values.{AreValues, NeverFalls}
 use Rattle.bwe_specs.specs.Allocation.{GroupLine, group_line, limits_of}
 use Rattle.bwe_specs.proofs.Sums.{sum_by-numbers}
-use Rattle.link_sums.specs.Sums.{AreRowsOf, amount_at, rows_in, total_of}
+use Rattle.bwe_specs.specs.Lists.{lists_of}
+use Rattle.link_sums.specs.Sums.{AreRowsOf, amount_at, total_of}
 use Rattle.limit_table.specs.Tables.{IsTable}
 use Rattle.limit_table.proofs.Followed.{table_parts}
 use Rattle.mpfa_fill.specs.declared.steps.Filling.{Filling}
@@ -40,10 +41,10 @@ module _ (reported : Reported) (groups : List PathGroups) (fitted : IsFitted rep
     pub made-rows : HasRows groups filled
     made-rows = has_rows wan filled is never bound
 
-    pub made-shaped : AreRowsOf groups (rows_in filled.amounts.items)
+    pub made-shaped : AreRowsOf groups (lists_of filled.amounts.items)
     made-shaped = shaped wan filled is
 
-    pub made-total : total_of groups (rows_in filled.amounts.items) ≤ MAX_TOTAL
+    pub made-total : total_of groups (lists_of filled.amounts.items) ≤ MAX_TOTAL
     made-total = subst (λ n. n ≤ MAX_TOTAL) (sym (total-is wan filled is)) (amounts-total wan never bound)
 
     module _ (lines : List GroupLine) (are : lines ≡ map (line_in groups filled) (numbers (length groups))) where
@@ -65,7 +66,7 @@ module _ (reported : Reported) (groups : List PathGroups) (fitted : IsFitted rep
 
       module _ (limits loads : List ℕ) (closings : List Closing)
           (limits-are : limits ≡ flat_map (λ given. cluster_limits reported.tree.top (demand_in reported.tree) given.0 given.1) (zip reported.tree.clusters (map (λ line. line.amount) lines)))
-          (loads-is : loads ≡ map (link_load groups (amount_at (rows_in filled.amounts.items))) (numbers (length reported.network.capacities)))
+          (loads-is : loads ≡ map (link_load groups (amount_at (lists_of filled.amounts.items))) (numbers (length reported.network.capacities)))
           (closings-are : closings ≡ filled.closings.items) where
         made-limits : limits ≡ limits_of (plan_by reported groups) (demand_in reported.tree) wan (filling wan)
         made-limits =
@@ -90,5 +91,5 @@ module _ (reported : Reported) (groups : List PathGroups) (fitted : IsFitted rep
           tasks = omega (arith, ap length made-limits, length-limits_of (plan_by reported groups) (demand_in reported.tree) wan (filling wan), fitted.tasks, tree.few);
           groups = omega (arith, made-count, fitted.clusters, fitted.plan.few_groups);
           links =
-              omega (arith, ap length loads-is, length-map-range_with_len (link_load groups (amount_at (rows_in filled.amounts.items))) 0 (length reported.network.capacities), network.few_links);
+              omega (arith, ap length loads-is, length-map-range_with_len (link_load groups (amount_at (lists_of filled.amounts.items))) 0 (length reported.network.capacities), network.few_links);
         }

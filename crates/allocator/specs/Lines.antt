@@ -6,7 +6,8 @@ use Rattle.bwe_specs.specs.Filling.{closed_by}
 use Rattle.bwe_specs.specs.Reports.{numbers}
 use Rattle.bwe_specs.specs.Allocation.{PlaceLine, GroupLine}
 use Rattle.mpfa_fill.specs.declared.steps.Filling.{Filling}
-use Rattle.mpfa_fill.specs.Rows.{rows_in, AreShaped}
+use Rattle.bwe_specs.specs.Lists.{lists_of}
+use Rattle.mpfa_fill.specs.Rows.{AreShaped}
 
 -- the line of a path group: its amount, and the link of the first of the closings, in their order,
 -- that it uses
@@ -30,7 +31,7 @@ line_of_group groups closings group amounts share = record {
 abbrev pub line_in : List PathGroups → Filling → ℕ → GroupLine
 line_in groups filled group =
     line_of_group groups filled.closings.items group
-    (slice_index_or (rows_in filled.amounts.items) group [])
+    (slice_index_or (lists_of filled.amounts.items) group [])
     (slice_index filled.shares.items group)
 
 -- what a filling keeps of each group can be summed
@@ -38,4 +39,4 @@ pub record HasRows (groups : List PathGroups) (filled : Filling) : Type 0 where
   pub rows : AreShaped groups filled.amounts.items
   pub shares : length filled.shares.items ≡ length groups
   pub sums : (group : ℕ) → group < length groups
-      → sum (slice_index_or (rows_in filled.amounts.items) group []) < 2 ^ 64
+      → sum (slice_index_or (lists_of filled.amounts.items) group []) < 2 ^ 64

@@ -4,7 +4,8 @@ ghost use Rattle.std.specs.Prelude.{◌≡◌, ◌+◌, ◌<◌, ◌≤◌, leng
 ghost use Rattle.bwe_specs.specs.Paths.{path_group_count, link_load};
 ghost use Rattle.bwe_specs.specs.Reports.{numbers};
 ghost use Rattle.path_groups.specs.Plan.{IsBuiltOn};
-ghost use Rattle.link_sums.specs.Sums.{AreRowsOf, amount_at, rows_in, total_of};
+ghost use Rattle.bwe_specs.specs.Lists.{lists_of};
+ghost use Rattle.link_sums.specs.Sums.{AreRowsOf, amount_at, total_of};
 ghost use Rattle.allocator.specs.Loads.{IsPutUpTo};
 
 use bwe_specs::{MAX_TOTAL, OutOfMemory};
@@ -22,10 +23,10 @@ pub fn loads_of(
     amounts: &[Vec<u64>],
 ) -> Result<Vec<u64>, OutOfMemory>
     requires built_on { IsBuiltOn topology.now plan.now }
-    requires rows { AreRowsOf plan.now (rows_in amounts.now) }
-    requires total { total_of plan.now (rows_in amounts.now) ≤ MAX_TOTAL }
+    requires rows { AreRowsOf plan.now (lists_of amounts.now) }
+    requires total { total_of plan.now (lists_of amounts.now) ≤ MAX_TOTAL }
     ensures { IfOk result (λ loads. loads.items
-        ≡ map (link_load plan.now (amount_at (rows_in amounts.now)))
+        ≡ map (link_load plan.now (amount_at (lists_of amounts.now)))
         (numbers (length topology.now.capacities))) }
 {
     let mut sums = LinkSums::open(alloc, topology, plan)?;
@@ -37,12 +38,12 @@ pub fn loads_of(
 
 // Puts the amounts of one group on its path groups.
 fn put_group(sums: &mut LinkSums, plan: &PathPlan, amounts: &[Vec<u64>], group: u32)
-    requires rows { AreRowsOf plan.now (rows_in amounts.now) }
-    requires total { total_of plan.now (rows_in amounts.now) ≤ MAX_TOTAL }
+    requires rows { AreRowsOf plan.now (lists_of amounts.now) }
+    requires total { total_of plan.now (lists_of amounts.now) ≤ MAX_TOTAL }
     requires group { group < length plan.now }
-    requires before { IsPutUpTo plan.now (rows_in amounts.now) (length sums.old.loads) group 0
+    requires before { IsPutUpTo plan.now (lists_of amounts.now) (length sums.old.loads) group 0
         sums.old }
-    ensures { IsPutUpTo plan.now (rows_in amounts.now) (length sums.old.loads) (group + 1) 0
+    ensures { IsPutUpTo plan.now (lists_of amounts.now) (length sums.old.loads) (group + 1) 0
         sums.new }
 {
     let row = &amounts[group as usize];

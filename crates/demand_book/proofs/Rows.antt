@@ -3,18 +3,19 @@ use Rattle.std.proofs.Common.{◌≡◌, ℕ, ◌<◌, List, [], Vec, Global, le
 use Rattle.std.specs.Result.{OnErr}
 use Rattle.std.proofs.lemmas.List.{get_or-map, map-set, set-get_or}
 use Rattle.demand_book.specs.declared.told.Told.{Told}
-use Rattle.demand_book.specs.Book.{rows_of, row_at}
+use Rattle.bwe_specs.specs.Lists.{lists_of}
+use Rattle.demand_book.specs.Book.{row_at}
 
 -- what is read at a number is its row
-pub row_at-read : (rows : List (Vec Told Global)) (number : ℕ) (row : Vec Told Global) → number < length rows → row ≡ get_or rows number row → row_at (rows_of rows) number ≡ row.items
+pub row_at-read : (rows : List (Vec Told Global)) (number : ℕ) (row : Vec Told Global) → number < length rows → row ≡ get_or rows number row → row_at (lists_of rows) number ≡ row.items
 row_at-read rows number row inside read = get_or-map (λ (row : Vec Told Global). row.items) rows number row [] inside ∙ sym (ap (λ (row : Vec Told Global). row.items) read)
 
 -- a row that was written as it stood leaves the rows
-pub rows_of-same : (rows : List (Vec Told Global)) (number : ℕ) (row : Vec Told Global) → row.items ≡ row_at (rows_of rows) number → rows_of (set rows number row) ≡ rows_of rows
+pub rows_of-same : (rows : List (Vec Told Global)) (number : ℕ) (row : Vec Told Global) → row.items ≡ row_at (lists_of rows) number → lists_of (set rows number row) ≡ lists_of rows
 rows_of-same rows number row same =
     map-set (λ (row : Vec Told Global). row.items) rows number row
-    ∙ ap (λ (entries : List Told). set (rows_of rows) number entries) same
-    ∙ set-get_or (rows_of rows) number []
+    ∙ ap (λ (entries : List Told). set (lists_of rows) number entries) same
+    ∙ set-get_or (lists_of rows) number []
 
 pub on_err : {T E P : Type 0} (r : Result T E) → P → OnErr r P
 on_err (Ok x) p = tt

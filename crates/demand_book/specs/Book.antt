@@ -26,10 +26,7 @@ abbrev pub IsRefusal : ℕ → BookError → Type 0
 IsRefusal held (Full reports) = (reports ≡ held) × (held ≡ MAX_REPORTS)
 IsRefusal held OutOfMemory = held < MAX_REPORTS
 
--- a row for each task or link: what it was told
-abbrev pub rows_of : List (Vec Told Global) → List (List Told)
-rows_of rows = map (λ row. row.items) rows
-
+-- what a task or link was told, of a row for each
 abbrev pub row_at : List (List Told) → ℕ → List Told
 row_at rows number = slice_index_or rows number []
 

@@ -3,7 +3,8 @@ ghost use Rattle.std.specs.Prelude.{ℕ, ◌≡◌, ◌<◌, ◌≤◌, ◌++◌
 ghost use Rattle.bwe_specs.specs.Reports.{demand_after, capacity_after};
 ghost use Rattle.demand_book.specs.declared.book.BookError.TheVariants.{OutOfMemory};
 ghost use Rattle.demand_book.specs.Fit.{IsFit, IsInRange};
-ghost use Rattle.demand_book.specs.Book.{Book, IsRefusal, with_report, rows_of, row_at, task_rows_after, link_rows_after};
+ghost use Rattle.bwe_specs.specs.Lists.{lists_of};
+ghost use Rattle.demand_book.specs.Book.{Book, IsRefusal, with_report, row_at, task_rows_after, link_rows_after};
 
 use crate::told::{Told, last_before};
 use bwe_specs::{MAX_REPORTS, OutOfMemory, Report, Target};
@@ -40,7 +41,8 @@ pub struct DemandBook {
 
 impl Model for DemandBook {
     ghost use Rattle.std.specs.Prelude.{length};
-    ghost use Rattle.demand_book.specs.Book.{Book, AreKept, rows_of};
+    ghost use Rattle.bwe_specs.specs.Lists.{lists_of};
+    ghost use Rattle.demand_book.specs.Book.{Book, AreKept};
 
     ghost Value = { Book };
 
@@ -57,7 +59,7 @@ impl Model for DemandBook {
           capacities = book.capacities.items;
           reports = book.reports.items;
         })
-        (rows_of book.task_rows.items) (rows_of book.link_rows.items) };
+        (lists_of book.task_rows.items) (lists_of book.link_rows.items) };
 }
 
 impl DemandBook {
@@ -150,7 +152,7 @@ impl DemandBook {
 // So many empty rows.
 fn empty_rows(alloc: Global, count: usize) -> Result<Vec<Vec<Told>>, OutOfMemory>
     ensures count { IfOk result (λ rows. length rows.items ≡ count) }
-    ensures empty { IfOk result (λ rows. (number : ℕ) → row_at (rows_of rows.items) number ≡ []) }
+    ensures empty { IfOk result (λ rows. (number : ℕ) → row_at (lists_of rows.items) number ≡ []) }
 {
     let mut rows = Vec::with_capacity(alloc, count)?;
     for _ in 0..count {
@@ -168,13 +170,13 @@ fn tell(
 ) -> Result<(), AllocError>
     requires target { IsInRange (length task_rows.old.items) (length link_rows.old.items) target }
     ensures tasks { OnOk result
-        (rows_of task_rows.new.items ≡ task_rows_after target entry (rows_of task_rows.old.items)) }
+        (lists_of task_rows.new.items ≡ task_rows_after target entry (lists_of task_rows.old.items)) }
     ensures links { OnOk result
-        (rows_of link_rows.new.items ≡ link_rows_after target entry (rows_of link_rows.old.items)) }
+        (lists_of link_rows.new.items ≡ link_rows_after target entry (lists_of link_rows.old.items)) }
     ensures refused_tasks { OnErr result
-        (rows_of task_rows.new.items ≡ rows_of task_rows.old.items) }
+        (lists_of task_rows.new.items ≡ lists_of task_rows.old.items) }
     ensures refused_links { OnErr result
-        (rows_of link_rows.new.items ≡ rows_of link_rows.old.items) }
+        (lists_of link_rows.new.items ≡ lists_of link_rows.old.items) }
 {
     match target {
         Target::Task { number } => write(task_rows, number, entry),
@@ -185,10 +187,10 @@ fn tell(
 // Writes an entry to the end of a row.
 fn write(rows: &mut Vec<Vec<Told>>, number: u32, entry: Told) -> Result<(), AllocError>
     requires row { number < length rows.old.items }
-    ensures ok { OnOk result (rows_of rows.new.items
-        ≡ slice_set (rows_of rows.old.items) number
-        (row_at (rows_of rows.old.items) number ++ entry ∷ [])) }
-    ensures refused { OnErr result (rows_of rows.new.items ≡ rows_of rows.old.items) }
+    ensures ok { OnOk result (lists_of rows.new.items
+        ≡ slice_set (lists_of rows.old.items) number
+        (row_at (lists_of rows.old.items) number ++ entry ∷ [])) }
+    ensures refused { OnErr result (lists_of rows.new.items ≡ lists_of rows.old.items) }
 {
     let row = &mut rows[number as usize];
     row.push(entry)?;

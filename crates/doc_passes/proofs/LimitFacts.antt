@@ -4,16 +4,13 @@ use Rattle.std.specs.Prelude.{nat_lt}
 use Rattle.std.specs.Option.{option_or}
 use Rattle.std.proofs.lemmas.Bool.{ltb-false}
 use Rattle.raw_document.specs.Raw.{Raw}
+use Rattle.bwe_specs.proofs.Lists.{neither}
 use Rattle.bwe_specs.specs.declared.limits.TheConstants.{MAX_GROUPS, MAX_REPORTERS, MAX_REPORTS}
 use Rattle.doc_passes.specs.declared.limit.What.{What}
 use Rattle.doc_passes.specs.declared.limit.What.TheVariants as counts
 use Rattle.doc_passes.specs.declared.limit.Overrun.{Overrun}
 use Rattle.doc_passes.specs.Limits.{first_some, overrun_of, group_overrun, hops, lists_overrun, overrun}
 use Rattle.doc_passes.specs.Passed.{AreFew}
-
-neither : {A : Type 0} (one two : Option A) → option_or one two ≡ None → (one ≡ None) × (two ≡ None)
-neither None two e = (refl, e)
-neither (Some x) two e = absurd cc
 
 within : (what : What) (limit count : ℕ) → overrun_of what limit count ≡ None → count ≤ limit
 within what limit count e = go (nat_lt limit count) refl e where

@@ -45,9 +45,6 @@ pub record World (T : Type 0) : Type 0 where
   pub downs : List Down
   pub ups : List Up
 
-abbrev pub rows_of : List (Vec ℕ Global) → List (List ℕ)
-rows_of rows = map (λ row. row.items) rows
-
 -- a table is posted, and nothing else has happened
 abbrev pub first_world : {T : Type 0} → List (List ℕ) → T → World T
 first_world tasks first = record {

@@ -2,7 +2,8 @@
 
 ghost use Rattle.std.specs.Prelude.{◌≡◌, ◌<◌, ◌^◌, IfOk, OnErr, OnOk, None, length, replicate};
 ghost use Rattle.std.specs.List.{All};
-ghost use Rattle.enforcer_core.specs.World.{IsMeant, acked_at, answer_to, first_world, limit_in_force, prefix_in_force, region_at, rows_of, settled_of, tasks_at, world_after};
+ghost use Rattle.bwe_specs.specs.Lists.{lists_of};
+ghost use Rattle.enforcer_core.specs.World.{IsMeant, acked_at, answer_to, first_world, limit_in_force, prefix_in_force, region_at, settled_of, tasks_at, world_after};
 
 use crate::centre::Centre;
 use crate::event::{WorldAnswer, WorldEvent};
@@ -58,12 +59,13 @@ pub struct World<T: Posted> {
 
 impl<T: Posted> Model for World<T> {
     ghost use Rattle.std.specs.Prelude.{map};
-    ghost use Rattle.enforcer_core.specs.World.{IsWhole, World as WorldView, rows_of};
+    ghost use Rattle.bwe_specs.specs.Lists.{lists_of};
+    ghost use Rattle.enforcer_core.specs.World.{IsWhole, World as WorldView};
 
     ghost Value = { WorldView T };
 
     ghost view = { λ world. record {
-      tasks = rows_of world.tasks.items;
+      tasks = lists_of world.tasks.items;
       posted = world.centre.posted;
       acked = world.centre.acked;
       regions = world.regions.items;
@@ -72,7 +74,7 @@ impl<T: Posted> Model for World<T> {
     } };
 
     ghost invariant = { λ world. IsWhole (T.tasks_of (T.frame world.centre.posted)) (record {
-      tasks = rows_of world.tasks.items;
+      tasks = lists_of world.tasks.items;
       posted = world.centre.posted;
       acked = world.centre.acked;
       regions = world.regions.items;
@@ -87,9 +89,9 @@ impl<T: Posted> World<T> {
     /// There is a region for each list of tasks, with these tasks in this order.
     pub fn new(alloc: Global, regions: Vec<Vec<u32>>, first: T) -> Result<World<T>, OutOfMemory>
         requires tasks { All (λ tasks. All (λ task. task < T.tasks_of (T.frame first)) tasks)
-            (rows_of regions.items) }
+            (lists_of regions.items) }
         requires first { T.covers first ≡ 0 }
-        ensures { IfOk result (λ world. world ≡ first_world (rows_of regions.items) first) }
+        ensures { IfOk result (λ world. world ≡ first_world (lists_of regions.items) first) }
     {
         let count = regions.len();
         let centre = Centre::new(alloc, count, first)?;

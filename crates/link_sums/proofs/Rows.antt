@@ -6,46 +6,47 @@ use Rattle.std.proofs.lemmas.Grind.{get_or_default_zero}
 use Rattle.std.specs.Vec.{with_item}
 use Rattle.bwe_specs.specs.Paths.{PathGroups, path_group_count}
 use Rattle.path_groups.proofs.Lists.{length_map, get_map}
-use Rattle.link_sums.specs.Sums.{rows_in, amount_at, AreRowsOf}
+use Rattle.bwe_specs.specs.Lists.{lists_of}
+use Rattle.link_sums.specs.Sums.{amount_at, AreRowsOf}
 
 -- a row, as the code reads it
-pub row_is : (rows : List (Vec ℕ Global)) (g : ℕ) (row : Vec ℕ Global) → g < length rows → row ≡ slice_index_or rows g row → slice_index_or (rows_in rows) g [] ≡ row.items
+pub row_is : (rows : List (Vec ℕ Global)) (g : ℕ) (row : Vec ℕ Global) → g < length rows → row ≡ slice_index_or rows g row → slice_index_or (lists_of rows) g [] ≡ row.items
 row_is rows g row lt e = get_map (λ r. r.items) rows g row [] lt ∙ ap (λ r. r.items) (sym e)
 
 -- a further row leaves the earlier ones
-pub row-before : (xs : List (Vec ℕ Global)) (r : Vec ℕ Global) (k : ℕ) → k < length xs → slice_index_or (rows_in (xs ++ r ∷ [])) k [] ≡ slice_index_or (rows_in xs) k []
+pub row-before : (xs : List (Vec ℕ Global)) (r : Vec ℕ Global) (k : ℕ) → k < length xs → slice_index_or (lists_of (xs ++ r ∷ [])) k [] ≡ slice_index_or (lists_of xs) k []
 row-before [] r k lt = absurd (omega arith)
 row-before (x ∷ xs) r zero lt = refl
 row-before (x ∷ xs) r (suc k) lt = row-before xs r k (omega arith)
 
-pub row-last : (xs : List (Vec ℕ Global)) (r : Vec ℕ Global) → slice_index_or (rows_in (xs ++ r ∷ [])) (length xs) [] ≡ r.items
+pub row-last : (xs : List (Vec ℕ Global)) (r : Vec ℕ Global) → slice_index_or (lists_of (xs ++ r ∷ [])) (length xs) [] ≡ r.items
 row-last [] r = refl
 row-last (x ∷ xs) r = row-last xs r
 
 -- one more row, each of whose amounts is as it has to be
 pub more_rows : (groups : List PathGroups) (target : ℕ → ℕ → ℕ) (xs rows : List (Vec ℕ Global)) (r : Vec ℕ Global) (n : ℕ)
     → rows ≡ xs ++ r ∷ [] → length xs ≡ n
-    → ((k : ℕ) → k < n → length (slice_index_or (rows_in xs) k []) ≡ path_group_count groups k)
-    → ((k p : ℕ) → k < n → p < path_group_count groups k → amount_at (rows_in xs) k p ≡ target k p)
+    → ((k : ℕ) → k < n → length (slice_index_or (lists_of xs) k []) ≡ path_group_count groups k)
+    → ((k p : ℕ) → k < n → p < path_group_count groups k → amount_at (lists_of xs) k p ≡ target k p)
     → length r.items ≡ path_group_count groups n
     → ((p : ℕ) → p < path_group_count groups n → slice_index r.items p ≡ target n p)
     → record {
       length_is : length rows ≡ n + 1;
-      each_place : (k : ℕ) → k < n + 1 → length (slice_index_or (rows_in rows) k []) ≡ path_group_count groups k;
-      each : (k p : ℕ) → k < n + 1 → p < path_group_count groups k → amount_at (rows_in rows) k p ≡ target k p;
+      each_place : (k : ℕ) → k < n + 1 → length (slice_index_or (lists_of rows) k []) ≡ path_group_count groups k;
+      each : (k p : ℕ) → k < n + 1 → p < path_group_count groups k → amount_at (lists_of rows) k p ≡ target k p;
     }
 more_rows groups target xs rows r n is count places each long right =
-    let before : (k : ℕ) → k < n → slice_index_or (rows_in rows) k [] ≡ slice_index_or (rows_in xs) k [] =
-    λ k below. ap (λ ys. slice_index_or (rows_in ys) k []) is ∙ row-before xs r k (omega (arith, count)) in
-    let last : slice_index_or (rows_in rows) n [] ≡ r.items =
-    ap (λ k. slice_index_or (rows_in rows) k []) (sym count) ∙ ap (λ ys. slice_index_or (rows_in ys) (length xs) []) is ∙ row-last xs r in
-    let all : (k : ℕ) → k < n + 1 → (p : ℕ) → p < path_group_count groups k → amount_at (rows_in rows) k p ≡ target k p =
-    below_more (λ k. (p : ℕ) → p < path_group_count groups k → amount_at (rows_in rows) k p ≡ target k p) n
+    let before : (k : ℕ) → k < n → slice_index_or (lists_of rows) k [] ≡ slice_index_or (lists_of xs) k [] =
+    λ k below. ap (λ ys. slice_index_or (lists_of ys) k []) is ∙ row-before xs r k (omega (arith, count)) in
+    let last : slice_index_or (lists_of rows) n [] ≡ r.items =
+    ap (λ k. slice_index_or (lists_of rows) k []) (sym count) ∙ ap (λ ys. slice_index_or (lists_of ys) (length xs) []) is ∙ row-last xs r in
+    let all : (k : ℕ) → k < n + 1 → (p : ℕ) → p < path_group_count groups k → amount_at (lists_of rows) k p ≡ target k p =
+    below_more (λ k. (p : ℕ) → p < path_group_count groups k → amount_at (lists_of rows) k p ≡ target k p) n
     (λ k below p within. ap (λ row. slice_index row p) (before k below) ∙ each k p below within)
     (λ p within. ap (λ row. slice_index row p) last ∙ right p within) in
     record {
       length_is = ap length is ∙ length-append xs (r ∷ []) ∙ ap (λ k. k + 1) count;
-      each_place = below_more (λ k. length (slice_index_or (rows_in rows) k []) ≡ path_group_count groups k) n
+      each_place = below_more (λ k. length (slice_index_or (lists_of rows) k []) ≡ path_group_count groups k) n
           (λ k below. ap length (before k below) ∙ places k below) (ap length last ∙ long);
       each = λ k p below within. all k below p within;
     }
@@ -81,7 +82,7 @@ module _ (rows : List (List ℕ)) (row : List ℕ) (group place value : ℕ) (is
 
 -- the same of the code's rows, where it has changed the amount in a row that it read
 module _ (groups : List PathGroups) (items : List (Vec ℕ Global)) (row : Vec ℕ Global) (group place before value : ℕ)
-    (rows : List (List ℕ)) (view : rows_in items ≡ rows) (are : AreRowsOf groups rows) (in_groups : group < length groups) (in_group : place < path_group_count groups group)
+    (rows : List (List ℕ)) (view : lists_of items ≡ rows) (are : AreRowsOf groups rows) (in_groups : group < length groups) (in_group : place < path_group_count groups group)
     (read : row ≡ get_or items group row) (found : before ≡ get_or row.items place before) where
   in_items : group < length items
   in_items = omega (arith, in_groups, are.each_group, length_map (λ (r : Vec ℕ Global). r.items) items, ap length view)
@@ -95,18 +96,18 @@ module _ (groups : List PathGroups) (items : List (Vec ℕ Global)) (row : Vec �
   pub amount-before : before ≡ amount_at rows group place
   amount-before = found ∙ get_or_default_zero row.items place before in_row' ∙ ap (λ r. get_or r place 0) (sym row-here)
 
-  after : rows_in (set items group (with_item row place value)) ≡ set rows group (set row.items place value)
+  after : lists_of (set items group (with_item row place value)) ≡ set rows group (set row.items place value)
   after = map-set (λ (r : Vec ℕ Global). r.items) items group (with_item row place value) ∙ ap (λ ys. set ys group (set row.items place value)) view
 
   in_rows' : group < length rows
   in_rows' = omega (arith, in_groups, are.each_group)
 
-  pub amount-after : amount_at (rows_in (set items group (with_item row place value))) group place ≡ value
+  pub amount-after : amount_at (lists_of (set items group (with_item row place value))) group place ≡ value
   amount-after = ap (λ ys. amount_at ys group place) after ∙ there rows row.items group place value row-here in_rows' in_row'
 
-  pub amount-others : (group' place' : ℕ) → (group' ≡ group → place' ≡ place → ⊥) → amount_at (rows_in (set items group (with_item row place value))) group' place' ≡ amount_at rows group' place'
+  pub amount-others : (group' place' : ℕ) → (group' ≡ group → place' ≡ place → ⊥) → amount_at (lists_of (set items group (with_item row place value))) group' place' ≡ amount_at rows group' place'
   amount-others group' place' other =
       ap (λ ys. amount_at ys group' place') after ∙ elsewhere rows row.items group place value row-here in_rows' in_row' group' place' other
 
-  pub rows-after : AreRowsOf groups (rows_in (set items group (with_item row place value)))
+  pub rows-after : AreRowsOf groups (lists_of (set items group (with_item row place value)))
   rows-after = subst (AreRowsOf groups) (sym after) (shaped rows row.items group place value row-here in_rows' in_row' groups are)

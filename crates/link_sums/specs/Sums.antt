@@ -6,9 +6,6 @@ use Rattle.bwe_specs.specs.Bounded.{sum_below}
 use Rattle.path_groups.specs.Plan.{IsPlan}
 use Rattle.bwe_specs.specs.Paths.{PathGroups, path_group_at, path_group_count, uses, link_load}
 
-abbrev pub rows_in : List (Vec ℕ Global) → List (List ℕ)
-rows_in rows = map (λ row. row.items) rows
-
 -- the amount of a group at a place, of all rows; 0 where there is none
 abbrev pub amount_at : List (List ℕ) → ℕ → ℕ → ℕ
 amount_at rows group place = slice_index (slice_index_or rows group []) place

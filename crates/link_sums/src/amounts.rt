@@ -18,11 +18,11 @@ pub(crate) struct Amounts {
 
 impl Model for Amounts {
     ghost use Rattle.std.specs.Prelude.{List, ℕ};
-    ghost use Rattle.link_sums.specs.Sums.{rows_in};
+    ghost use Rattle.bwe_specs.specs.Lists.{lists_of};
 
     ghost Value = { List (List ℕ) };
 
-    ghost view = { λ amounts. rows_in amounts.rows.items };
+    ghost view = { λ amounts. lists_of amounts.rows.items };
 }
 
 impl Amounts {

@@ -3,14 +3,14 @@ use Rattle.std.specs.Prelude.{◌≡◌, length, map, reverse}
 use Rattle.bwe_specs.specs.Reports.{numbers}
 use Rattle.bwe_specs.specs.Paths.{path_group_count}
 use Rattle.bwe_specs.specs.Filling.{Wan, filling, group_stop}
-use Rattle.link_sums.specs.Sums.{rows_in}
+use Rattle.bwe_specs.specs.Lists.{lists_of}
 use Rattle.mpfa_fill.specs.declared.steps.Filling.{Filling}
 
 -- the closings in their order, the amounts by group and place, and the stop shares are those of the
 -- filling
 pub record IsFilling (wan : Wan) (filled : Filling) : Type 0 where
   pub closings : filled.closings.items ≡ reverse (filling wan).closings
-  pub amounts : rows_in filled.amounts.items
+  pub amounts : lists_of filled.amounts.items
       ≡ map (λ group. map ((filling wan).amounts group)
       (numbers (path_group_count wan.groups group))) (numbers (length wan.groups))
   pub shares : filled.shares.items

@@ -6,7 +6,8 @@ ghost use Rattle.bwe_specs.specs.Paths.{path_group_count, lowest_over, is_over a
 ghost use Rattle.bwe_specs.specs.Filling.{closed_links};
 ghost use Rattle.bwe_specs.specs.RightClosings.{last_share, amounts_at, over_at};
 ghost use Rattle.path_groups.specs.Plan.{IsBuiltOn};
-ghost use Rattle.link_sums.specs.Sums.{amount_at, IsSummedOver, total_of, rows_in};
+ghost use Rattle.bwe_specs.specs.Lists.{lists_of};
+ghost use Rattle.link_sums.specs.Sums.{amount_at, IsSummedOver, total_of};
 ghost use Rattle.mpfa_fill.specs.GroupValues.{Values, AreGroupValues, wan_of};
 ghost use Rattle.mpfa_fill.specs.Standing.{IsPlaced, standing_under};
 ghost use Rattle.mpfa_fill.specs.LastFit.{is_over_at, GrowsNotOver};
@@ -312,7 +313,7 @@ fn change(sums: &mut LinkSums, plan: &PathPlan, group: u32, place: u32, from: u6
 // The amounts in rows.
 fn amounts_of(alloc: Global, plan: &PathPlan, sums: &LinkSums) -> Result<Vec<Vec<u64>>, OutOfMemory>
     requires { IsSummedOver plan.now sums.now }
-    ensures { IfOk result (λ rows. rows_in rows.items
+    ensures { IfOk result (λ rows. lists_of rows.items
         ≡ map (λ group. map (amount_at sums.now.amounts group)
         (numbers (path_group_count plan.now group))) (numbers (length plan.now))) }
 {

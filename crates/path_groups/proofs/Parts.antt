@@ -9,6 +9,7 @@ use Rattle.std.proofs.lemmas.List.Folds.{list_any-append}
 use Rattle.std.proofs.lemmas.List.Sums.{sum_by-cons, sum_by-le-sum_by}
 use Rattle.std.proofs.lemmas.Map.Keys.{IsDistinct-push}
 use Rattle.bwe_specs.specs.Paths.{PathGroup, goes_over, uses, weight_of, weight_over, load_on}
+use Rattle.bwe_specs.proofs.Lists.{sum_by-map}
 use Rattle.bwe_specs.proofs.Loads.{weight_over-le, load_on-unused}
 use Rattle.std.specs.Int.{div_ceil}
 use Rattle.path_groups.specs.declared.given.PathSpec.{PathSpec}
@@ -18,17 +19,13 @@ use Rattle.path_groups.specs.Parts.{IsPart, IsPartOf, has_part, AreSomeParts, Ar
 
 -- ---- the weights, over the paths as the code has them
 
-sum_map : {A B : Type 0} (weight : B → ℕ) (f : A → B) (xs : List A) → sum_by weight (map f xs) ≡ sum_by (λ x. weight (f x)) xs
-sum_map weight f [] = refl
-sum_map weight f (x ∷ xs) = sum_by-cons weight (f x) (map f xs) ∙ ap (λ n. weight (f x) + n) (sum_map weight f xs) ∙ sym (sum_by-cons (λ y. weight (f y)) x xs)
-
 pub weight_of-read : (paths : List PathSpec) → weight_of (map path_of paths) ≡ sum_by (λ path. path.weight) paths
 unfolding weight_of
-weight_of-read paths = sum_map (λ path. path.weight) path_of paths
+weight_of-read paths = sum_by-map (λ path. path.weight) path_of paths
 
 pub weight_over-read : (paths : List PathSpec) (link : ℕ) → weight_over (map path_of paths) link ≡ sum_by (weight_on link) paths
 unfolding weight_over
-weight_over-read paths link = sum_map (λ path. if goes_over link path then path.weight else 0) path_of paths
+weight_over-read paths link = sum_by-map (λ path. if goes_over link path then path.weight else 0) path_of paths
 
 weight_on-le : (link : ℕ) (spec : PathSpec) → weight_on link spec ≤ spec.weight
 weight_on-le link spec = go (goes_over link (path_of spec)) where

@@ -4,6 +4,7 @@ use Rattle.std.specs.Prelude.{All}
 use Rattle.std.specs.Option.{option_or}
 use Rattle.std.proofs.lemmas.Bool.{cases_lt}
 use Rattle.std.proofs.lemmas.List.Sums.{sum_by-cons}
+use Rattle.bwe_specs.proofs.Lists.{neither}
 use Rattle.bwe_specs.specs.Paths.{Path, PathGroup, weight_of}
 use Rattle.wan_topology.specs.Network.{Network}
 use Rattle.path_groups.specs.declared.fault.PathFault.{PathFault}
@@ -29,16 +30,12 @@ pub record IsSoundGroup (network : Network) (group : Group) : Type 0 where
   pub few_places : length group.path_groups ≤ 16
   pub each_place : All (IsSoundPathGroup network group) group.path_groups
 
-or-none : {A : Type 0} (first later : Option A) → option_or first later ≡ None → (first ≡ None) × (later ≡ None)
-or-none None later e = (refl, e)
-or-none (Some fault) later e = absurd (cc)
-
 -- where there is no first fault, no item has a fault
 first_fault-none : {A : Type 0} (fault : ℕ → A → Option PathFault) (n : ℕ) (items : List A) → first_fault fault n items ≡ None → (k : ℕ) (d : A) → k < length items → (number : ℕ) × (fault number (get_or items k d) ≡ None)
 unfolding first_fault
 first_fault-none fault n [] none k d lt = absurd (omega arith)
-first_fault-none fault n (item ∷ later) none zero d lt = (n, (or-none (fault n item) (first_fault fault (suc n) later) none).0)
-first_fault-none fault n (item ∷ later) none (suc k) d lt = first_fault-none fault (suc n) later (or-none (fault n item) (first_fault fault (suc n) later) none).1 k d (omega arith)
+first_fault-none fault n (item ∷ later) none zero d lt = (n, (neither (fault n item) (first_fault fault (suc n) later) none).0)
+first_fault-none fault n (item ∷ later) none (suc k) d lt = first_fault-none fault (suc n) later (neither (fault n item) (first_fault fault (suc n) later) none).1 k d (omega arith)
 
 contradicts : {A B : Type 0} {o : Option A} {x : A} → o ≡ Some x → o ≡ None → B
 contradicts some none = absurd (cc)

@@ -5,7 +5,7 @@ use Rattle.std.proofs.lemmas.List.FromFn.{length-range_with_len}
 use Rattle.std.proofs.lemmas.List.{get_or-map, length-map, length-set, take-map}
 use Rattle.std.proofs.lemmas.List.Sums.{sum_by-cons}
 use Rattle.std.proofs.lemmas.List.Elements.{All-head, All-tail, All-append, All-nil, All-map, All-set, All-get_or, All-weaker}
-use Rattle.bwe_specs.specs.declared.limits.TheConstants.{MAX_AMOUNT}
+use Rattle.bwe_specs.specs.declared.limits.TheConstants.{MAX_AMOUNT, MAX_TOTAL}
 use Rattle.bwe_specs.specs.Bounded.{sum_below}
 use Rattle.bwe_specs.specs.FunctionValue.{IsFunction}
 use Rattle.bwe_specs.specs.Values.{AreValues, IsShareFunction}
@@ -167,13 +167,13 @@ values-are top clusters homes firsts lists kept =
     sum_below-same (length clusters) (λ group. value_in tree group top) (λ group. cluster_meaning (cluster_at clusters group) top) (λ group lt. value-agrees top clusters kept.tops group top lt)
     ∙ sum_below-list (λ cluster. cluster_meaning cluster top) clusters _
     ∙ sym (nodes-sum cluster_meaning clusters top) in
-    let few : sum_below (length clusters) (λ group. value_in tree group top) ≤ 20_000_000_000_000_000 =
+    let few : sum_below (length clusters) (λ group. value_in tree group top) ≤ MAX_TOTAL =
     omega (arith, all, nodes-most cluster_meaning cluster_tasks IsClusterState cluster-most clusters kept.are top, kept.few) in
     record {
       top_small = kept.high;
       starts = λ group. (share_function group).starts;
       never_falls = λ group share lt. (share_function group).next share lt;
-      together = subst (λ n. sum_below n (λ group. value_in tree group top) ≤ 20_000_000_000_000_000) (sym size) few;
+      together = subst (λ n. sum_below n (λ group. value_in tree group top) ≤ MAX_TOTAL) (sym size) few;
     }
 
 -- another demand of one task

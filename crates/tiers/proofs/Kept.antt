@@ -8,7 +8,8 @@ use Rattle.bwe_specs.specs.Paths.{link_load}
 use Rattle.bwe_specs.specs.Filling.{Wan, filling}
 use Rattle.bwe_specs.specs.Reports.{numbers}
 use Rattle.bwe_specs.specs.Values.{NeverFalls}
-use Rattle.link_sums.specs.Sums.{AreRowsOf, amount_at, rows_in, total_of}
+use Rattle.bwe_specs.specs.Lists.{lists_of}
+use Rattle.link_sums.specs.Sums.{AreRowsOf, amount_at, total_of}
 use Rattle.mpfa_fill.specs.declared.steps.Filling.{Filling}
 use Rattle.mpfa_fill.specs.Filling.{IsFilling}
 use Rattle.allocator.proofs.Filled.{map-numbers, shaped, total-is, loads-are, amounts-total}
@@ -37,17 +38,17 @@ module _ (wan : Wan) (tiers : List ℕ) (never : NeverFalls wan) (bound : sum_be
     abbrev free : List ℕ
     free = free_under wan.groups wan.capacities (amounts_below wan tiers tier)
 
-    pub next-shaped : AreRowsOf wan.groups (rows_in filled.amounts.items)
+    pub next-shaped : AreRowsOf wan.groups (lists_of filled.amounts.items)
     next-shaped = shaped (wan_of_tier wan tiers tier) filled is
 
-    pub next-total : total_of wan.groups (rows_in filled.amounts.items) ≤ MAX_TOTAL
+    pub next-total : total_of wan.groups (lists_of filled.amounts.items) ≤ MAX_TOTAL
     next-total =
         subst (λ n. n ≤ MAX_TOTAL) (sym (total-is (wan_of_tier wan tiers tier) filled is))
         (amounts-total (wan_of_tier wan tiers tier) (tier-never wan tiers never tier (amounts_below wan tiers tier)) (tier-bound wan tiers never bound tier))
 
-    module _ (loads : List ℕ) (loads-is : loads ≡ map (link_load wan.groups (amount_at (rows_in filled.amounts.items))) (numbers (length free))) where
+    module _ (loads : List ℕ) (loads-is : loads ≡ map (link_load wan.groups (amount_at (lists_of filled.amounts.items))) (numbers (length free))) where
       pub next-links : length loads ≡ length free
-      next-links = ap length loads-is ∙ length-map-range_with_len (link_load wan.groups (amount_at (rows_in filled.amounts.items))) 0 (length free)
+      next-links = ap length loads-is ∙ length-map-range_with_len (link_load wan.groups (amount_at (lists_of filled.amounts.items))) 0 (length free)
 
       pub next-load : (link : ℕ) → link < length wan.capacities → slice_index loads link ≡ link_load wan.groups (filling_of_tier wan tiers tier).amounts link
       unfolding filling_of_tier

@@ -6,7 +6,8 @@ use Rattle.bwe_specs.specs.Paths.{PathGroups, link_load}
 use Rattle.bwe_specs.specs.Filling.{Wan}
 use Rattle.bwe_specs.specs.Reports.{numbers}
 use Rattle.bwe_specs.specs.Values.{AreValues, NeverFalls}
-use Rattle.link_sums.specs.Sums.{AreRowsOf, amount_at, rows_in, total_of}
+use Rattle.bwe_specs.specs.Lists.{lists_of}
+use Rattle.link_sums.specs.Sums.{AreRowsOf, amount_at, total_of}
 use Rattle.mpfa_fill.specs.declared.steps.Filling.{Filling}
 use Rattle.mpfa_fill.specs.Filling.{IsFilling}
 use Rattle.mpfa_fill.specs.GroupValues.{wan_of}
@@ -59,15 +60,15 @@ module _ (tree : Tree) (initial : Network) (groups : List PathGroups) (tiers : L
       step-filling : IsFilling (wan_of_tier wan tiers tier) filled
       step-filling = subst (λ capacities. IsFilling (wan_of (values_of_tier tree tiers tier) groups capacities) filled) capacities-are filling
 
-      pub step-shaped : AreRowsOf groups (rows_in filled.amounts.items)
+      pub step-shaped : AreRowsOf groups (lists_of filled.amounts.items)
       step-shaped = next-shaped wan tiers step-never step-bound tier filled step-filling
 
-      pub step-total : total_of groups (rows_in filled.amounts.items) ≤ MAX_TOTAL
+      pub step-total : total_of groups (lists_of filled.amounts.items) ≤ MAX_TOTAL
       step-total = next-total wan tiers step-never step-bound tier filled step-filling
 
-      module _ (loads : List ℕ) (loads-is : loads ≡ map (link_load groups (amount_at (rows_in filled.amounts.items))) (numbers (length now.capacities))) where
-        loads-are : loads ≡ map (link_load groups (amount_at (rows_in filled.amounts.items))) (numbers (length free))
-        loads-are = loads-is ∙ ap (λ (capacities : List ℕ). map (link_load groups (amount_at (rows_in filled.amounts.items))) (numbers (length capacities))) capacities-are
+      module _ (loads : List ℕ) (loads-is : loads ≡ map (link_load groups (amount_at (lists_of filled.amounts.items))) (numbers (length now.capacities))) where
+        loads-are : loads ≡ map (link_load groups (amount_at (lists_of filled.amounts.items))) (numbers (length free))
+        loads-are = loads-is ∙ ap (λ (capacities : List ℕ). map (link_load groups (amount_at (lists_of filled.amounts.items))) (numbers (length capacities))) capacities-are
 
         pub step-lower-links : length loads ≡ length now.capacities
         step-lower-links =

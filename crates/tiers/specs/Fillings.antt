@@ -6,7 +6,7 @@ use Rattle.bwe_specs.specs.Paths.{PathGroups, path_group_count, link_load}
 use Rattle.bwe_specs.specs.Filling.{Wan, group_stop}
 use Rattle.bwe_specs.specs.Reports.{numbers}
 use Rattle.bwe_specs.specs.Allocation.{GroupLine}
-use Rattle.link_sums.specs.Sums.{rows_in}
+use Rattle.bwe_specs.specs.Lists.{lists_of}
 use Rattle.mpfa_fill.specs.declared.steps.Filling.{Filling}
 use Rattle.mpfa_fill.specs.GroupValues.{Values, wan_of}
 use Rattle.policy_tree.specs.Trees.{Tree, value_in}
@@ -41,7 +41,7 @@ abbrev pub lists_in : {X : Type 0} → List (Vec X Global) → List (List X)
 lists_in lists = map (λ list. list.items) lists
 
 abbrev pub all_rows_in : List (Vec (Vec ℕ Global) Global) → List (List (List ℕ))
-all_rows_in lists = map (λ rows. rows_in rows.items) lists
+all_rows_in lists = map (λ rows. lists_of rows.items) lists
 
 -- the loads together
 abbrev pub added_loads : List ℕ → List ℕ → List ℕ
@@ -52,7 +52,7 @@ added_loads loads more =
 abbrev pub with_filling : Fillings → Filling → List ℕ → Fillings
 with_filling fillings filled loads = record {
   closings = fillings.closings ++ filled.closings.items ∷ [];
-  amounts = fillings.amounts ++ rows_in filled.amounts.items ∷ [];
+  amounts = fillings.amounts ++ lists_of filled.amounts.items ∷ [];
   shares = fillings.shares ++ filled.shares.items ∷ [];
   loads = added_loads fillings.loads loads;
 }

@@ -1,5 +1,6 @@
 use Rattle.std.proofs.Common.{◌≡◌, ℕ, ◌+◌, ◌<◌, ◌≤◌, List, length, flat_map, map, zip, ap, ap₂, sym, ◌∙◌, arith}
 use Rattle.std.proofs.lemmas.List.Elements.{All-get_or}
+use Rattle.bwe_specs.specs.declared.limits.TheConstants.{MAX_TOTAL}
 use Rattle.bwe_specs.specs.Distribution.{distribution}
 use Rattle.policy_tree.specs.States.{UserState, user_meaning}
 use Rattle.push_down.specs.Limits.{limits_of_user}
@@ -20,7 +21,7 @@ pub user_limits_of-requires-clause-amount : goal.user_limits_of-requires-clause-
 user_limits_of-requires-clause-amount c =
     let amounts = c.in_ok-amounts.amounts.items in
     let lt : c.loop-place.place < length amounts = omega (arith, size (goal.at.user_limits_of-requires-clause-amount c).In_ok-amounts, c.loop-place-test.true) in
-    let bound = All-get_or (λ (given : ℕ). given ≤ c.args.amount + 20_000_000_000_000_000) amounts c.loop-place.place c.index.result.now lt c.in_ok-amounts.ensures.bound in
+    let bound = All-get_or (λ (given : ℕ). given ≤ c.args.amount + MAX_TOTAL) amounts c.loop-place.place c.index.result.now lt c.in_ok-amounts.ensures.bound in
     omega (arith, bound, c.index.ensures, c.requires.amount)
 
 pub loop-place-preserved : goal.loop-place-preserved

@@ -1,7 +1,7 @@
 use Rattle.std.proofs.Common.{◌++◌, ◌∷◌, [], Vec, Global, List, slice_set, sym, ◌∙◌, ap}
 use Rattle.std.proofs.lemmas.List.{map-set}
 use Rattle.demand_book.specs.declared.told.Told.{Told}
-use Rattle.demand_book.specs.Book.{rows_of}
+use Rattle.bwe_specs.specs.Lists.{lists_of}
 use Rattle.demand_book.proofs.Rows.{row_at-read, rows_of-same, on_err}
 use Rattle.demand_book.proofs.book.write.Goals as goal
 
@@ -18,5 +18,5 @@ returns-clause-ok c =
     let rows = c.args.rows.now.items in
     let row = c.index_mut-row.result.now in
     map-set (λ (row : Vec Told Global). row.items) rows c.args.number c.push.new.self
-    ∙ ap (λ (entries : List Told). slice_set (rows_of rows) c.args.number entries)
+    ∙ ap (λ (entries : List Told). slice_set (lists_of rows) c.args.number entries)
     (c.in_ok-push.ensures.items ∙ ap (λ (entries : List Told). entries ++ c.args.entry ∷ []) (sym (row_at-read rows c.args.number row c.requires.row c.index_mut-row.ensures.value)))

@@ -3,13 +3,14 @@ use Rattle.std.specs.List.Sorted.{IsNonDecreasingBy}
 use Rattle.bwe_specs.specs.Reports.{demand_after}
 use Rattle.demand_book.specs.declared.told.Told.{Told}
 use Rattle.demand_book.specs.Told.{amount_before}
-use Rattle.demand_book.specs.Book.{Book, row_at, rows_of}
+use Rattle.bwe_specs.specs.Lists.{lists_of}
+use Rattle.demand_book.specs.Book.{Book, row_at}
 use Rattle.demand_book.proofs.Rows.{row_at-read}
 use Rattle.demand_book.proofs.book.DemandBook.demand_after.Goals as goal
 use Rattle.demand_book.proofs.book.DemandBook.demand_after.Goals.{After-as_slice}
 
 -- the slice that is looked up is the task's row
-row : (c : After-as_slice) → c.as_slice.result.now ≡ row_at (rows_of c.self.inside.task_rows.items) c.args.task
+row : (c : After-as_slice) → c.as_slice.result.now ≡ row_at (lists_of c.self.inside.task_rows.items) c.args.task
 row c =
     let inside : c.args.task < length c.self.inside.task_rows.items = subst (λ (book : Book). c.args.task < book.tasks) (sym c.self.view_is) c.requires.task in
     c.as_slice.ensures.value ∙ sym (row_at-read c.self.inside.task_rows.items c.args.task c.index.result.now inside c.index.ensures)

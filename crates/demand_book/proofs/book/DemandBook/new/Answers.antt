@@ -2,7 +2,8 @@ use Rattle.std.proofs.Common.{◌≡◌, ◌∙◌, Vec, Global, List, ℕ, subs
 use Rattle.std.proofs.lemmas.List.{length-map}
 use Rattle.bwe_specs.specs.declared.report.Report.{Report}
 use Rattle.demand_book.specs.declared.told.Told.{Told}
-use Rattle.demand_book.specs.Book.{AreKept, rows_of}
+use Rattle.bwe_specs.specs.Lists.{lists_of}
+use Rattle.demand_book.specs.Book.{AreKept}
 use Rattle.demand_book.proofs.Keeping.{AreKept-empty}
 use Rattle.demand_book.proofs.book.DemandBook.new.Goals as goal
 
@@ -12,8 +13,8 @@ invariant_of-result c =
     let links = c.in_ok-empty_rows-2.field-0.items in
     let capacities = c.in_ok-from_slice.field-0.items in
     let items = λ (row : Vec Told Global). row.items in
-    let count : length (rows_of links) ≡ length capacities =
+    let count : length (lists_of links) ≡ length capacities =
     length-map links items ∙ c.in_ok-empty_rows-2.ensures.count ∙ sym (ap (λ (xs : List ℕ). length xs) c.in_ok-from_slice.ensures.items) in
-    subst (λ (reports : List Report). AreKept (record { tasks = length tasks; capacities = capacities; reports = reports }) (rows_of tasks) (rows_of links))
+    subst (λ (reports : List Report). AreKept (record { tasks = length tasks; capacities = capacities; reports = reports }) (lists_of tasks) (lists_of links))
     (sym c.new.ensures.items)
-    (AreKept-empty (length tasks) capacities (rows_of tasks) (rows_of links) (length-map tasks items) count c.in_ok-empty_rows.ensures.empty c.in_ok-empty_rows-2.ensures.empty)
+    (AreKept-empty (length tasks) capacities (lists_of tasks) (lists_of links) (length-map tasks items) count c.in_ok-empty_rows.ensures.empty c.in_ok-empty_rows-2.ensures.empty)

@@ -2,7 +2,7 @@ use Rattle.std.proofs.Common.{◌≡◌, ℕ, ◌∙◌, ap, length, arith, inl,
 use Rattle.std.proofs.Math.ListN.{get_or-eq_default}
 use Rattle.bwe_specs.specs.Paths.{path_group_count}
 use Rattle.std.proofs.lemmas.Bool.{cases_lt}
-use Rattle.link_sums.specs.Sums.{rows_in}
+use Rattle.bwe_specs.specs.Lists.{lists_of}
 use Rattle.link_sums.proofs.Rows.{more_rows}
 use Rattle.path_groups.proofs.Paths.{length_map}
 use Rattle.link_sums.proofs.amounts.Amounts.open.Goals as goal
@@ -25,7 +25,7 @@ returns-clause-rows c =
 pub returns-clause-none : goal.returns-clause-none
 returns-clause-none c group place =
     let end : c.loop-group.group ≡ length c.args.plan.now = omega (arith, c.groups-group-end.ensures.count, c.loop-group-test.false, c.loop-group.auto.group-end) in
-    let rows = rows_in c.loop-group.rows.items in
+    let rows = lists_of c.loop-group.rows.items in
     let count : length rows ≡ c.loop-group.group = length_map (λ (r : Vec ℕ Global). r.items) c.loop-group.rows.items ∙ c.loop-group.invariant.length_is in
     elim (cases_lt group c.loop-group.group) [
       | inl lt ↦ elim (cases_lt place (path_group_count c.args.plan.now group)) [

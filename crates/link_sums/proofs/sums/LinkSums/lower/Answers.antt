@@ -1,4 +1,5 @@
 use Rattle.std.proofs.Common.{◌∙◌, ◌-◌, ◌≤◌, sym, ap, subst, length, arith}
+use Rattle.bwe_specs.specs.declared.limits.TheConstants.{MAX_TOTAL}
 use Rattle.link_sums.specs.Sums.{amount_at, IsSummedOver}
 use Rattle.link_sums.proofs.Totals.{total_of-raised, link_load-raised}
 use Rattle.link_sums.proofs.Changes.{before-small, counted, room, summed-after, with_items-same}
@@ -11,7 +12,7 @@ move_loads-requires-clause-before c =
 
 pub move_loads-requires-clause-after : goal.move_loads-requires-clause-after
 move_loads-requires-clause-after c =
-    let small : c.amount-before.result ≤ 20_000_000_000_000_000 =
+    let small : c.amount-before.result ≤ MAX_TOTAL =
     before-small c.args.plan.now c.args.self.now c.requires.summed c.args.group c.args.place c.requires.group c.requires.place c.amount-before.result
     (c.amount-before.ensures ∙ ap (λ sums. amount_at sums.amounts c.args.group c.args.place) c.self.view_is) c.deref_mut.result.now (c.deref_mut.ensures.value ∙ ap (λ sums. sums.loads) c.self.view_is) in
     omega (arith, small)
