@@ -8,9 +8,8 @@ use Rattle.bwe_specs.specs.declared.report.Target.{Target}
 use Rattle.bwe_specs.specs.declared.report.Target.TheVariants.{Task, Link}
 use Rattle.bwe_specs.specs.declared.report.Report.{Report}
 use Rattle.text_scan.specs.Words.{words_of}
-use Rattle.run_audit.specs.Words.{word_at}
-use Rattle.doc_names.specs.NameTexts.{NameTexts}
-use Rattle.audit_law.specs.ClosedRun.{AreNames, IsPlain}
+use Rattle.doc_names.specs.NameTexts.{IsPlain, NameTexts, entry_at}
+use Rattle.audit_law.specs.ClosedRun.{AreNames}
 use Rattle.audit_law.proofs.Numbers.{number_has_no}
 use Rattle.audit_law.proofs.Lines.{HasNo, spaced, words_of-spaced}
 use Rattle.audit_law.proofs.LineForms.{history_line, kind_of, name_of, reader_line, report_line, sent_line, shown_line}
@@ -37,10 +36,10 @@ plain_clean name plain = (
 empty_clean : IsClean []
 empty_clean = (All-nil (λ b. (b == 10) ≡ false), All-nil (λ b. (b == 32) ≡ false))
 
-named_clean : (names : List (List ℕ)) (number : ℕ) → All IsPlain names → IsClean (word_at names number)
+named_clean : (names : List (List ℕ)) (number : ℕ) → All IsPlain names → IsClean (entry_at names number)
 named_clean names number plain = elim (cases_lt number (length names)) [
-  | inl within ↦ plain_clean (word_at names number) (plain number [] within)
-  | inr past ↦ none (word_at names number) (get_or_past names number [] past)
+  | inl within ↦ plain_clean (entry_at names number) (plain number [] within)
+  | inr past ↦ none (entry_at names number) (get_or_past names number [] past)
 ]
   where
     none : (name : List ℕ) → name ≡ [] → IsClean name
@@ -79,13 +78,13 @@ target_clean names are (Link number) = named_clean names.links number are.links
 
 pub report_clean : (names : NameTexts) → AreNames names → (place : ℕ) (report : Report) → place < 2 ^ 64 → report.amount < 2 ^ 64 → All IsClean (report_line names place report)
 report_clean names are place report small fits =
-    All-cons IsClean (kind_of report.target) (decimal place ∷ word_at names.reporters report.reporter ∷ name_of names report.target ∷ decimal report.amount ∷ []) (kind_clean report.target)
-    (more (decimal place) (word_at names.reporters report.reporter) (name_of names report.target ∷ decimal report.amount ∷ []) (number_clean place small) (named_clean names.reporters report.reporter are.reporters)
+    All-cons IsClean (kind_of report.target) (decimal place ∷ entry_at names.reporters report.reporter ∷ name_of names report.target ∷ decimal report.amount ∷ []) (kind_clean report.target)
+    (more (decimal place) (entry_at names.reporters report.reporter) (name_of names report.target ∷ decimal report.amount ∷ []) (number_clean place small) (named_clean names.reporters report.reporter are.reporters)
     (two (name_of names report.target) (decimal report.amount) (target_clean names are report.target) (number_clean report.amount fits)))
 
 pub sent_clean : (names : NameTexts) → AreNames names → (reporter sent : ℕ) → sent < 2 ^ 64 → All IsClean (sent_line names reporter sent)
 sent_clean names are reporter sent small =
-    more (codes "reporter") (word_at names.reporters reporter) (codes "sent" ∷ decimal sent ∷ []) (tested 10 (codes "reporter") refl, tested 32 (codes "reporter") refl) (named_clean names.reporters reporter are.reporters)
+    more (codes "reporter") (entry_at names.reporters reporter) (codes "sent" ∷ decimal sent ∷ []) (tested 10 (codes "reporter") refl, tested 32 (codes "reporter") refl) (named_clean names.reporters reporter are.reporters)
     (two (codes "sent") (decimal sent) (tested 10 (codes "sent") refl, tested 32 (codes "sent") refl) (number_clean sent small))
 
 pub reader_clean : (number length : ℕ) → number < 2 ^ 64 → length < 2 ^ 64 → All IsClean (reader_line number length)

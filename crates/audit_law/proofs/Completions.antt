@@ -10,8 +10,7 @@ use Rattle.bwe_specs.specs.declared.report.Report.{Report}
 use Rattle.demand_book.specs.Fit.{IsFit}
 use Rattle.crew_log.specs.declared.log.ReadLine.{ReadLine}
 use Rattle.text_scan.specs.Words.{words_of}
-use Rattle.run_audit.specs.Words.{word_at}
-use Rattle.doc_names.specs.NameTexts.{NameTexts}
+use Rattle.doc_names.specs.NameTexts.{NameTexts, entry_at}
 use Rattle.run_audit.specs.Forms.{history_of, reader_of, sent_of, shown_of}
 use Rattle.run_audit.specs.History.{Printed, Reported, begins, continue_with, fault, history_in, line_after, none_printed, take_line, take_lines, total_of}
 use Rattle.run_audit.specs.Walk.{Walk, Walked, after_final, after_line, after_read, after_reader, after_reporter, after_shown, after_table, due_from, goes_on, is_over, is_reader, is_wanted, leads_to, new_block, reader_leads, sent_leads, shown_leads, step_from, with_table}
@@ -90,7 +89,7 @@ module _ (names : NameTexts) (scripts : List (List Report)) where
   sound_reporter table next words is = go (sent_of names words) where
     go : (told : Option ℕ) → LeadsSoundly (with_table table (sent_leads names scripts next words told))
     go None = tt
-    go (Some sent) = test (bytes_eq (word_at words 1) (word_at names.reporters next) && (sent == length (slice_index_or scripts next []))) where
+    go (Some sent) = test (bytes_eq (entry_at words 1) (entry_at names.reporters next) && (sent == length (slice_index_or scripts next []))) where
       test : (right : Bool) → LeadsSoundly (with_table table (cond {A = Result Step AuditCause} right (leads_to (due_from scripts (next + 1))) (Err causes.Sent)))
       test true = sound_due table (next + 1) is
       test false = tt

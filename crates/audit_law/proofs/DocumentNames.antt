@@ -13,13 +13,12 @@ use Rattle.raw_document.specs.declared.doc_path.PathStep.{PathStep}
 use Rattle.raw_document.specs.declared.doc_path.PathStep.TheVariants.{Key, Index}
 use Rattle.raw_document.specs.Reading.{◌>>=◌, check_each, fold_each, under}
 use Rattle.raw_document.specs.Raw.{Group, Job, Link, Raw, Task, User}
-use Rattle.doc_names.specs.NameTexts.{NameTexts}
+use Rattle.doc_names.specs.NameTexts.{IsPlain, NameTexts}
 use Rattle.doc_passes.specs.Names.{add_group, add_job, add_link, add_task, add_user, fold_member, fresh, fresh_name, name_lists}
 use Rattle.doc_passes.specs.Ranges as ranges
 use Rattle.doc_passes.specs.Ranges.{is_name, is_name_byte, is_within, items_range, member_range}
 use Rattle.doc_passes.proofs.RangeFacts.{items_all, member_ok}
 use Rattle.doc_passes.proofs.Readings.{bind_ok, check_ok, ok_is, under_ok}
-use Rattle.audit_law.specs.ClosedRun.{IsPlain}
 use Rattle.bwe_specs.specs.declared.limits.TheConstants.{MAX_SHARE, MAX_WEIGHT}
 
 -- ---- a name is plain

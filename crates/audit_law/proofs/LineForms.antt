@@ -13,8 +13,8 @@ use Rattle.bwe_specs.specs.declared.report.Target.{Target}
 use Rattle.bwe_specs.specs.declared.report.Target.TheVariants.{Task, Link}
 use Rattle.bwe_specs.specs.declared.report.Report.{Report}
 use Rattle.text_scan.specs.Numbers.{printed_number_of}
-use Rattle.run_audit.specs.Words.{is_known, is_word, number_at, word_at}
-use Rattle.doc_names.specs.NameTexts.{NameTexts}
+use Rattle.run_audit.specs.Words.{is_known, is_word, number_at}
+use Rattle.doc_names.specs.NameTexts.{NameTexts, entry_at}
 use Rattle.run_audit.specs.Forms.{history_of, is_of_known, reader_of, reader_words, report_of, report_words, sent_of, shown_of, shown_words}
 use Rattle.run_audit.specs.History.{is_of}
 use Rattle.run_audit.specs.declared.forms.ReportWords.{ReportWords}
@@ -33,15 +33,15 @@ kind_of (Task number) = codes "report"
 kind_of (Link number) = codes "capacity"
 
 abbrev pub name_of : NameTexts → Target → List ℕ
-name_of names (Task number) = word_at names.tasks number
-name_of names (Link number) = word_at names.links number
+name_of names (Task number) = entry_at names.tasks number
+name_of names (Link number) = entry_at names.links number
 
 abbrev pub report_line : NameTexts → ℕ → Report → List (List ℕ)
 report_line names place report =
-    kind_of report.target ∷ decimal place ∷ word_at names.reporters report.reporter ∷ name_of names report.target ∷ decimal report.amount ∷ []
+    kind_of report.target ∷ decimal place ∷ entry_at names.reporters report.reporter ∷ name_of names report.target ∷ decimal report.amount ∷ []
 
 abbrev pub sent_line : NameTexts → ℕ → ℕ → List (List ℕ)
-sent_line names reporter sent = codes "reporter" ∷ word_at names.reporters reporter ∷ codes "sent" ∷ decimal sent ∷ []
+sent_line names reporter sent = codes "reporter" ∷ entry_at names.reporters reporter ∷ codes "sent" ∷ decimal sent ∷ []
 
 abbrev pub reader_line : ℕ → ℕ → List (List ℕ)
 reader_line number length = codes "reader" ∷ decimal number ∷ codes "length" ∷ decimal length ∷ []
@@ -53,12 +53,12 @@ shown_line kind floor prefix total = kind ∷ codes "floor" ∷ decimal floor �
 
 abbrev listed : ℕ → ℕ → List (List ℕ) → List (List ℕ)
 listed place zero words = []
-listed place (suc count) words = word_at words place ∷ listed (place + 1) count words
+listed place (suc count) words = entry_at words place ∷ listed (place + 1) count words
 
 listed_from : (place count : ℕ) (words : List (List ℕ)) → length words ≡ place + count → drop place words ≡ listed place count words
 listed_from place zero words is = drop_all place words (omega (arith, is))
 listed_from place (suc count) words is =
-    drop_more words place [] (omega (arith, is)) ∙ ap (λ (rest : List (List ℕ)). word_at words place ∷ rest) (listed_from (place + 1) count words (omega (arith, is)))
+    drop_more words place [] (omega (arith, is)) ∙ ap (λ (rest : List (List ℕ)). entry_at words place ∷ rest) (listed_from (place + 1) count words (omega (arith, is)))
 
 pub same_bytes : (one two : List ℕ) → bytes_eq one two ≡ true → one ≡ two
 same_bytes one two is = (bytes_eq-Decides one two).0 is
@@ -82,10 +82,10 @@ unfolding history_of
 history_read words number is =
     let parts = passed ((length words == 2) && is_word words 0 (codes "history")) (number_at words 1) number is in
     let tests = and_parts (length words == 2) (is_word words 0 (codes "history")) parts.0 in
-    let all : words ≡ word_at words 0 ∷ word_at words 1 ∷ [] = listed_from 0 2 words (eqb-true (length words) 2 tests.0) in
-    let first : word_at words 0 ≡ codes "history" = same_bytes (word_at words 0) (codes "history") tests.1 in
-    let second : word_at words 1 ≡ decimal number = (number_read (word_at words 1) number parts.1).0 in
-    all ∙ ap (λ (w : List ℕ). w ∷ word_at words 1 ∷ []) first ∙ ap (λ (w : List ℕ). codes "history" ∷ w ∷ []) second
+    let all : words ≡ entry_at words 0 ∷ entry_at words 1 ∷ [] = listed_from 0 2 words (eqb-true (length words) 2 tests.0) in
+    let first : entry_at words 0 ≡ codes "history" = same_bytes (entry_at words 0) (codes "history") tests.1 in
+    let second : entry_at words 1 ≡ decimal number = (number_read (entry_at words 1) number parts.1).0 in
+    all ∙ ap (λ (w : List ℕ). w ∷ entry_at words 1 ∷ []) first ∙ ap (λ (w : List ℕ). codes "history" ∷ w ∷ []) second
 
 -- ---- `reporter`
 
@@ -93,22 +93,22 @@ pub sent_printed : (names : NameTexts) (reporter sent : ℕ) → reporter < leng
 unfolding sent_of
 sent_printed names reporter sent within small =
     ap (λ (b : Bool). cond b (printed_number_of (decimal sent)) None)
-    (list_any_at (bytes_eq (word_at names.reporters reporter)) names.reporters reporter [] within (itself (word_at names.reporters reporter)))
+    (list_any_at (bytes_eq (entry_at names.reporters reporter)) names.reporters reporter [] within (itself (entry_at names.reporters reporter)))
     ∙ number_printed sent small
 
-pub sent_read : (names : NameTexts) (words : List (List ℕ)) (reporter sent : ℕ) → sent_of names words ≡ Some sent → bytes_eq (word_at words 1) (word_at names.reporters reporter) ≡ true
+pub sent_read : (names : NameTexts) (words : List (List ℕ)) (reporter sent : ℕ) → sent_of names words ≡ Some sent → bytes_eq (entry_at words 1) (entry_at names.reporters reporter) ≡ true
     → words ≡ sent_line names reporter sent
 unfolding sent_of
 sent_read names words reporter sent is named =
-    let parts = passed ((length words == 4) && (is_word words 0 (codes "reporter") && (is_word words 2 (codes "sent") && is_known names.reporters (word_at words 1)))) (number_at words 3) sent is in
-    let four = and_parts (length words == 4) (is_word words 0 (codes "reporter") && (is_word words 2 (codes "sent") && is_known names.reporters (word_at words 1))) parts.0 in
-    let tests = and_parts (is_word words 0 (codes "reporter")) (is_word words 2 (codes "sent") && is_known names.reporters (word_at words 1)) four.1 in
-    let third_test = and_parts (is_word words 2 (codes "sent")) (is_known names.reporters (word_at words 1)) tests.1 in
-    let all : words ≡ word_at words 0 ∷ word_at words 1 ∷ word_at words 2 ∷ word_at words 3 ∷ [] = listed_from 0 4 words (eqb-true (length words) 4 four.0) in
-    let first : word_at words 0 ≡ codes "reporter" = same_bytes (word_at words 0) (codes "reporter") tests.0 in
-    let second : word_at words 1 ≡ word_at names.reporters reporter = same_bytes (word_at words 1) (word_at names.reporters reporter) named in
-    let third : word_at words 2 ≡ codes "sent" = same_bytes (word_at words 2) (codes "sent") third_test.0 in
-    let fourth : word_at words 3 ≡ decimal sent = (number_read (word_at words 3) sent parts.1).0 in
+    let parts = passed ((length words == 4) && (is_word words 0 (codes "reporter") && (is_word words 2 (codes "sent") && is_known names.reporters (entry_at words 1)))) (number_at words 3) sent is in
+    let four = and_parts (length words == 4) (is_word words 0 (codes "reporter") && (is_word words 2 (codes "sent") && is_known names.reporters (entry_at words 1))) parts.0 in
+    let tests = and_parts (is_word words 0 (codes "reporter")) (is_word words 2 (codes "sent") && is_known names.reporters (entry_at words 1)) four.1 in
+    let third_test = and_parts (is_word words 2 (codes "sent")) (is_known names.reporters (entry_at words 1)) tests.1 in
+    let all : words ≡ entry_at words 0 ∷ entry_at words 1 ∷ entry_at words 2 ∷ entry_at words 3 ∷ [] = listed_from 0 4 words (eqb-true (length words) 4 four.0) in
+    let first : entry_at words 0 ≡ codes "reporter" = same_bytes (entry_at words 0) (codes "reporter") tests.0 in
+    let second : entry_at words 1 ≡ entry_at names.reporters reporter = same_bytes (entry_at words 1) (entry_at names.reporters reporter) named in
+    let third : entry_at words 2 ≡ codes "sent" = same_bytes (entry_at words 2) (codes "sent") third_test.0 in
+    let fourth : entry_at words 3 ≡ decimal sent = (number_read (entry_at words 3) sent parts.1).0 in
     all ∙ cc
 
 -- ---- `reader`
@@ -133,11 +133,11 @@ reader_read words told is =
     let four = and_parts (length words == 4) (is_word words 0 (codes "reader") && is_word words 2 (codes "length")) parts.0 in
     let tests = and_parts (is_word words 0 (codes "reader")) (is_word words 2 (codes "length")) four.1 in
     let numbers = both_numbers (number_at words 1) (number_at words 3) told parts.1 in
-    let all : words ≡ word_at words 0 ∷ word_at words 1 ∷ word_at words 2 ∷ word_at words 3 ∷ [] = listed_from 0 4 words (eqb-true (length words) 4 four.0) in
-    let first : word_at words 0 ≡ codes "reader" = same_bytes (word_at words 0) (codes "reader") tests.0 in
-    let second : word_at words 1 ≡ decimal told.number = (number_read (word_at words 1) told.number numbers.0).0 in
-    let third : word_at words 2 ≡ codes "length" = same_bytes (word_at words 2) (codes "length") tests.1 in
-    let fourth : word_at words 3 ≡ decimal told.length = (number_read (word_at words 3) told.length numbers.1).0 in
+    let all : words ≡ entry_at words 0 ∷ entry_at words 1 ∷ entry_at words 2 ∷ entry_at words 3 ∷ [] = listed_from 0 4 words (eqb-true (length words) 4 four.0) in
+    let first : entry_at words 0 ≡ codes "reader" = same_bytes (entry_at words 0) (codes "reader") tests.0 in
+    let second : entry_at words 1 ≡ decimal told.number = (number_read (entry_at words 1) told.number numbers.0).0 in
+    let third : entry_at words 2 ≡ codes "length" = same_bytes (entry_at words 2) (codes "length") tests.1 in
+    let fourth : entry_at words 3 ≡ decimal told.length = (number_read (entry_at words 3) told.length numbers.1).0 in
     all ∙ cc
 
 -- ---- `read` and `final`
@@ -170,15 +170,15 @@ shown_read kind words told is =
     let later = and_parts (is_word words 1 (codes "floor")) fifth_on tests.1 in
     let last = and_parts (is_word words 3 (codes "prefix")) (is_word words 5 (codes "total")) later.1 in
     let numbers = three_numbers (number_at words 2) (number_at words 4) (number_at words 6) told parts.1 in
-    let all : words ≡ word_at words 0 ∷ word_at words 1 ∷ word_at words 2 ∷ word_at words 3 ∷ word_at words 4 ∷ word_at words 5 ∷ word_at words 6 ∷ [] = listed_from 0 7 words (eqb-true (length words) 7 seven.0) in
-    let w0 : word_at words 0 ≡ kind = same_bytes (word_at words 0) kind tests.0 in
-    let w1 : word_at words 1 ≡ codes "floor" = same_bytes (word_at words 1) (codes "floor") later.0 in
-    let w2 : word_at words 2 ≡ decimal told.floor = (number_read (word_at words 2) told.floor numbers.0).0 in
-    let w3 : word_at words 3 ≡ codes "prefix" = same_bytes (word_at words 3) (codes "prefix") last.0 in
-    let w4 : word_at words 4 ≡ decimal told.prefix = (number_read (word_at words 4) told.prefix numbers.1).0 in
-    let w5 : word_at words 5 ≡ codes "total" = same_bytes (word_at words 5) (codes "total") last.1 in
-    let w6 : word_at words 6 ≡ decimal told.total = (number_read (word_at words 6) told.total numbers.2).0 in
-    (all ∙ cc, (number_read (word_at words 6) told.total numbers.2).1)
+    let all : words ≡ entry_at words 0 ∷ entry_at words 1 ∷ entry_at words 2 ∷ entry_at words 3 ∷ entry_at words 4 ∷ entry_at words 5 ∷ entry_at words 6 ∷ [] = listed_from 0 7 words (eqb-true (length words) 7 seven.0) in
+    let w0 : entry_at words 0 ≡ kind = same_bytes (entry_at words 0) kind tests.0 in
+    let w1 : entry_at words 1 ≡ codes "floor" = same_bytes (entry_at words 1) (codes "floor") later.0 in
+    let w2 : entry_at words 2 ≡ decimal told.floor = (number_read (entry_at words 2) told.floor numbers.0).0 in
+    let w3 : entry_at words 3 ≡ codes "prefix" = same_bytes (entry_at words 3) (codes "prefix") last.0 in
+    let w4 : entry_at words 4 ≡ decimal told.prefix = (number_read (entry_at words 4) told.prefix numbers.1).0 in
+    let w5 : entry_at words 5 ≡ codes "total" = same_bytes (entry_at words 5) (codes "total") last.1 in
+    let w6 : entry_at words 6 ≡ decimal told.total = (number_read (entry_at words 6) told.total numbers.2).0 in
+    (all ∙ cc, (number_read (entry_at words 6) told.total numbers.2).1)
 
 -- ---- `report` and `capacity`
 
@@ -196,13 +196,13 @@ three_told (Some one) (Some two) (Some three) told is =
     (ap (λ (t : ReportWords). Some t.place) same, ap (λ (t : ReportWords). Some t.reporter) same, ap (λ (t : ReportWords). Some t.amount) same)
 
 place_of_name : (names : NameTexts) → AreNames names → (reporter : ℕ) → reporter < length names.reporters
-    → position (bytes_eq (word_at names.reporters reporter)) names.reporters ≡ Some reporter
+    → position (bytes_eq (entry_at names.reporters reporter)) names.reporters ≡ Some reporter
 place_of_name names are reporter within =
-    let test : List ℕ → Bool = bytes_eq (word_at names.reporters reporter) in
+    let test : List ℕ → Bool = bytes_eq (entry_at names.reporters reporter) in
     let other : (k : ℕ) → k < reporter → test (get_or names.reporters k []) ≡ false =
-    λ k before. false_from_ne_true (test (get_or names.reporters k [])) (λ is. absurd (are.apart k reporter before within (sym (same_bytes (word_at names.reporters reporter) (word_at names.reporters k) is)))) in
+    λ k before. false_from_ne_true (test (get_or names.reporters k [])) (λ is. absurd (are.apart k reporter before within (sym (same_bytes (entry_at names.reporters reporter) (entry_at names.reporters k) is)))) in
     let place : position_or_len test names.reporters ≡ reporter =
-    position_or_len_is test names.reporters reporter [] (omega arith) other (λ lt. itself (word_at names.reporters reporter)) in
+    position_or_len_is test names.reporters reporter [] (omega arith) other (λ lt. itself (entry_at names.reporters reporter)) in
     ap (λ (p : ℕ). cond (nat_lt p (length names.reporters)) (Some p) None) place
     ∙ ap (λ (b : Bool). cond b (Some reporter) None) (lt-ltb reporter (length names.reporters) within)
 
@@ -211,48 +211,48 @@ module _ (names : NameTexts) (are : AreNames names) where
       → is_of_known names (report_line names place (record { reporter = reporter; target = target; amount = amount })) ≡ true
   unfolding is_of_known
   known place reporter (Task number) amount within =
-      or_left (list_any (bytes_eq (word_at names.tasks number)) names.tasks) false (list_any_at (bytes_eq (word_at names.tasks number)) names.tasks number [] within (itself (word_at names.tasks number)))
+      or_left (list_any (bytes_eq (entry_at names.tasks number)) names.tasks) false (list_any_at (bytes_eq (entry_at names.tasks number)) names.tasks number [] within (itself (entry_at names.tasks number)))
   known place reporter (Link number) amount within =
-      list_any_at (bytes_eq (word_at names.links number)) names.links number [] within (itself (word_at names.links number))
+      list_any_at (bytes_eq (entry_at names.links number)) names.links number [] within (itself (entry_at names.links number))
 
   pub report_printed : (place : ℕ) (report : Report) → place < 2 ^ 64 → report.reporter < length names.reporters → IsNamed names report.target → report.amount < 2 ^ 64
       → report_of names (report_line names place report) ≡ Some (record { place = place; reporter = report.reporter; amount = report.amount })
   unfolding report_of
   report_printed place report small within named fits =
-      ap (λ (b : Bool). cond b (report_words (printed_number_of (decimal place)) (position (bytes_eq (word_at names.reporters report.reporter)) names.reporters) (printed_number_of (decimal report.amount))) None)
+      ap (λ (b : Bool). cond b (report_words (printed_number_of (decimal place)) (position (bytes_eq (entry_at names.reporters report.reporter)) names.reporters) (printed_number_of (decimal report.amount))) None)
       (known place report.reporter report.target report.amount named)
-      ∙ ap (λ (one : Option ℕ). report_words one (position (bytes_eq (word_at names.reporters report.reporter)) names.reporters) (printed_number_of (decimal report.amount))) (number_printed place small)
+      ∙ ap (λ (one : Option ℕ). report_words one (position (bytes_eq (entry_at names.reporters report.reporter)) names.reporters) (printed_number_of (decimal report.amount))) (number_printed place small)
       ∙ ap (λ (two : Option ℕ). report_words (Some place) two (printed_number_of (decimal report.amount))) (place_of_name names are report.reporter within)
       ∙ ap (λ (three : Option ℕ). report_words (Some place) (Some report.reporter) three) (number_printed report.amount fits)
 
 -- the line is of its own task or link
 pub own_target : (names : NameTexts) (place reporter : ℕ) (target : Target) (amount : ℕ) → is_of names (report_line names place (record { reporter = reporter; target = target; amount = amount })) target ≡ true
 unfolding is_of
-own_target names place reporter (Task number) amount = itself (word_at names.tasks number)
-own_target names place reporter (Link number) amount = itself (word_at names.links number)
+own_target names place reporter (Task number) amount = itself (entry_at names.tasks number)
+own_target names place reporter (Link number) amount = itself (entry_at names.links number)
 
-named_words : (names : NameTexts) (words : List (List ℕ)) (target : Target) → is_of names words target ≡ true → (word_at words 0 ≡ kind_of target) × (word_at words 3 ≡ name_of names target)
+named_words : (names : NameTexts) (words : List (List ℕ)) (target : Target) → is_of names words target ≡ true → (entry_at words 0 ≡ kind_of target) × (entry_at words 3 ≡ name_of names target)
 unfolding is_of
 named_words names words (Task number) is =
-    let parts = and_parts (is_word words 0 (codes "report")) (bytes_eq (word_at words 3) (word_at names.tasks number)) is in
-    (same_bytes (word_at words 0) (codes "report") parts.0, same_bytes (word_at words 3) (word_at names.tasks number) parts.1)
+    let parts = and_parts (is_word words 0 (codes "report")) (bytes_eq (entry_at words 3) (entry_at names.tasks number)) is in
+    (same_bytes (entry_at words 0) (codes "report") parts.0, same_bytes (entry_at words 3) (entry_at names.tasks number) parts.1)
 named_words names words (Link number) is =
-    let parts = and_parts (is_word words 0 (codes "capacity")) (bytes_eq (word_at words 3) (word_at names.links number)) is in
-    (same_bytes (word_at words 0) (codes "capacity") parts.0, same_bytes (word_at words 3) (word_at names.links number) parts.1)
+    let parts = and_parts (is_word words 0 (codes "capacity")) (bytes_eq (entry_at words 3) (entry_at names.links number)) is in
+    (same_bytes (entry_at words 0) (codes "capacity") parts.0, same_bytes (entry_at words 3) (entry_at names.links number) parts.1)
 
 pub report_read : (names : NameTexts) (words : List (List ℕ)) (told : ReportWords) (target : Target) → report_of names words ≡ Some told → is_of names words target ≡ true
     → (words ≡ report_line names told.place (record { reporter = told.reporter; target = target; amount = told.amount })) × (told.reporter < length names.reporters)
 unfolding report_of
 report_read names words told target is of =
-    let parts = passed ((length words == 5) && is_of_known names words) (report_words (number_at words 1) (position (bytes_eq (word_at words 2)) names.reporters) (number_at words 4)) told is in
+    let parts = passed ((length words == 5) && is_of_known names words) (report_words (number_at words 1) (position (bytes_eq (entry_at words 2)) names.reporters) (number_at words 4)) told is in
     let five = and_parts (length words == 5) (is_of_known names words) parts.0 in
-    let numbers = three_told (number_at words 1) (position (bytes_eq (word_at words 2)) names.reporters) (number_at words 4) told parts.1 in
-    let here = position-Some (bytes_eq (word_at words 2)) names.reporters told.reporter [] numbers.1 in
+    let numbers = three_told (number_at words 1) (position (bytes_eq (entry_at words 2)) names.reporters) (number_at words 4) told parts.1 in
+    let here = position-Some (bytes_eq (entry_at words 2)) names.reporters told.reporter [] numbers.1 in
     let named = named_words names words target of in
-    let all : words ≡ word_at words 0 ∷ word_at words 1 ∷ word_at words 2 ∷ word_at words 3 ∷ word_at words 4 ∷ [] = listed_from 0 5 words (eqb-true (length words) 5 five.0) in
-    let w1 : word_at words 1 ≡ decimal told.place = (number_read (word_at words 1) told.place numbers.0).0 in
-    let w2 : word_at words 2 ≡ word_at names.reporters told.reporter = same_bytes (word_at words 2) (word_at names.reporters told.reporter) here.1 in
-    let w4 : word_at words 4 ≡ decimal told.amount = (number_read (word_at words 4) told.amount numbers.2).0 in
-    let w0 : word_at words 0 ≡ kind_of target = named.0 in
-    let w3 : word_at words 3 ≡ name_of names target = named.1 in
+    let all : words ≡ entry_at words 0 ∷ entry_at words 1 ∷ entry_at words 2 ∷ entry_at words 3 ∷ entry_at words 4 ∷ [] = listed_from 0 5 words (eqb-true (length words) 5 five.0) in
+    let w1 : entry_at words 1 ≡ decimal told.place = (number_read (entry_at words 1) told.place numbers.0).0 in
+    let w2 : entry_at words 2 ≡ entry_at names.reporters told.reporter = same_bytes (entry_at words 2) (entry_at names.reporters told.reporter) here.1 in
+    let w4 : entry_at words 4 ≡ decimal told.amount = (number_read (entry_at words 4) told.amount numbers.2).0 in
+    let w0 : entry_at words 0 ≡ kind_of target = named.0 in
+    let w3 : entry_at words 3 ≡ name_of names target = named.1 in
     (all ∙ cc, here.0)

@@ -6,8 +6,7 @@ use Rattle.std.proofs.lemmas.List.{length-append, get_or_at}
 use Rattle.std.proofs.lemmas.Bool.{and_from, and_parts, eq-eqb, eqb-true, le-ltb, lt-ltb, ne_eqb}
 use Rattle.bwe_specs.specs.declared.report.Report.{Report}
 use Rattle.text_scan.specs.Words.{words_of}
-use Rattle.run_audit.specs.Words.{word_at}
-use Rattle.doc_names.specs.NameTexts.{NameTexts}
+use Rattle.doc_names.specs.NameTexts.{NameTexts, entry_at}
 use Rattle.run_audit.specs.Forms.{sent_of}
 use Rattle.run_audit.specs.Walk.{Walk, Walked, after_line, after_reporter, after_table, due_from, is_over, is_reader, leads_to, sent_leads, step_from, with_table}
 use Rattle.run_audit.specs.Verdict.{at_end, go_on, is_total, judge}
@@ -133,7 +132,7 @@ module _ (names : NameTexts) (scripts : List (List Report)) (total_at : ℕ → 
         ap (λ (words : List (List ℕ)). with_table table (sent_leads names scripts next words (sent_of names words))) (words_printed line (omega arith) (sent_clean names are next sent small))
         ∙ ap (λ (told : Option ℕ). with_table table (sent_leads names scripts next line told)) (sent_printed names next sent (omega (arith, within, named)) small)
         ∙ ap (λ (b : Bool). with_table table (cond {A = Result Step AuditCause} b (leads_to (due_from scripts (next + 1))) (Err causes.Sent)))
-        (and_from (bytes_eq (word_at names.reporters next) (word_at names.reporters next)) (sent == sent) (itself (word_at names.reporters next)) (eq-eqb sent sent refl))
+        (and_from (bytes_eq (entry_at names.reporters next) (entry_at names.reporters next)) (sent == sent) (itself (entry_at names.reporters next)) (eq-eqb sent sent refl))
       where
         sent : ℕ
         sent = length (slice_index_or scripts next [])
@@ -175,13 +174,13 @@ module _ (names : NameTexts) (scripts : List (List Report)) (total_at : ℕ → 
     go : (sent : Option ℕ) → sent_of names (words_of line) ≡ sent → with_table table (sent_leads names scripts next (words_of line) sent) ≡ Ok walked
         → (line ≡ spaced (sent_line names next (length (slice_index_or scripts next [])))) × (walked ≡ record { walk = record { due = due_from scripts (next + 1); table = table }; shown = None })
     go None read e = absurd cc
-    go (Some sent) read e = test (bytes_eq (word_at (words_of line) 1) (word_at names.reporters next) && (sent == length (slice_index_or scripts next []))) refl e where
-      test : (b : Bool) → (bytes_eq (word_at (words_of line) 1) (word_at names.reporters next) && (sent == length (slice_index_or scripts next []))) ≡ b
+    go (Some sent) read e = test (bytes_eq (entry_at (words_of line) 1) (entry_at names.reporters next) && (sent == length (slice_index_or scripts next []))) refl e where
+      test : (b : Bool) → (bytes_eq (entry_at (words_of line) 1) (entry_at names.reporters next) && (sent == length (slice_index_or scripts next []))) ≡ b
           → with_table table (cond {A = Result Step AuditCause} b (leads_to (due_from scripts (next + 1))) (Err causes.Sent)) ≡ Ok walked
           → (line ≡ spaced (sent_line names next (length (slice_index_or scripts next [])))) × (walked ≡ record { walk = record { due = due_from scripts (next + 1); table = table }; shown = None })
       test false right e = absurd cc
       test true right e =
-          let parts = and_parts (bytes_eq (word_at (words_of line) 1) (word_at names.reporters next)) (sent == length (slice_index_or scripts next [])) right in (
+          let parts = and_parts (bytes_eq (entry_at (words_of line) 1) (entry_at names.reporters next)) (sent == length (slice_index_or scripts next [])) right in (
             spaced_words line ∙ ap spaced (sent_read names (words_of line) next sent read parts.0)
                 ∙ ap (λ (n : ℕ). spaced (sent_line names next n)) (eqb-true sent (length (slice_index_or scripts next [])) parts.1),
             cc,

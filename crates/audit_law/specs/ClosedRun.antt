@@ -10,14 +10,10 @@ use Rattle.limit_table.specs.Tables.{total_of as table_total}
 use Rattle.crew_log.specs.declared.log.CrewLog.{CrewLog}
 use Rattle.crew_log.specs.LegalCrewLog.{IsClosed, IsLegalCrewLog}
 use Rattle.run_text.specs.RunText.{run_text_of}
-use Rattle.doc_names.specs.NameTexts.{NameTexts}
+use Rattle.doc_names.specs.NameTexts.{IsPlain, NameTexts}
 use Rattle.run_audit.specs.History.{scripts_of, total_of}
 
 -- ---- what is asked of names and scripts
-
--- the name has no line feed (10) and no space (32)
-abbrev pub IsPlain : List ℕ → Type 0
-IsPlain name = All (λ byte. (byte ≢ 10) × (byte ≢ 32)) name
 
 -- no name has a line feed or a space, and no two reporters have one name
 pub record AreNames (names : NameTexts) : Type 0 where

@@ -6,8 +6,8 @@ use Rattle.std.proofs.lemmas.Fmt.{decimal_injective}
 use Rattle.std.proofs.lemmas.List.{append-nil, append_cancel_left, append_cancel_right, get_or_default}
 use Rattle.std.proofs.lemmas.Slice.Eq.{bytes_eq-Decides}
 use Rattle.bwe_specs.specs.Allocation.{GroupLine}
-use Rattle.doc_names.specs.NameTexts.{NameTexts}
-use Rattle.table_text.specs.TableText.{name_at, group_lines, value_line}
+use Rattle.doc_names.specs.NameTexts.{NameTexts, entry_at}
+use Rattle.table_text.specs.TableText.{group_lines, value_line}
 use Rattle.change_text.specs.ChangeText.{changed}
 
 -- ---- what is printed the same, and what is not
@@ -63,11 +63,11 @@ apart before after m n small few e =
 pub same_value : (word between : List ℕ) (names : List (List ℕ)) (earlier later : List ℕ) (number : ℕ) → slice_index earlier number ≡ slice_index later number
     → changed (value_line word between names earlier) (value_line word between names later) number ≡ []
 same_value word between names earlier later number e =
-    same_lines (value_line word between names earlier) (value_line word between names later) number (ap (λ (n : ℕ). word ++ name_at names number ++ between ++ decimal n ++ codes "\n") e)
+    same_lines (value_line word between names earlier) (value_line word between names later) number (ap (λ (n : ℕ). word ++ entry_at names number ++ between ++ decimal n ++ codes "\n") e)
 
 pub other_value : (word between : List ℕ) (names : List (List ℕ)) (earlier later : List ℕ) (number : ℕ) → slice_index earlier number < 2 ^ 64 → slice_index later number < 2 ^ 64
     → slice_index earlier number ≢ slice_index later number
     → changed (value_line word between names earlier) (value_line word between names later) number ≡ value_line word between names later number
 other_value word between names earlier later number small few differ =
     other_lines (value_line word between names earlier) (value_line word between names later) number
-    (λ e. differ (apart (word ++ name_at names number ++ between) (codes "\n") (slice_index earlier number) (slice_index later number) small few e))
+    (λ e. differ (apart (word ++ entry_at names number ++ between) (codes "\n") (slice_index earlier number) (slice_index later number) small few e))

@@ -19,7 +19,7 @@ use Rattle.text_scan.specs.Names.{number_of_name}
 use Rattle.text_scan.specs.Numbers.{is_number, number_of}
 use Rattle.text_scan.specs.Words.{words_of}
 use Rattle.text_scan.proofs.NumberFacts.{ascii_numerals}
-use Rattle.table_text.specs.TableText.{name_at}
+use Rattle.doc_names.specs.NameTexts.{entry_at}
 use Rattle.live_lines.specs.declared.line.LineMeaning.TheVariants.{NewReport}
 use Rattle.live_lines.specs.Known.{Known, owner_of}
 use Rattle.live_lines.specs.Cutting.{within}
@@ -160,10 +160,10 @@ by_target known reporter amount (Task task) names there in_range few owned =
     let t = names.tasks task in_range in
     let digits = plain_digits (decimal amount) (digits_decimal ascii_numerals amount small) in
     subst (λ (line : Text). IsRead known (record { reporter = reporter; target = Task task; amount = amount }) line)
-    (sym (shape (codes "demand") (name_at known.names.reporters reporter) (name_at known.names.tasks task) (decimal amount))) (
-      short (codes "demand") (name_at known.names.reporters reporter) (name_at known.names.tasks task) (decimal amount) (omega arith) r.0.few t.0.few (length-decimal-le 20 amount (omega arith) (omega (arith, small)) small),
-      said known (record { reporter = reporter; target = Task task; amount = amount }) (codes "demand") (name_at known.names.reporters reporter) (name_at known.names.tasks task) (decimal amount) refl r.0.plain t.0.plain digits
-          (demand_of known reporter task amount (name_at known.names.reporters reporter) (name_at known.names.tasks task) r.0.some t.0.some r.1 t.1 few owned),
+    (sym (shape (codes "demand") (entry_at known.names.reporters reporter) (entry_at known.names.tasks task) (decimal amount))) (
+      short (codes "demand") (entry_at known.names.reporters reporter) (entry_at known.names.tasks task) (decimal amount) (omega arith) r.0.few t.0.few (length-decimal-le 20 amount (omega arith) (omega (arith, small)) small),
+      said known (record { reporter = reporter; target = Task task; amount = amount }) (codes "demand") (entry_at known.names.reporters reporter) (entry_at known.names.tasks task) (decimal amount) refl r.0.plain t.0.plain digits
+          (demand_of known reporter task amount (entry_at known.names.reporters reporter) (entry_at known.names.tasks task) r.0.some t.0.some r.1 t.1 few owned),
     )
 by_target known reporter amount (Link link) names there in_range few owned =
     let small : amount < 2 ^ 64 = omega (arith, few) in
@@ -171,10 +171,10 @@ by_target known reporter amount (Link link) names there in_range few owned =
     let t = names.links link in_range in
     let digits = plain_digits (decimal amount) (digits_decimal ascii_numerals amount small) in
     subst (λ (line : Text). IsRead known (record { reporter = reporter; target = Link link; amount = amount }) line)
-    (sym (shape (codes "capacity") (name_at known.names.reporters reporter) (name_at known.names.links link) (decimal amount))) (
-      short (codes "capacity") (name_at known.names.reporters reporter) (name_at known.names.links link) (decimal amount) (omega arith) r.0.few t.0.few (length-decimal-le 20 amount (omega arith) (omega (arith, small)) small),
-      said known (record { reporter = reporter; target = Link link; amount = amount }) (codes "capacity") (name_at known.names.reporters reporter) (name_at known.names.links link) (decimal amount) refl r.0.plain t.0.plain digits
-          (capacity_of known reporter link amount (name_at known.names.reporters reporter) (name_at known.names.links link) r.0.some t.0.some r.1 t.1 few owned),
+    (sym (shape (codes "capacity") (entry_at known.names.reporters reporter) (entry_at known.names.links link) (decimal amount))) (
+      short (codes "capacity") (entry_at known.names.reporters reporter) (entry_at known.names.links link) (decimal amount) (omega arith) r.0.few t.0.few (length-decimal-le 20 amount (omega arith) (omega (arith, small)) small),
+      said known (record { reporter = reporter; target = Link link; amount = amount }) (codes "capacity") (entry_at known.names.reporters reporter) (entry_at known.names.links link) (decimal amount) refl r.0.plain t.0.plain digits
+          (capacity_of known reporter link amount (entry_at known.names.reporters reporter) (entry_at known.names.links link) r.0.some t.0.some r.1 t.1 few owned),
     )
 
 pub lines_are_read : StateLinesAreRead

@@ -4,7 +4,7 @@ use Rattle.std.specs.List.{list_all}
 use Rattle.bwe_specs.specs.declared.report.Report.{Report}
 use Rattle.demand_book.specs.Fit.{IsFit}
 use Rattle.text_scan.specs.Names.{number_of_name}
-use Rattle.table_text.specs.TableText.{name_at}
+use Rattle.doc_names.specs.NameTexts.{entry_at}
 use Rattle.live_lines.specs.declared.line.LineMeaning.TheVariants.{NewReport}
 use Rattle.live_lines.specs.Known.{Known, IsByOwner}
 use Rattle.live_lines.specs.Cutting.{within}
@@ -24,7 +24,7 @@ pub record IsName (text : List ℕ) : Type 0 where
 -- each is a name, and stands first at its own number
 abbrev pub AreNames : List (List ℕ) → Type 0
 AreNames names = (number : ℕ) → number < length names
-    → IsName (name_at names number) × (number_of_name names (name_at names number) ≡ Some number)
+    → IsName (entry_at names number) × (number_of_name names (entry_at names number) ≡ Some number)
 
 pub record AreReadable (known : Known) : Type 0 where
   pub reporters : AreNames known.names.reporters

@@ -4,15 +4,14 @@ use Rattle.std.specs.Prelude.{ℕ, ◌++◌, List, flat_map, codes, decimal}
 use Rattle.bwe_specs.specs.declared.report.Report.{Report}
 use Rattle.bwe_specs.specs.declared.report.Target.{Target}
 use Rattle.bwe_specs.specs.declared.report.Target.TheVariants.{Task, Link}
-use Rattle.doc_names.specs.NameTexts.{NameTexts}
-use Rattle.table_text.specs.TableText.{name_at}
+use Rattle.doc_names.specs.NameTexts.{NameTexts, entry_at}
 
 -- `demand REPORTER TASK`, or `capacity REPORTER LINK`
 unfoldable pub report_words : NameTexts → ℕ → Target → List ℕ
 report_words names reporter (Task task) =
-    codes "demand " ++ name_at names.reporters reporter ++ codes " " ++ name_at names.tasks task
+    codes "demand " ++ entry_at names.reporters reporter ++ codes " " ++ entry_at names.tasks task
 report_words names reporter (Link link) =
-    codes "capacity " ++ name_at names.reporters reporter ++ codes " " ++ name_at names.links link
+    codes "capacity " ++ entry_at names.reporters reporter ++ codes " " ++ entry_at names.links link
 
 -- a report as a line of the input, without its line feed
 abbrev pub report_text : NameTexts → Report → List ℕ

@@ -1,5 +1,6 @@
 -- The names of a document as texts. A text is the list of its bytes.
-use Rattle.std.specs.Prelude.{ℕ, List, map, string_bytes}
+use Rattle.std.specs.Prelude.{◌≢◌, ℕ, List, [], map, slice_index_or, string_bytes}
+use Rattle.std.specs.List.{All}
 use Rattle.doc_names.specs.declared.Names.{Names}
 
 -- the texts of the names, each list in the order of the numbers
@@ -17,3 +18,11 @@ texts_of names = record {
   tasks = map string_bytes names.tasks.items;
   reporters = map string_bytes names.reporters.items;
 }
+
+-- the entry of a list of texts at this number; an empty text where there is no such entry
+abbrev pub entry_at : List (List ℕ) → ℕ → List ℕ
+entry_at texts number = slice_index_or texts number []
+
+-- the name has no line feed (10) and no space (32)
+abbrev pub IsPlain : List ℕ → Type 0
+IsPlain name = All (λ byte. (byte ≢ 10) × (byte ≢ 32)) name

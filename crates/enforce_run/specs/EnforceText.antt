@@ -4,7 +4,7 @@ use Rattle.bwe_specs.specs.Reports.{numbers}
 use Rattle.enforcer_core.specs.declared.event.WorldAnswer.{WorldAnswer}
 use Rattle.enforcer_core.specs.declared.event.WorldAnswer.TheVariants.{Posted, Sent, Took, Older, Acked, Restarted}
 use Rattle.enforcer_core.specs.World.{World, acked_at, limit_in_force, prefix_in_force, region_at, settled_of, tasks_at}
-use Rattle.table_text.specs.TableText.{name_at}
+use Rattle.doc_names.specs.NameTexts.{entry_at}
 use Rattle.bwe_specs.specs.declared.report.Report.{Report}
 use Rattle.enforce_run.specs.declared.event.EventLine.{EventLine}
 use Rattle.enforce_run.specs.Playing.{played_of}
@@ -39,7 +39,7 @@ limit_text name (Some limit) =
 
 abbrev pub limit_line : {T : Type 0} → List (List ℕ) → World T → ℕ → ℕ → List ℕ
 limit_line names world region place =
-    limit_text (name_at names (slice_index (tasks_at world region) place))
+    limit_text (entry_at names (slice_index (tasks_at world region) place))
     (limit_in_force world region place)
 
 -- a region's line, and under it the limits in force

@@ -14,13 +14,12 @@ use Rattle.allocator.specs.Frames.{task_count}
 use Rattle.last_reports.specs.Compaction.{last_report}
 use Rattle.last_reports.specs.Snapshot.{snapshot}
 use Rattle.plan_doc.specs.Plans.{plan_of}
-use Rattle.table_text.specs.TableText.{name_at}
 use Rattle.table_laws.proofs.Named.{all-reverse}
 use Rattle.live_lines.specs.Cutting.{Held, within, with_byte, lines_from, held_after, last_line, all_lines}
 use Rattle.live_lines.specs.Known.{Known}
 use Rattle.live_lines.specs.Meaning.{meaning_of}
 use Rattle.live_lines.specs.declared.line.LineMeaning.TheVariants.{NewReport}
-use Rattle.doc_names.specs.NameTexts.{NameTexts}
+use Rattle.doc_names.specs.NameTexts.{NameTexts, entry_at}
 use Rattle.change_text.specs.StateText.{report_words, report_text, report_line, state_text_of}
 use Rattle.change_text.specs.StateLaw.{AreReadable, is_plain}
 use Rattle.change_text.proofs.StateFacts.{lines_are_read}
@@ -87,14 +86,14 @@ module _ (known : Known) (names : AreReadable known) where
       → Unfed (report_words known.names reporter target)
   unfolding report_words
   unfed-words reporter (Task task) there in_range =
-      unfed-append (codes "demand " ++ name_at known.names.reporters reporter ++ codes " ") (name_at known.names.tasks task)
-      (unfed-append (codes "demand " ++ name_at known.names.reporters reporter) (codes " ")
-      (unfed-append (codes "demand ") (name_at known.names.reporters reporter) (refl, (refl, (refl, (refl, (refl, (refl, (refl, tt))))))) (unfed-plain _ (names.reporters reporter there).0.plain)) (refl, tt))
+      unfed-append (codes "demand " ++ entry_at known.names.reporters reporter ++ codes " ") (entry_at known.names.tasks task)
+      (unfed-append (codes "demand " ++ entry_at known.names.reporters reporter) (codes " ")
+      (unfed-append (codes "demand ") (entry_at known.names.reporters reporter) (refl, (refl, (refl, (refl, (refl, (refl, (refl, tt))))))) (unfed-plain _ (names.reporters reporter there).0.plain)) (refl, tt))
       (unfed-plain _ (names.tasks task in_range).0.plain)
   unfed-words reporter (Link link) there in_range =
-      unfed-append (codes "capacity " ++ name_at known.names.reporters reporter ++ codes " ") (name_at known.names.links link)
-      (unfed-append (codes "capacity " ++ name_at known.names.reporters reporter) (codes " ")
-      (unfed-append (codes "capacity ") (name_at known.names.reporters reporter) (refl, (refl, (refl, (refl, (refl, (refl, (refl, (refl, (refl, tt))))))))) (unfed-plain _ (names.reporters reporter there).0.plain)) (refl, tt))
+      unfed-append (codes "capacity " ++ entry_at known.names.reporters reporter ++ codes " ") (entry_at known.names.links link)
+      (unfed-append (codes "capacity " ++ entry_at known.names.reporters reporter) (codes " ")
+      (unfed-append (codes "capacity ") (entry_at known.names.reporters reporter) (refl, (refl, (refl, (refl, (refl, (refl, (refl, (refl, (refl, tt))))))))) (unfed-plain _ (names.reporters reporter there).0.plain)) (refl, tt))
       (unfed-plain _ (names.links link in_range).0.plain)
 
   unfed-text : (report : Report) → IsSaid known report → Unfed (text report)

@@ -1,8 +1,8 @@
 -- The forms of the lines before the table: which words they have, and what these say.
 use Rattle.std.specs.Prelude.{ℕ, Bool, ◌==◌, ◌&&◌, ◌||◌, List, length, Option, Some, None, if◌then◌else◌, codes, position}
 use Rattle.std.specs.Str.{bytes_eq}
-use Rattle.doc_names.specs.NameTexts.{NameTexts}
-use Rattle.run_audit.specs.Words.{is_known, is_word, number_at, word_at}
+use Rattle.doc_names.specs.NameTexts.{NameTexts, entry_at}
+use Rattle.run_audit.specs.Words.{is_known, is_word, number_at}
 use Rattle.run_audit.specs.declared.forms.ReportWords.{ReportWords}
 use Rattle.run_audit.specs.declared.forms.ReaderWords.{ReaderWords}
 use Rattle.run_audit.specs.declared.forms.Shown.{Shown}
@@ -15,8 +15,8 @@ history_of words =
 -- the first word goes with the name in the fourth: a task's in a report, a link's in a capacity
 unfoldable pub is_of_known : NameTexts → List (List ℕ) → Bool
 is_of_known names words =
-    (is_word words 0 (codes "report") && is_known names.tasks (word_at words 3))
-    || (is_word words 0 (codes "capacity") && is_known names.links (word_at words 3))
+    (is_word words 0 (codes "report") && is_known names.tasks (entry_at words 3))
+    || (is_word words 0 (codes "capacity") && is_known names.links (entry_at words 3))
 
 abbrev pub report_words : Option ℕ → Option ℕ → Option ℕ → Option ReportWords
 report_words None reporter amount = None
@@ -29,7 +29,7 @@ report_words (Some place) (Some reporter) (Some amount) =
 unfoldable pub report_of : NameTexts → List (List ℕ) → Option ReportWords
 report_of names words =
     if (length words == 5) && is_of_known names words
-    then report_words (number_at words 1) (position (bytes_eq (word_at words 2)) names.reporters)
+    then report_words (number_at words 1) (position (bytes_eq (entry_at words 2)) names.reporters)
     (number_at words 4) else None
 
 -- the number in `reporter <reporter> sent <number>`
@@ -37,7 +37,7 @@ unfoldable pub sent_of : NameTexts → List (List ℕ) → Option ℕ
 sent_of names words =
     if (length words == 4)
     && (is_word words 0 (codes "reporter")
-    && (is_word words 2 (codes "sent") && is_known names.reporters (word_at words 1)))
+    && (is_word words 2 (codes "sent") && is_known names.reporters (entry_at words 1)))
     then number_at words 3 else None
 
 abbrev pub reader_words : Option ℕ → Option ℕ → Option ReaderWords

@@ -6,8 +6,8 @@ use Rattle.bwe_specs.specs.declared.report.Target.{Target}
 use Rattle.bwe_specs.specs.declared.report.Target.TheVariants.{Task, Link}
 use Rattle.bwe_specs.specs.declared.report.Report.{Report}
 use Rattle.text_scan.specs.Words.{words_of}
-use Rattle.run_audit.specs.Words.{is_word, word_at}
-use Rattle.doc_names.specs.NameTexts.{NameTexts}
+use Rattle.run_audit.specs.Words.{is_word}
+use Rattle.doc_names.specs.NameTexts.{NameTexts, entry_at}
 use Rattle.run_audit.specs.Forms.{history_of, report_of}
 use Rattle.run_audit.specs.declared.forms.ReportWords.{ReportWords}
 use Rattle.run_audit.specs.declared.verdict.AuditCause.{AuditCause}
@@ -47,9 +47,9 @@ next_of scripts taken reporter =
 -- the line is of this task or link
 unfoldable pub is_of : NameTexts → List (List ℕ) → Target → Bool
 is_of names words (Task number) =
-    is_word words 0 (codes "report") && bytes_eq (word_at words 3) (word_at names.tasks number)
+    is_word words 0 (codes "report") && bytes_eq (entry_at words 3) (entry_at names.tasks number)
 is_of names words (Link number) =
-    is_word words 0 (codes "capacity") && bytes_eq (word_at words 3) (word_at names.links number)
+    is_word words 0 (codes "capacity") && bytes_eq (entry_at words 3) (entry_at names.links number)
 
 -- the line is of this report, and in its place
 unfoldable pub is_line_of : NameTexts → List (List ℕ) → ReportWords → ℕ → Report → Bool

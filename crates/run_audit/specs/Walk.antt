@@ -4,8 +4,7 @@ use Rattle.std.specs.List.{starts_with}
 use Rattle.std.specs.Str.{bytes_eq}
 use Rattle.bwe_specs.specs.declared.report.Report.{Report}
 use Rattle.text_scan.specs.Words.{words_of}
-use Rattle.run_audit.specs.Words.{word_at}
-use Rattle.doc_names.specs.NameTexts.{NameTexts}
+use Rattle.doc_names.specs.NameTexts.{NameTexts, entry_at}
 use Rattle.run_audit.specs.Forms.{reader_of, sent_of, shown_of}
 use Rattle.run_audit.specs.History.{total_of}
 use Rattle.run_audit.specs.declared.forms.ReaderWords.{ReaderWords}
@@ -31,7 +30,7 @@ abbrev pub sent_leads : NameTexts → List (List Report) → ℕ → List (List 
     → Result Step AuditCause
 sent_leads names scripts next words None = Err causes.Form
 sent_leads names scripts next words (Some sent) =
-    if bytes_eq (word_at words 1) (word_at names.reporters next)
+    if bytes_eq (entry_at words 1) (entry_at names.reporters next)
     && (sent == length (slice_index_or scripts next []))
     then leads_to (due_from scripts (next + 1)) else Err causes.Sent
 

@@ -2,8 +2,8 @@
 ghost use Rattle.std.specs.Prelude.{◌≡◌, ◌&&◌, ◌==◌, codes, length, map, position, string_bytes};
 ghost use Rattle.std.specs.Str.{bytes_eq};
 ghost use Rattle.text_scan.specs.Words.{words_of};
-ghost use Rattle.run_audit.specs.Words.{is_known as is_known_word, word_at};
-ghost use Rattle.doc_names.specs.NameTexts.{texts_of};
+ghost use Rattle.run_audit.specs.Words.{is_known as is_known_word};
+ghost use Rattle.doc_names.specs.NameTexts.{entry_at, texts_of};
 ghost use Rattle.run_audit.specs.Forms.{history_of as history_words, is_of_known as is_of_known_words, reader_of as reader_words, report_of as report_words, sent_of as sent_words, shown_of as shown_words};
 
 use crate::words::{LineWords, is_known, split};
@@ -61,7 +61,7 @@ pub(crate) fn report_of(
     line: &LineWords<'_>,
 ) -> Option<ReportWords>
     requires reporter { reporter
-        ≡ position (bytes_eq (word_at line.now 2)) (map string_bytes names.now.reporters.items) }
+        ≡ position (bytes_eq (entry_at line.now 2)) (map string_bytes names.now.reporters.items) }
     ensures { result ≡ report_words (texts_of names.now) line.now }
 {
     if line.count() == 5 && is_of_known(names, likely, line) {
@@ -77,7 +77,7 @@ pub(crate) fn report_of(
 /// The number of the reporter that a report's line names.
 pub(crate) fn reporter_of(names: &Names, line: &LineWords<'_>) -> Option<usize>
     ensures { result
-        ≡ position (bytes_eq (word_at line.now 2)) (map string_bytes names.now.reporters.items) }
+        ≡ position (bytes_eq (entry_at line.now 2)) (map string_bytes names.now.reporters.items) }
 {
     let word = line.word(2);
     names

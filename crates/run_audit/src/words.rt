@@ -1,7 +1,8 @@
 //! The words of a line, and the numbers and names among them.
 ghost use Rattle.std.specs.Prelude.{◌≡◌, ◌<◌, length, map, string_bytes, IfNone, IfSome};
 ghost use Rattle.text_scan.specs.Words.{words_of};
-ghost use Rattle.run_audit.specs.Words.{is_known as is_known_word, is_word as is_word_of, number_at as number_in, word_at};
+ghost use Rattle.doc_names.specs.NameTexts.{entry_at};
+ghost use Rattle.run_audit.specs.Words.{is_known as is_known_word, is_word as is_word_of, number_at as number_in};
 
 use std::marker::Model;
 use text_scan::{cut_at, printed_number_of};
@@ -54,7 +55,7 @@ impl<'a> LineWords<'a> {
 
     /// The word in this place, an empty one where the line has no such word.
     pub(crate) fn word(&self, place: usize) -> &'a [u8]
-        ensures { result.now ≡ word_at self.now place }
+        ensures { result.now ≡ entry_at self.now place }
     {
         if place < self.count {
             return self.words[place];
@@ -86,7 +87,7 @@ pub(crate) fn is_known(names: &[String], word: &[u8]) -> bool
 
 /// The name of a number, an empty one where it has none.
 pub(crate) fn name_of(names: &[String], number: usize) -> &[u8]
-    ensures { result.now ≡ word_at (map string_bytes names.now) number }
+    ensures { result.now ≡ entry_at (map string_bytes names.now) number }
 {
     if number < names.len() {
         return names[number].as_bytes();

@@ -4,11 +4,11 @@ use Rattle.bwe_specs.specs.Allocation.{Table}
 use Rattle.bwe_specs.specs.declared.report.Target.{Target}
 use Rattle.bwe_specs.specs.declared.report.Target.TheVariants.{Task, Link}
 use Rattle.bwe_specs.specs.declared.report.Report.{Report}
-use Rattle.doc_names.specs.NameTexts.{NameTexts}
+use Rattle.doc_names.specs.NameTexts.{NameTexts, entry_at}
 use Rattle.crew_log.specs.declared.log.ReadLine.{ReadLine}
 use Rattle.crew_log.specs.declared.log.ReaderLog.{ReaderLog}
 use Rattle.crew_log.specs.declared.log.CrewLog.{CrewLog}
-use Rattle.table_text.specs.TableText.{name_at, text_of}
+use Rattle.table_text.specs.TableText.{text_of}
 
 -- the text of each item, with its number, one after another
 abbrev pub numbered : {A : Type 0} → (ℕ → A → List ℕ) → ℕ → List A → List ℕ
@@ -27,13 +27,13 @@ beyond_word (Link number) = codes "beyond capacity "
 
 -- the name of a report's task or link
 unfoldable pub target_name : NameTexts → Target → List ℕ
-target_name names (Task number) = name_at names.tasks number
-target_name names (Link number) = name_at names.links number
+target_name names (Task number) = entry_at names.tasks number
+target_name names (Link number) = entry_at names.links number
 
 -- a report's place, reporter, target and amount
 abbrev pub told : NameTexts → ℕ → Report → List ℕ
 told names place report =
-    decimal place ++ codes " " ++ name_at names.reporters report.reporter ++ codes " "
+    decimal place ++ codes " " ++ entry_at names.reporters report.reporter ++ codes " "
     ++ target_name names report.target ++ codes " " ++ decimal report.amount ++ codes "\n"
 
 -- a report of the history
@@ -47,7 +47,7 @@ beyond_line names place report = beyond_word report.target ++ told names place r
 -- how many reports a reporter sent
 abbrev pub sent_line : NameTexts → ℕ → ℕ → List ℕ
 sent_line names number sent =
-    codes "reporter " ++ name_at names.reporters number ++ codes " sent " ++ decimal sent
+    codes "reporter " ++ entry_at names.reporters number ++ codes " sent " ++ decimal sent
     ++ codes "\n"
 
 -- what one read showed

@@ -1,5 +1,5 @@
 -- A table is read back of its text.
-use Rattle.std.proofs.Common.{◌≡◌, ℕ, ◌<◌, ◌^◌, Bool, false, ◌==◌, List, [], ◌∷◌, ◌++◌, length, flat_map, get_or, drop, sum_by, codes, decimal, Option, Some, None, refl, sym, ◌∙◌, ap, ap₂, arith, append_assoc, append-nil, ne_eqb, inl, inr}
+use Rattle.std.proofs.Common.{◌≡◌, ◌≢◌, ℕ, ◌<◌, ◌^◌, Bool, false, ◌==◌, List, [], ◌∷◌, ◌++◌, length, flat_map, get_or, drop, sum_by, codes, decimal, Option, Some, None, refl, sym, ◌∙◌, ap, ap₂, arith, append_assoc, append-nil, ne_eqb, inl, inr}
 use Rattle.std.specs.List.{All}
 use Rattle.std.proofs.lemmas.Bool.{cases_lt}
 use Rattle.std.proofs.lemmas.List.{append_cancel_left}
@@ -7,8 +7,8 @@ use Rattle.std.proofs.lemmas.List.Elements.{All-head, All-tail}
 use Rattle.bwe_specs.specs.declared.network.Closing.{Closing}
 use Rattle.bwe_specs.specs.Allocation.{GroupLine, PlaceLine, Table}
 use Rattle.bwe_specs.specs.Reports.{numbers}
-use Rattle.doc_names.specs.NameTexts.{NameTexts}
-use Rattle.table_text.specs.TableText.{name_at, closing_line, link_line, closed_text, place_line, group_lines, task_line, text_of}
+use Rattle.doc_names.specs.NameTexts.{IsPlain, NameTexts, entry_at}
+use Rattle.table_text.specs.TableText.{closing_line, link_line, closed_text, place_line, group_lines, task_line, text_of}
 use Rattle.table_laws.specs.Printing.{AreTelling, IsNamed, IsNamedClosing, IsNamedLine, IsNamedPlace}
 use Rattle.limit_table.proofs.Followed.{same-parts}
 use Rattle.table_laws.proofs.Reading.{in_word, IsWord, word-read, number-read, nest5, nest8, nest10, walk, walk-is, walk-plain, walk-mark, walk-read}
@@ -24,17 +24,17 @@ second_is byte text = get_or text 1 0 == byte
 abbrev never : List ℕ → Bool
 never text = false
 
-plain-word : (name : List ℕ) → All (λ byte. (byte ≡ 10 → ⊥) × (byte ≡ 32 → ⊥)) name → IsWord name
+plain-word : (name : List ℕ) → IsPlain name → IsWord name
 plain-word [] all = tt
 plain-word (byte ∷ bytes) all =
-    let here = All-head (λ byte. (byte ≡ 10 → ⊥) × (byte ≡ 32 → ⊥)) byte bytes all in
-    (rw (ne_eqb byte 10 here.0, ne_eqb byte 32 here.1) refl, plain-word bytes (All-tail (λ byte. (byte ≡ 10 → ⊥) × (byte ≡ 32 → ⊥)) byte bytes all))
+    let here = All-head (λ byte. (byte ≢ 10) × (byte ≢ 32)) byte bytes all in
+    (rw (ne_eqb byte 10 here.0, ne_eqb byte 32 here.1) refl, plain-word bytes (All-tail (λ byte. (byte ≢ 10) × (byte ≢ 32)) byte bytes all))
 
 module _ (names : NameTexts) (telling : AreTelling names) where
-  name-word : (link : ℕ) → link < length names.links → IsWord (name_at names.links link)
-  name-word link lt = plain-word (name_at names.links link) (telling.plain link [] lt)
+  name-word : (link : ℕ) → link < length names.links → IsWord (entry_at names.links link)
+  name-word link lt = plain-word (entry_at names.links link) (telling.plain link [] lt)
 
-  one-link : (one two : ℕ) → one < length names.links → two < length names.links → name_at names.links one ≡ name_at names.links two → one ≡ two
+  one-link : (one two : ℕ) → one < length names.links → two < length names.links → entry_at names.links one ≡ entry_at names.links two → one ≡ two
   one-link one two lt also same = elim (cases_lt one two) [
     | inl less ↦ absurd (telling.apart one two less also same)
     | inr over ↦ elim (cases_lt two one) [
@@ -44,9 +44,9 @@ module _ (names : NameTexts) (telling : AreTelling names) where
   ]
 
   name-read : (one two end stop : ℕ) (more rest : List ℕ) → one < length names.links → two < length names.links → in_word end ≡ false → in_word stop ≡ false
-      → name_at names.links one ++ end ∷ more ≡ name_at names.links two ++ stop ∷ rest → (one ≡ two) × (end ∷ more ≡ stop ∷ rest)
+      → entry_at names.links one ++ end ∷ more ≡ entry_at names.links two ++ stop ∷ rest → (one ≡ two) × (end ∷ more ≡ stop ∷ rest)
   name-read one two end stop more rest lt also ends stops same =
-      let both = word-read (name_at names.links one) (name_at names.links two) end stop more rest (name-word one lt) (name-word two also) ends stops same in
+      let both = word-read (entry_at names.links one) (entry_at names.links two) end stop more rest (name-word one lt) (name-word two also) ends stops same in
       (one-link one two lt also both.0, both.1)
 
   -- ---- closings
@@ -54,8 +54,8 @@ module _ (names : NameTexts) (telling : AreTelling names) where
   closing-read : (at : ℕ) (one two : Closing) (more rest : List ℕ) → IsNamedClosing names one → IsNamedClosing names two → never more ≡ false → never rest ≡ false
       → closing_line names one ++ more ≡ closing_line names two ++ rest → (one ≡ two) × (more ≡ rest)
   closing-read at one two more rest is also ends stops same =
-      let whole = sym (nest5 (codes "closing ") (name_at names.links one.link) (codes " at ") (decimal one.share) (codes "\n") more) ∙ same
-      ∙ nest5 (codes "closing ") (name_at names.links two.link) (codes " at ") (decimal two.share) (codes "\n") rest in
+      let whole = sym (nest5 (codes "closing ") (entry_at names.links one.link) (codes " at ") (decimal one.share) (codes "\n") more) ∙ same
+      ∙ nest5 (codes "closing ") (entry_at names.links two.link) (codes " at ") (decimal two.share) (codes "\n") rest in
       let named = name-read one.link two.link 32 32 (97 ∷ 116 ∷ 32 ∷ (decimal one.share ++ 10 ∷ more)) (97 ∷ 116 ∷ 32 ∷ (decimal two.share ++ 10 ∷ rest)) is.link also.link refl refl (ap (drop 8) whole) in
       let number = number-read one.share two.share 10 10 more rest is.share also.share refl refl (ap (drop 4) named.1) in
       (ap₂ (λ link share. record { link = link; share = share }) named.0 number.0, ap (drop 1) number.1)
@@ -63,14 +63,14 @@ module _ (names : NameTexts) (telling : AreTelling names) where
   -- ---- numbers under names
 
   abbrev numbered : List ℕ → List (List ℕ) → List ℕ → ℕ → ℕ → List ℕ
-  numbered word list then at number = word ++ name_at list at ++ then ++ decimal number ++ codes "\n"
+  numbered word list then at number = word ++ entry_at list at ++ then ++ decimal number ++ codes "\n"
 
   numbered-read : (word : List ℕ) (list : List (List ℕ)) (then : List ℕ) (at one two : ℕ) (more rest : List ℕ) → one < 2 ^ 64 → two < 2 ^ 64 → never more ≡ false → never rest ≡ false
       → numbered word list then at one ++ more ≡ numbered word list then at two ++ rest → (one ≡ two) × (more ≡ rest)
   numbered-read word list then at one two more rest small few ends stops same =
-      let whole = sym (nest5 word (name_at list at) then (decimal one) (codes "\n") more) ∙ same ∙ nest5 word (name_at list at) then (decimal two) (codes "\n") rest in
+      let whole = sym (nest5 word (entry_at list at) then (decimal one) (codes "\n") more) ∙ same ∙ nest5 word (entry_at list at) then (decimal two) (codes "\n") rest in
       let number = number-read one two 10 10 more rest small few refl refl
-      (append_cancel_left then _ _ (append_cancel_left (name_at list at) _ _ (append_cancel_left word _ _ whole))) in
+      (append_cancel_left then _ _ (append_cancel_left (entry_at list at) _ _ (append_cancel_left word _ _ whole))) in
       (number.0, ap (drop 1) number.1)
 
   -- ---- path groups
@@ -89,15 +89,15 @@ module _ (names : NameTexts) (telling : AreTelling names) where
       let number = number-read amount other 32 32 (111 ∷ 112 ∷ 101 ∷ 110 ∷ 10 ∷ more) (111 ∷ 112 ∷ 101 ∷ 110 ∷ 10 ∷ rest) is.amount also.amount refl refl same in
       (number.0, refl, ap (drop 6) number.1)
   closed-read amount other None (Some link) more rest is also same =
-      let number = number-read amount other 32 32 (111 ∷ 112 ∷ 101 ∷ 110 ∷ 10 ∷ more) (drop 1 (codes " closed by ") ++ name_at names.links link ++ codes "\n" ++ rest) is.amount also.amount refl refl same in
+      let number = number-read amount other 32 32 (111 ∷ 112 ∷ 101 ∷ 110 ∷ 10 ∷ more) (drop 1 (codes " closed by ") ++ entry_at names.links link ++ codes "\n" ++ rest) is.amount also.amount refl refl same in
       let apart : 111 ≡ 99 = ap (λ list. get_or list 1 0) number.1 in absurd (omega (arith, apart))
   closed-read amount other (Some link) None more rest is also same =
-      let number = number-read amount other 32 32 (drop 1 (codes " closed by ") ++ name_at names.links link ++ codes "\n" ++ more) (111 ∷ 112 ∷ 101 ∷ 110 ∷ 10 ∷ rest) is.amount also.amount refl refl same in
+      let number = number-read amount other 32 32 (drop 1 (codes " closed by ") ++ entry_at names.links link ++ codes "\n" ++ more) (111 ∷ 112 ∷ 101 ∷ 110 ∷ 10 ∷ rest) is.amount also.amount refl refl same in
       let apart : 99 ≡ 111 = ap (λ list. get_or list 1 0) number.1 in absurd (omega (arith, apart))
   closed-read amount other (Some link) (Some closer) more rest is also same =
-      let number = number-read amount other 32 32 (drop 1 (codes " closed by ") ++ name_at names.links link ++ codes "\n" ++ more) (drop 1 (codes " closed by ") ++ name_at names.links closer ++ codes "\n" ++ rest) is.amount also.amount refl refl same in
+      let number = number-read amount other 32 32 (drop 1 (codes " closed by ") ++ entry_at names.links link ++ codes "\n" ++ more) (drop 1 (codes " closed by ") ++ entry_at names.links closer ++ codes "\n" ++ rest) is.amount also.amount refl refl same in
       let named = name-read link closer 10 10 more rest is.closed also.closed refl refl
-      (sym (append_assoc (name_at names.links link) (codes "\n") more) ∙ ap (drop 11) number.1 ∙ append_assoc (name_at names.links closer) (codes "\n") rest) in
+      (sym (append_assoc (entry_at names.links link) (codes "\n") more) ∙ ap (drop 11) number.1 ∙ append_assoc (entry_at names.links closer) (codes "\n") rest) in
       (number.0, ap Some named.0, ap (drop 1) named.1)
 
   place-read : (at : ℕ) (one two : PlaceLine) (more rest : List ℕ) → IsNamedPlace names one → IsNamedPlace names two → never more ≡ false → never rest ≡ false
@@ -113,7 +113,7 @@ module _ (names : NameTexts) (telling : AreTelling names) where
 
   abbrev group_at : ℕ → GroupLine → List ℕ
   group_at at line =
-      codes "group " ++ name_at names.groups at ++ codes " share " ++ decimal line.share ++ codes " amount " ++ decimal line.amount ++ codes "\n"
+      codes "group " ++ entry_at names.groups at ++ codes " share " ++ decimal line.share ++ codes " amount " ++ decimal line.amount ++ codes "\n"
       ++ flat_map (place_line names line.places) (numbers (length line.places))
 
   abbrev line_parts : ℕ → ℕ → List PlaceLine → GroupLine
@@ -132,9 +132,9 @@ module _ (names : NameTexts) (telling : AreTelling names) where
       → group_at at one ++ more ≡ group_at at two ++ rest → (one ≡ two) × (more ≡ rest)
   group-read at one two more rest is also ends stops same =
       let places : GroupLine → List ℕ = λ line. flat_map (place_line names line.places) (numbers (length line.places)) in
-      let whole = sym (nest8 (codes "group ") (name_at names.groups at) (codes " share ") (decimal one.share) (codes " amount ") (decimal one.amount) (codes "\n") (places one) more) ∙ same
-      ∙ nest8 (codes "group ") (name_at names.groups at) (codes " share ") (decimal two.share) (codes " amount ") (decimal two.amount) (codes "\n") (places two) rest in
-      let after_name = append_cancel_left (name_at names.groups at)
+      let whole = sym (nest8 (codes "group ") (entry_at names.groups at) (codes " share ") (decimal one.share) (codes " amount ") (decimal one.amount) (codes "\n") (places one) more) ∙ same
+      ∙ nest8 (codes "group ") (entry_at names.groups at) (codes " share ") (decimal two.share) (codes " amount ") (decimal two.amount) (codes "\n") (places two) rest in
+      let after_name = append_cancel_left (entry_at names.groups at)
       (codes " share " ++ (decimal one.share ++ (codes " amount " ++ (decimal one.amount ++ (codes "\n" ++ (places one ++ more))))))
       (codes " share " ++ (decimal two.share ++ (codes " amount " ++ (decimal two.amount ++ (codes "\n" ++ (places two ++ rest)))))) (ap (drop 6) whole) in
       let share = number-read one.share two.share 32 32 (drop 1 (codes " amount ") ++ (decimal one.amount ++ (codes "\n" ++ (places one ++ more))))

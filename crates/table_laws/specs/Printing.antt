@@ -2,14 +2,14 @@
 use Rattle.std.specs.Prelude.{◌≡◌, ℕ, ◌<◌, ◌≤◌, ◌^◌, ◌≢◌, ◌++◌, List, [], length, All, IfSome}
 use Rattle.bwe_specs.specs.declared.network.Closing.{Closing}
 use Rattle.bwe_specs.specs.Allocation.{GroupLine, PlaceLine, Table}
-use Rattle.doc_names.specs.NameTexts.{NameTexts}
-use Rattle.table_text.specs.TableText.{name_at, text_of}
+use Rattle.doc_names.specs.NameTexts.{IsPlain, NameTexts, entry_at}
+use Rattle.table_text.specs.TableText.{text_of}
 
 -- no name of a link has a line feed (10) or a space (32), and no two links have one name
 pub record AreTelling (names : NameTexts) : Type 0 where
-  pub plain : All (λ name. All (λ byte. (byte ≢ 10) × (byte ≢ 32)) name) names.links
+  pub plain : All IsPlain names.links
   pub apart : (number other : ℕ) → number < other → other < length names.links
-      → name_at names.links number ≢ name_at names.links other
+      → entry_at names.links number ≢ entry_at names.links other
 
 -- the link has a name, and each number has 64 bits
 pub record IsNamedClosing (names : NameTexts) (closing : Closing) : Type 0 where

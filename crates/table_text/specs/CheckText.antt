@@ -4,8 +4,7 @@ use Rattle.bwe_specs.specs.declared.network.Cause.{Cause}
 use Rattle.bwe_specs.specs.declared.network.Cause.TheVariants.{NoSuchLink, Reclosed, ShareFalls, ShareAtTop, OverBefore, FitsAfter, LowerLink, OverAtTop}
 use Rattle.bwe_specs.specs.declared.network.Verdict.{Verdict}
 use Rattle.bwe_specs.specs.declared.network.Verdict.TheVariants.{Right, Wrong}
-use Rattle.doc_names.specs.NameTexts.{NameTexts}
-use Rattle.table_text.specs.TableText.{name_at}
+use Rattle.doc_names.specs.NameTexts.{NameTexts, entry_at}
 
 -- what is wrong
 unfoldable pub cause_text : NameTexts → Cause → List ℕ
@@ -14,12 +13,12 @@ cause_text names Reclosed = codes "link closed before"
 cause_text names ShareFalls = codes "share falls"
 cause_text names ShareAtTop = codes "share at top"
 cause_text names (OverBefore link) =
-    codes "link " ++ name_at names.links link ++ codes " is over at the share"
+    codes "link " ++ entry_at names.links link ++ codes " is over at the share"
 cause_text names FitsAfter = codes "link fits at the next share"
 cause_text names (LowerLink link) =
-    codes "lower link " ++ name_at names.links link ++ codes " is over"
+    codes "lower link " ++ entry_at names.links link ++ codes " is over"
 cause_text names (OverAtTop link) =
-    codes "link " ++ name_at names.links link ++ codes " is over at top"
+    codes "link " ++ entry_at names.links link ++ codes " is over at top"
 
 -- that the closings are right, or which is wrong and why
 unfoldable pub verdict_line : NameTexts → Verdict → List ℕ

@@ -3,22 +3,18 @@ use Rattle.std.specs.Prelude.{ℕ, ◌++◌, List, [], length, flat_map, slice_i
 use Rattle.bwe_specs.specs.declared.network.Closing.{Closing}
 use Rattle.bwe_specs.specs.Allocation.{Table, GroupLine, PlaceLine}
 use Rattle.bwe_specs.specs.Reports.{numbers}
-use Rattle.doc_names.specs.NameTexts.{NameTexts}
-
--- the name of this number; an empty text where there is no such name
-abbrev pub name_at : List (List ℕ) → ℕ → List ℕ
-name_at names number = slice_index_or names number []
+use Rattle.doc_names.specs.NameTexts.{NameTexts, entry_at}
 
 -- where and when a link closed
 abbrev pub closing_line : NameTexts → Closing → List ℕ
 closing_line names closing =
-    codes "closing " ++ name_at names.links closing.link ++ codes " at " ++ decimal closing.share
+    codes "closing " ++ entry_at names.links closing.link ++ codes " at " ++ decimal closing.share
     ++ codes "\n"
 
 -- a word, the name of a number, a second word, and what the number has
 abbrev pub value_line : List ℕ → List ℕ → List (List ℕ) → List ℕ → ℕ → List ℕ
 value_line word between names values number =
-    word ++ name_at names number ++ between ++ decimal (slice_index values number) ++ codes "\n"
+    word ++ entry_at names number ++ between ++ decimal (slice_index values number) ++ codes "\n"
 
 -- a link's load
 abbrev pub link_line : NameTexts → List ℕ → ℕ → List ℕ
@@ -27,7 +23,7 @@ link_line names loads link = value_line (codes "link ") (codes " load ") names.l
 -- whether a path group is open, or the link that closed it
 unfoldable pub closed_text : NameTexts → Option ℕ → List ℕ
 closed_text names None = codes " open\n"
-closed_text names (Some link) = codes " closed by " ++ name_at names.links link ++ codes "\n"
+closed_text names (Some link) = codes " closed by " ++ entry_at names.links link ++ codes "\n"
 
 -- what a path group got
 abbrev pub place_line : NameTexts → List PlaceLine → ℕ → List ℕ
@@ -40,7 +36,7 @@ place_line names lines place =
 abbrev pub group_lines : NameTexts → List GroupLine → ℕ → List ℕ
 group_lines names lines group =
     let line = slice_index_or lines group (record { share = 0; amount = 0; places = [] }) in
-    codes "group " ++ name_at names.groups group ++ codes " share " ++ decimal line.share
+    codes "group " ++ entry_at names.groups group ++ codes " share " ++ decimal line.share
     ++ codes " amount " ++ decimal line.amount ++ codes "\n"
     ++ flat_map (place_line names line.places) (numbers (length line.places))
 

@@ -1,7 +1,7 @@
 //! Pieces of a line.
 
 ghost use Rattle.std.specs.Prelude.{◌≡◌, ◌++◌, OnOk, codes, decimal, map, string_bytes};
-ghost use Rattle.table_text.specs.TableText.{name_at};
+ghost use Rattle.doc_names.specs.NameTexts.{entry_at};
 
 use std::alloc::AllocError;
 
@@ -24,7 +24,7 @@ pub fn end_with_number(text: &mut String, word: &str, number: u64) -> Result<(),
 
 /// The name of the number, an empty text where it has none.
 pub fn name_of(names: &[String], number: u32) -> &str
-    ensures { result.now ≡ name_at (map string_bytes names.now) number }
+    ensures { result.now ≡ entry_at (map string_bytes names.now) number }
 {
     let number = number as usize;
     if number < names.len() {
