@@ -1,5 +1,5 @@
 -- The words after `estimate` or `levels`: `clap` takes them as the definition does, a text in each place.
-use Rattle.std.proofs.Common.{◌≡◌, ◌⊎◌, ℕ, Bool, true, false, ◌&&◌, ◌||◌, List, [], ◌∷◌, codes, Option, Some, None, inl, inr, refl, sym, ap, ap₂, ◌∙◌, true≢false}
+use Rattle.std.proofs.Common.{◌≡◌, ◌⊎◌, ℕ, Bool, true, false, ◌&&◌, List, [], ◌∷◌, codes, Option, Some, None, inl, inr, refl, sym, ap, ap₂, ◌∙◌, true≢false}
 use Rattle.std.specs.Prelude.{option_and_then}
 use Rattle.std.specs.List.{list_any}
 use Rattle.clap.specs.Faults.{defaults_fault, step_fault, turn_fault, walk_fault, word_fault}
@@ -12,14 +12,7 @@ use Rattle.command_line.specs.declared.CommandLine.{CommandLine}
 use Rattle.command_line.proofs.Clear.{and_false, and_true, is_clear, or_else-clear}
 use Rattle.command_line.proofs.Turns.{HasNoShort, at, hold, stray, text_met}
 use Rattle.command_line.proofs.Bare.{estimate_shape, fault_from, levels_shape, one_word, refused_word, rows_from, start}
-use Rattle.command_line.proofs.Texts.{no_number, refused_is_no_number}
-
-pub first_plain : (word : Text) (rest : List Text) → list_any is_hyphens (word ∷ rest) ≡ false → (is_hyphens word ≡ false) × (list_any is_hyphens rest ≡ false)
-first_plain word rest e = go (is_hyphens word) refl
-  where
-    go : (b : Bool) → is_hyphens word ≡ b → (is_hyphens word ≡ false) × (list_any is_hyphens rest ≡ false)
-    go true h = absurd (true≢false (ap (λ b. b || list_any is_hyphens rest) (sym h) ∙ e))
-    go false h = (h, ap (λ b. b || list_any is_hyphens rest) (sym h) ∙ e)
+use Rattle.command_line.proofs.Texts.{first_plain, no_number, refused_is_no_number}
 
 -- what is refused before a word goes to its place
 abbrev pub before : Shape → List Row → Option (Text × List Text) → Text → Bool

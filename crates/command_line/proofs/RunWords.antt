@@ -18,7 +18,7 @@ use Rattle.command_line.specs.Matches.{given_in, option_rule, texts_in}
 use Rattle.command_line.proofs.Clear.{and_true, is_clear, or_else-clear}
 use Rattle.command_line.proofs.Turns.{at, hold, stray, unknown_is_plain, word_is_plain}
 use Rattle.command_line.proofs.Bare.{fault_from, one_word, refused_word, rows_from, run_shape}
-use Rattle.command_line.proofs.Texts.{long_is_no_number, no_number, option_is, refused_is_no_number}
+use Rattle.command_line.proofs.Texts.{first_plain, long_is_no_number, no_number, none_after, option_is, refused_is_no_number}
 
 abbrev c : List Rule
 c = run_shape.rules
@@ -136,17 +136,13 @@ bad_number default least most (text ∷ []) bad = go (is_number text) refl
     go false e = no_number least most text e
 bad_number default least most (text ∷ (other ∷ more)) bad = refl
 
-no_reads : {A B : Type 0} (o : Option A) (f : A → Option B) → ((a : A) → f a ≡ None) → option_and_then f o ≡ None
-no_reads None f e = refl
-no_reads (Some a) f e = e a
-
 bad_line : (given : Given) → has_bad given ≡ true → run_line given ≡ None
 bad_line given bad = go (list_any is_bad given.readers) refl
   where
     go : (first : Bool) → list_any is_bad given.readers ≡ first → run_line given ≡ None
     go true e = rw (bad_number 2 1 64 given.readers e) refl
     go false e = let second : list_any is_bad given.reads ≡ true = rw e at bad in
-        no_reads (number_given 2 1 64 given.readers) _ (λ number. rw (bad_number 4 0 1000 given.reads second) refl)
+        none_after (number_given 2 1 64 given.readers) _ (λ number. rw (bad_number 4 0 1000 given.reads second) refl)
 
 or_keeps : (a b more : Bool) → (a || b) ≡ true → ((a || more) || b) ≡ true
 or_keeps true b more e = refl
@@ -358,13 +354,6 @@ open_word word rest plain idle_rest rows name = go (long_of word) refl
         → Agrees (is_clear (fault_from run_shape w (word ∷ rest))) (rows_from run_shape w (word ∷ rest)) (options_of given (Some name) (word ∷ rest))
     go None e = text _ refl e
     go (Some long) e = refused (not_a_text word plain rows name long e) (long_is_no_number word long e)
-
-first_plain : (word : Text) (rest : List Text) → list_any is_hyphens (word ∷ rest) ≡ false → (is_hyphens word ≡ false) × (list_any is_hyphens rest ≡ false)
-first_plain word rest e = go (is_hyphens word) refl
-  where
-    go : (b : Bool) → is_hyphens word ≡ b → (is_hyphens word ≡ false) × (list_any is_hyphens rest ≡ false)
-    go true h = absurd (true≢false (ap (λ b. b || list_any is_hyphens rest) (sym h) ∙ e))
-    go false h = (h, ap (λ b. b || list_any is_hyphens rest) (sym h) ∙ e)
 
 words_agree : (words : List Text) → list_any is_hyphens words ≡ false → IdleAgrees words × OpenAgrees words
 words_agree [] plain = none_agrees

@@ -1,10 +1,9 @@
 -- The words after `make` or `bulk`: `clap` takes them as the definition does.
-use Rattle.std.proofs.Common.{◌≡◌, ◌⊎◌, ℕ, Bool, true, false, ◌&&◌, List, [], ◌∷◌, codes, Option, Some, None, inl, inr, refl, sym, ap, ap₂, subst, ◌∙◌, true≢false}
-use Rattle.std.specs.Prelude.{option_and_then}
+use Rattle.std.proofs.Common.{◌≡◌, ◌⊎◌, ℕ, Bool, true, false, ◌&&◌, List, [], ◌∷◌, codes, Option, Some, None, inl, inr, refl, sym, ap, ap₂, ◌∙◌, true≢false}
 use Rattle.std.specs.List.{list_any}
 use Rattle.clap.specs.Faults.{defaults_fault, step_fault, turn_fault, walk_fault, word_fault}
 use Rattle.clap.specs.Simple.{Shape}
-use Rattle.clap.specs.Walk.{Held, Row, Rule, Step, Text, Walk, after_step, arg_by_index, idle, used, value, walked}
+use Rattle.clap.specs.Walk.{Held, Row, Rule, Step, Text, Walk, after_step, idle, used, value, walked}
 use Rattle.text_scan.specs.Numbers.{is_number}
 use Rattle.command_line.specs.Lines.{is_hyphens, number_in, size_in, size_of}
 use Rattle.command_line.specs.Matches.{place_rule, size_given}
@@ -12,13 +11,9 @@ use Rattle.clap.specs.Simple.{filled, with_index}
 use Rattle.command_line.proofs.Clear.{and_false, and_true, is_clear, or_else-clear}
 use Rattle.command_line.proofs.Turns.{at, hold, stray, text_met}
 use Rattle.command_line.proofs.Bare.{fault_from, one_word, refused_word, rows_from, sized_shape, start}
-use Rattle.command_line.proofs.Texts.{no_number, refused_is_no_number}
+use Rattle.command_line.proofs.Texts.{first_plain, no_number, none_after, refused_is_no_number}
 
 -- a text that is no number has no size
-none_after : {A B : Type 0} (o : Option A) (f : A → Option B) → ((a : A) → f a ≡ None) → option_and_then f o ≡ None
-none_after None f e = refl
-none_after (Some a) f e = e a
-
 no_seed : (seed groups tasks : Text) → is_number seed ≡ false → size_in seed groups tasks ≡ None
 no_seed seed groups tasks e = rw (no_number 0 18446744073709551615 seed e) refl
 
@@ -144,13 +139,6 @@ module _ (name : Text) where
   and_cases false y z e = inl refl
   and_cases true false z e = inr (inl refl)
   and_cases true true z e = inr (inr e)
-
-  first_plain : (word : Text) (rest : List Text) → list_any is_hyphens (word ∷ rest) ≡ false → (is_hyphens word ≡ false) × (list_any is_hyphens rest ≡ false)
-  first_plain word rest e = go (is_hyphens word) refl
-    where
-      go : (b : Bool) → is_hyphens word ≡ b → (is_hyphens word ≡ false) × (list_any is_hyphens rest ≡ false)
-      go true h = absurd (true≢false (ap (λ b. Rattle.std.proofs.Common.◌||◌ b (list_any is_hyphens rest)) (sym h) ∙ e))
-      go false h = (h, ap (λ b. Rattle.std.proofs.Common.◌||◌ b (list_any is_hyphens rest)) (sym h) ∙ e)
 
   three_agree : (a b d : Text) → is_hyphens a ≡ false → is_hyphens b ≡ false → is_hyphens d ≡ false
       → Agrees (is_clear (fault_from (sized_shape name) start (a ∷ b ∷ d ∷ []))) (rows_from (sized_shape name) start (a ∷ b ∷ d ∷ [])) (a ∷ b ∷ d ∷ [])

@@ -19,7 +19,8 @@ use Rattle.command_line.proofs.Turns.{stray, text_met}
 use Rattle.command_line.proofs.Bare.{bare_clear, bare_shape, bare_takes_no_word, estimate_shape, fault_from, levels_shape, rows_from, run_shape, sized_shape, start}
 use Rattle.command_line.proofs.RunWords.{run_agrees}
 use Rattle.command_line.proofs.Sizes.{size_agrees}
-use Rattle.command_line.proofs.Places.{estimate_agrees, first_plain, levels_agrees}
+use Rattle.command_line.proofs.Places.{estimate_agrees, levels_agrees}
+use Rattle.command_line.proofs.Texts.{first_plain}
 
 abbrev top : Shape
 top = (built bwe_app).top

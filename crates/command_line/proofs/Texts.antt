@@ -1,7 +1,7 @@
 -- Words that are no number, and how `clap` and the definition cut a word.
-use Rattle.std.proofs.Common.{◌≡◌, ◌⊎◌, ℕ, Bool, true, false, ◌&&◌, ◌||◌, ◌==◌, List, [], ◌∷◌, ◌++◌, Option, Some, None, inl, inr, refl, sym, ap, ◌∙◌}
+use Rattle.std.proofs.Common.{◌≡◌, ◌⊎◌, ℕ, Bool, true, false, ◌||◌, ◌==◌, List, [], ◌∷◌, Option, Some, None, inl, inr, refl, sym, ap, ◌∙◌, true≢false}
 use Rattle.std.specs.Prelude.{option_map, option_and_then}
-use Rattle.std.specs.Str.{all_ascii_digits, bytes_eq}
+use Rattle.std.specs.List.{list_any}
 use Rattle.std.proofs.lemmas.Bool.{eqb-true}
 use Rattle.clap.specs.Lexer.{long_of, short_of}
 use Rattle.clap.specs.Simple.{Shape}
@@ -10,6 +10,19 @@ use Rattle.clap.specs.Faults.{word_fault}
 use Rattle.text_scan.specs.Numbers.{is_number}
 use Rattle.command_line.specs.Lines.{Name, is_hyphens, name_of, number_in, option_of}
 use Rattle.command_line.proofs.Clear.{is_clear}
+
+-- where no word is `--`, neither the first is nor one of the others
+pub first_plain : (word : Text) (rest : List Text) → list_any is_hyphens (word ∷ rest) ≡ false → (is_hyphens word ≡ false) × (list_any is_hyphens rest ≡ false)
+first_plain word rest e = go (is_hyphens word) refl
+  where
+    go : (b : Bool) → is_hyphens word ≡ b → (is_hyphens word ≡ false) × (list_any is_hyphens rest ≡ false)
+    go true h = absurd (true≢false (ap (λ b. b || list_any is_hyphens rest) (sym h) ∙ e))
+    go false h = (h, ap (λ b. b || list_any is_hyphens rest) (sym h) ∙ e)
+
+-- nothing comes of what none follows
+pub none_after : {A B : Type 0} (o : Option A) (f : A → Option B) → ((a : A) → f a ≡ None) → option_and_then f o ≡ None
+none_after None f e = refl
+none_after (Some a) f e = e a
 
 hyphen_is_no_digit : (byte : ℕ) (rest : Text) → (byte == 45) ≡ true → is_number (byte ∷ rest) ≡ false
 hyphen_is_no_digit byte rest e = rw (eqb-true byte 45 e) refl
@@ -33,13 +46,13 @@ pub refused_is_no_number : (s : Shape) (waiting : Waiting) (word : Text) (h : He
     → is_clear (word_fault s [] false waiting word h) ≡ false → is_number word ≡ false
 refused_is_no_number s waiting word h no_name plain refused = elim (number_or_plain word) [
   | inl e ↦ e
-  | inr e ↦ absurd (Rattle.std.proofs.Common.true≢false (sym (plain_clear s waiting word h no_name plain e.0 e.1) ∙ refused))
+  | inr e ↦ absurd (true≢false (sym (plain_clear s waiting word h no_name plain e.0 e.1) ∙ refused))
 ]
 
 pub long_is_no_number : (word : Text) (long : Text × Option Text) → long_of word ≡ Some long → is_number word ≡ false
 long_is_no_number word long e = elim (number_or_plain word) [
   | inl h ↦ h
-  | inr h ↦ absurd (Rattle.std.proofs.Common.true≢false (ap Rattle.std.specs.Option.is_some (sym e ∙ h.0)))
+  | inr h ↦ absurd (true≢false (ap Rattle.std.specs.Option.is_some (sym e ∙ h.0)))
 ]
 
 pub no_number : (least most : ℕ) (word : Text) → is_number word ≡ false → number_in least most word ≡ None
