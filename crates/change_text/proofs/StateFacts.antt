@@ -17,7 +17,7 @@ use Rattle.bwe_specs.specs.declared.report.Target.TheVariants.{Task, Link}
 use Rattle.demand_book.specs.Fit.{IsInRange}
 use Rattle.text_scan.specs.Names.{number_of_name}
 use Rattle.text_scan.specs.Numbers.{is_number, number_of}
-use Rattle.text_scan.specs.Words.{words_of}
+use Rattle.text_scan.specs.Words.{Text, words_of}
 use Rattle.text_scan.proofs.NumberFacts.{ascii_numerals}
 use Rattle.doc_names.specs.NameTexts.{entry_at}
 use Rattle.live_lines.specs.declared.line.LineMeaning.TheVariants.{NewReport}
@@ -26,9 +26,6 @@ use Rattle.live_lines.specs.Cutting.{within}
 use Rattle.live_lines.specs.Meaning.{amount_of, meaning_of, meaning_of_words, report_of, reported, target_named}
 use Rattle.change_text.specs.StateText.{report_words}
 use Rattle.change_text.specs.StateLaw.{is_plain, AreReadable, StateLinesAreRead}
-
-abbrev Text : Type 0
-Text = List ℕ
 
 abbrev is_space : ℕ → Bool
 is_space byte = byte == 32

@@ -1,17 +1,15 @@
 -- Which words are a command line.
-use Rattle.std.specs.Prelude.{ℕ, Bool, ◌&&◌, ◌==◌, List, [], ◌∷◌, ◌++◌, map, length, codes, String, Option, Some, None}
+use Rattle.std.specs.Prelude.{ℕ, Bool, ◌&&◌, ◌==◌, List, [], ◌∷◌, ◌++◌, map, codes, String, Option, Some, None}
 use Rattle.std.specs.Prelude.{if◌then◌else◌, string_bytes, nat_le, option_map, option_and_then}
 use Rattle.std.specs.List.{list_any, before_first, after_first}
 use Rattle.std.specs.Str.{bytes_eq}
 use Rattle.std.specs.Str.Parse.{digits_value}
 use Rattle.std.specs.declared.alloc.Global.{Global}
 use Rattle.text_scan.specs.Numbers.{is_number}
+pub use Rattle.text_scan.specs.Words.{Text}
 use Rattle.command_line.specs.declared.matches.Size.{Size}
 use Rattle.command_line.specs.declared.CommandLine.{CommandLine}
 use Rattle.command_line.specs.declared.CommandLine.TheVariants.{Solve, Check, Run, Make, Bulk, Audit, Tiers, Enforce, Estimate, Levels}
-
-abbrev pub Text : Type 0
-Text = List ℕ
 
 -- the texts of words
 abbrev pub texts_of : List (String Global) → List Text

@@ -1,18 +1,15 @@
 -- Lines are the same in whatever pieces their bytes come, and are those of the text.
-use Rattle.std.proofs.Common.{◌≡◌, ℕ, ◌<◌, Bool, true, false, cond, ◌==◌, List, [], ◌∷◌, ◌++◌, length, map, Some, None, refl, sym, ap, ◌∙◌, arith, nat_le, length-append, append_assoc}
+use Rattle.std.proofs.Common.{◌≡◌, ℕ, ◌<◌, Bool, true, false, cond, List, [], ◌∷◌, ◌++◌, length, map, Some, None, refl, sym, ap, ◌∙◌, arith, nat_le, length-append, append_assoc}
 use Rattle.std.specs.Prelude.{All}
 use Rattle.std.proofs.lemmas.Bool.{leb-false, lt-leb, eqb-true}
 use Rattle.std.proofs.lemmas.List.{append-nil}
 use Rattle.std.proofs.lemmas.List.Elements.{All-push}
 use Rattle.std.proofs.lemmas.List.Splits.{slice_split_at, slice_split_none, length-slice_split}
 use Rattle.text_scan.specs.Lines.{pieces_of, all_but_last, last_of, lines_of, left_of}
-use Rattle.text_scan.proofs.LineFacts.{more_lines, same_last}
-use Rattle.live_lines.specs.Known.{Text}
+use Rattle.text_scan.specs.Words.{Text}
+use Rattle.text_scan.proofs.LineFacts.{is_feed, more_lines, same_last}
 use Rattle.live_lines.specs.Cutting.{Held, within, with_byte, lines_from, held_after}
 use Rattle.live_lines.specs.Laws.{PiecesDoNotMatter, LinesAreOfTheText}
-
-abbrev is_feed : ℕ → Bool
-is_feed byte = byte == 10
 
 -- ---- two pieces
 

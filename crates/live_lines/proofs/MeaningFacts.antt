@@ -11,8 +11,8 @@ use Rattle.bwe_specs.specs.declared.report.Target.TheVariants.{Task, Link}
 use Rattle.demand_book.specs.Fit.{IsInRange}
 use Rattle.live_lines.specs.declared.line.LineCause.TheVariants.{NoLine}
 use Rattle.live_lines.specs.declared.line.LineMeaning.TheVariants.{Post, State, Refused}
-use Rattle.text_scan.specs.Words.{words_of}
-use Rattle.live_lines.specs.Known.{Known, Text}
+use Rattle.text_scan.specs.Words.{Text, words_of}
+use Rattle.live_lines.specs.Known.{Known}
 use Rattle.owner_rule.specs.Owners.{owner_of}
 use Rattle.live_lines.specs.Meaning.{IfNewReport, command_of, meaning_of, meaning_of_words, report_of, reported}
 

@@ -1,6 +1,6 @@
 -- Lines out of bytes that come one after another.
 use Rattle.std.specs.Prelude.{ℕ, ◌==◌, Bool, true, false, List, [], ◌∷◌, ◌++◌, length, nat_le, Option, Some, None, if◌then◌else◌}
-use Rattle.live_lines.specs.Known.{Text}
+use Rattle.text_scan.specs.Words.{Text}
 
 -- what stands of a line before its line feed; none where it has more than 255 bytes
 abbrev pub Held : Type 0

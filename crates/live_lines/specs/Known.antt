@@ -5,9 +5,6 @@ pub use Rattle.owner_rule.specs.Owners.{owner_of}
 use Rattle.doc_names.specs.declared.Names.{Names}
 use Rattle.doc_names.specs.NameTexts.{NameTexts, texts_of}
 
-abbrev pub Text : Type 0
-Text = List ℕ
-
 -- names and owners, each list in the order of the numbers; a link may have no owner
 pub record Known : Type 0 where
   pub names : NameTexts

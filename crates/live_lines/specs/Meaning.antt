@@ -7,12 +7,12 @@ use Rattle.bwe_specs.specs.declared.report.Target.TheVariants.{Task, Link}
 use Rattle.bwe_specs.specs.declared.report.Report.{Report}
 use Rattle.text_scan.specs.Names.{number_of_name}
 use Rattle.text_scan.specs.Numbers.{amount_in_range, is_number, number_of}
-use Rattle.text_scan.specs.Words.{words_of}
+use Rattle.text_scan.specs.Words.{Text, words_of}
 use Rattle.live_lines.specs.declared.line.LineCause.{LineCause}
 use Rattle.live_lines.specs.declared.line.LineCause.TheVariants.{NoLine, UnknownName, AmountOutOfRange, NotOwner}
 use Rattle.live_lines.specs.declared.line.LineMeaning.{LineMeaning}
 use Rattle.live_lines.specs.declared.line.LineMeaning.TheVariants.{NewReport, Post, State, Refused}
-use Rattle.live_lines.specs.Known.{Known, Text}
+use Rattle.live_lines.specs.Known.{Known}
 use Rattle.owner_rule.specs.Owners.{owner_of, is_owner}
 
 -- ---- steps, of which the first that fails gives the cause

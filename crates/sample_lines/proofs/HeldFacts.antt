@@ -14,9 +14,10 @@ use Rattle.sample_lines.specs.declared.sample.Sample.{Sample}
 use Rattle.text_scan.specs.Items.{items_of}
 use Rattle.text_scan.specs.Lines.{left_of, lines_of}
 use Rattle.text_scan.specs.Numbers.{amount_in_range, printed_number_of}
+use Rattle.text_scan.specs.Words.{Text}
 use Rattle.text_scan.proofs.ItemFacts.{items_keep}
 use Rattle.sample_lines.specs.Known.{Known, known_by}
-use Rattle.sample_lines.specs.SampleLine.{Text, Fields, amount_of, fields_of, sample_of}
+use Rattle.sample_lines.specs.SampleLine.{Fields, amount_of, fields_of, sample_of}
 use Rattle.owner_rule.specs.Owners.{is_owner}
 use Rattle.owner_rule.proofs.OwnerFacts.{owner_is}
 use Rattle.sample_lines.specs.SampleLines.{next_sample}

@@ -2,9 +2,10 @@
 use Rattle.std.proofs.Common.{◌≡◌, ℕ, Bool, cond, Option, Some, None, refl, sym}
 use Rattle.std.specs.Prelude.{slice_get}
 use Rattle.text_scan.specs.Names.{number_of_name}
+use Rattle.text_scan.specs.Words.{Text}
 use Rattle.sample_lines.specs.declared.sample.Sample.{Sample}
 use Rattle.sample_lines.specs.Known.{Known}
-use Rattle.sample_lines.specs.SampleLine.{Text, Fields, amount_of, fields_of, sample_of}
+use Rattle.sample_lines.specs.SampleLine.{Fields, amount_of, fields_of, sample_of}
 use Rattle.owner_rule.specs.Owners.{is_owner}
 
 abbrev pub sample_by : Bool → ℕ → ℕ → ℕ → Option Sample

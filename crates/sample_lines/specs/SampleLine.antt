@@ -1,14 +1,12 @@
 -- A line of samples: `<reporter> <task> <amount>`, with single blanks.
-use Rattle.std.specs.Prelude.{ℕ, List, slice_get, Option, Some, None, if◌then◌else◌, option_and_then}
+use Rattle.std.specs.Prelude.{ℕ, slice_get, Option, Some, None, if◌then◌else◌, option_and_then}
 use Rattle.owner_rule.specs.Owners.{is_owner}
 use Rattle.text_scan.specs.Cuts.{cut_at}
 use Rattle.text_scan.specs.Names.{number_of_name}
 use Rattle.text_scan.specs.Numbers.{amount_in_range, printed_number_of}
+use Rattle.text_scan.specs.Words.{Text}
 use Rattle.sample_lines.specs.declared.sample.Sample.{Sample}
 use Rattle.sample_lines.specs.Known.{Known}
-
-abbrev pub Text : Type 0
-Text = List ℕ
 
 infixl 10 ◌>>=◌
 abbrev pub ◌>>=◌ : {A B : Type 0} → Option A → (A → Option B) → Option B

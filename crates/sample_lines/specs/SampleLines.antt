@@ -2,11 +2,12 @@
 use Rattle.std.specs.Prelude.{◌≡◌, ℕ, ◌-◌, List, length, nat_lt, Option, None, Result, Ok, Err, if◌then◌else◌}
 use Rattle.bwe_specs.specs.declared.limits.TheConstants.{MAX_REPORTS}
 use Rattle.text_scan.specs.Items.{items_of}
+use Rattle.text_scan.specs.Words.{Text}
 use Rattle.sample_lines.specs.declared.sample.Sample.{Sample}
 use Rattle.sample_lines.specs.declared.error.SampleError.{SampleError}
 use Rattle.sample_lines.specs.declared.error.SampleError.TheVariants.{Refused, OutOfMemory}
 use Rattle.sample_lines.specs.Known.{Known}
-use Rattle.sample_lines.specs.SampleLine.{Text, sample_of}
+use Rattle.sample_lines.specs.SampleLine.{sample_of}
 
 -- the sample of the next line, where there is room for one more
 abbrev pub next_sample : Known → ℕ → List Sample → Text → Option Sample

@@ -3,9 +3,9 @@ use Rattle.std.specs.Prelude.{ℕ, ◌==◌, List, [], ◌∷◌, ◌++◌, map,
 use Rattle.bwe_specs.specs.declared.report.Report.{Report}
 use Rattle.bwe_specs.specs.declared.report.Target.TheVariants.{Task}
 use Rattle.demand_estimate.specs.Estimate.{estimate}
+use Rattle.text_scan.specs.Words.{Text}
 use Rattle.sample_lines.specs.declared.sample.Sample.{Sample}
 use Rattle.sample_lines.specs.Known.{Known}
-use Rattle.sample_lines.specs.SampleLine.{Text}
 use Rattle.sample_lines.specs.SampleLines.{samples_in}
 
 -- the amounts of one task's samples, in order

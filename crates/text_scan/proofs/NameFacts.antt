@@ -16,9 +16,7 @@ use Rattle.std.proofs.lemmas.Slice.Eq.{bytes_eq-Decides}
 use Rattle.std.proofs.lemmas.Str.{IsUtf8-string_bytes}
 use Rattle.std.specs.String.{string_eq}
 use Rattle.text_scan.specs.Names.{number_of_name}
-
-abbrev Text : Type 0
-Text = List ℕ
+use Rattle.text_scan.specs.Words.{Text}
 
 abbrev Numbers : Type 0
 Numbers = HashMap (String Global) ℕ (BuildHasherDefault FoldHasher)
