@@ -2,6 +2,7 @@
 use Rattle.std.specs.Prelude.{◌≡◌, ◌≢◌, ℕ, ◌<◌, ◌≤◌, ◌^◌, List, [], Vec, length, slice_index_or}
 use Rattle.std.specs.List.{All}
 use Rattle.std.specs.declared.alloc.Global.{Global}
+use Rattle.bwe_specs.specs.declared.limits.TheConstants.{MAX_READERS, MAX_READS, MAX_REPORTERS, MAX_REPORTS}
 use Rattle.bwe_specs.specs.declared.report.Report.{Report}
 use Rattle.bwe_specs.specs.Allocation.{Table}
 use Rattle.bwe_specs.specs.Reports.{reports_of}
@@ -33,8 +34,8 @@ pub record AreScripts (names : NameTexts) (tasks links : ℕ) (scripts : List (L
   pub own : (number : ℕ) → number < length scripts
       → All (λ report. (report.reporter ≡ number) × IsFit tasks links report)
       (slice_index_or scripts number [])
-  pub few_reporters : length scripts ≤ 64
-  pub few : total_of scripts ≤ 200_000
+  pub few_reporters : length scripts ≤ MAX_REPORTERS
+  pub few : total_of scripts ≤ MAX_REPORTS
 
 -- the history has each script once and in its order, and no other report
 pub record IsInterleaving (tasks links : ℕ) (scripts : List (List Report)) (history : List Report)
@@ -54,8 +55,8 @@ pub record IsClosedRun (names : NameTexts) (table_of : List Report → Table) (t
   pub readers : ℕ
   pub reads : ℕ
   pub some_readers : 1 ≤ readers
-  pub few_readers : readers ≤ 64
-  pub few_reads : reads ≤ 1000
+  pub few_readers : readers ≤ MAX_READERS
+  pub few_reads : reads ≤ MAX_READS
   pub legal : IsLegalCrewLog (λ reports table. table ≡ table_of reports) table_total tasks links
       scripts readers reads log
   pub closed : IsClosed log

@@ -5,6 +5,7 @@
 #![tactic(auto)]
 
 ghost use Rattle.std.specs.Prelude.{◌≡◌, ◌≤◌, length, IfOk};
+ghost use Rattle.bwe_specs.specs.declared.limits.TheConstants.{MAX_REPORTERS, MAX_REPORTS};
 ghost use Rattle.bwe_specs.specs.Reports.{reports_of};
 ghost use Rattle.plan_doc.specs.Conditions.{IsUsable, link_count, reporter_count, tasks_in};
 ghost use Rattle.crew_log.specs.Scripts.{AreOfReporters, reports_in};
@@ -23,10 +24,10 @@ pub fn scripts_of_document(
     ensures split { IfOk result (λ scripts.
         items_of scripts.items
         ≡ scripts_of (reporter_count document.now) document.now.script.items) }
-    ensures few { IfOk result (λ scripts. length scripts.items ≤ 64) }
+    ensures few { IfOk result (λ scripts. length scripts.items ≤ MAX_REPORTERS) }
     ensures scripts { IfOk result (λ scripts.
         AreOfReporters (tasks_in document.now) (link_count document.now) scripts.items) }
-    ensures room { IfOk result (λ scripts. reports_in scripts.items ≤ 200_000) }
+    ensures room { IfOk result (λ scripts. reports_in scripts.items ≤ MAX_REPORTS) }
 {
     let reporters = document.names.reporters.len() as u32;
     split_by_reporter(alloc, &document.script, reporters)

@@ -1,13 +1,14 @@
 -- Lines out of bytes that come one after another.
 use Rattle.std.specs.Prelude.{ℕ, ◌==◌, Bool, true, false, List, [], ◌∷◌, ◌++◌, length, nat_le, Option, Some, None, if◌then◌else◌}
 use Rattle.text_scan.specs.Words.{Text}
+use Rattle.live_lines.specs.declared.cutter.TheConstants.{MAX_LINE}
 
 -- what stands of a line before its line feed; none where it has more than 255 bytes
 abbrev pub Held : Type 0
 Held = Option Text
 
 abbrev pub within : Text → Held
-within text = if nat_le (length text) 255 then Some text else None
+within text = if nat_le (length text) MAX_LINE then Some text else None
 
 -- what a cutter holds
 abbrev pub held_in : Bool → Text → Held

@@ -21,13 +21,15 @@ pub struct LineCutter {
 
 impl Model for LineCutter {
     ghost use Rattle.std.specs.Prelude.{◌≡◌, ◌≤◌, length, take};
+    ghost use Rattle.live_lines.specs.declared.cutter.TheConstants.{MAX_LINE};
     ghost use Rattle.live_lines.specs.Cutting.{Held, held_in};
 
     ghost Value = { Held };
 
     ghost view = { λ cutter. held_in cutter.is_long (take cutter.filled cutter.buffer.items) };
 
-    ghost invariant = { λ cutter. (length cutter.buffer.items ≡ 255) × (cutter.filled ≤ 255) };
+    ghost invariant = { λ cutter.
+        (length cutter.buffer.items ≡ MAX_LINE) × (cutter.filled ≤ MAX_LINE) };
 }
 
 impl LineCutter {

@@ -2,7 +2,7 @@
 use Rattle.std.specs.Prelude.{◌≡◌, ◌⊎◌, ℕ, ◌<◌, ◌≤◌, Bool, true, false, List, [], length, take, codes, Option, Some, None, Result, MatchResult}
 use Rattle.bwe_io.specs.Faults.{HasRisen}
 use Rattle.live_stream.specs.Talk.{Talk, Faults, IsOver}
-use Rattle.one_run.specs.Endings.{too_long_line}
+use Rattle.one_run.specs.Endings.{max_input, too_long_line}
 use Rattle.two_part.specs.declared.Parts.{Parts}
 use Rattle.live_run.specs.declared.ending.Stop.{Stop}
 use Rattle.live_run.specs.declared.ending.Stop.TheVariants.{ReadFault, WriteFault, OutOfMemory}
@@ -19,7 +19,7 @@ usage_line = codes "usage: bwe-live\n"
 pub record IsJudged (verdict : Bool) (follow : Follow) (read : List ℕ) : Type 0 where
   pub parts : Parts
   pub found : parts_of read ≡ Some parts
-  pub few : length (document_in read parts) ≤ 67_108_864
+  pub few : length (document_in read parts) ≤ max_input
   pub judged : follow.accepts (document_in read parts) ≡ verdict
 
 -- a text that may be due after these bytes, or at their end

@@ -2,6 +2,7 @@
 use Rattle.std.specs.Prelude.{◌≡◌, ℕ, ◌<◌, ◌≤◌, true, List, ◌∷◌, ◌++◌, length, Some, None}
 use Rattle.std.specs.Str.Parse.{digits_value}
 use Rattle.text_scan.specs.Numbers.{is_number}
+use Rattle.one_run.specs.Endings.{max_input}
 use Rattle.two_part.specs.declared.Parts.{Parts}
 use Rattle.two_part.specs.TwoPart.{document_in, parts_of}
 use Rattle.live_run.specs.declared.front.Front.{Front}
@@ -17,7 +18,7 @@ pub record SaysTooLong (bytes : List ℕ) : Type 0 where
   pub rest : List ℕ
   pub in_order : bytes ≡ digits ++ 10 ∷ rest
   pub number : is_number digits ≡ true
-  pub above : 67_108_864 < digits_value 10 digits
+  pub above : max_input < digits_value 10 digits
 
 abbrev pub SaysNotTooLong : List ℕ → Type 0
 SaysNotTooLong bytes = SaysTooLong bytes → ⊥
@@ -27,7 +28,7 @@ pub record HasDocument (bytes : List ℕ) (parts : Parts) : Type 0 where
   pub found : parts_of bytes ≡ Some parts
   pub start : parts.start ≤ parts.end
   pub end : parts.end ≤ length bytes
-  pub few : length (document_in bytes parts) ≤ 67_108_864
+  pub few : length (document_in bytes parts) ≤ max_input
 
 -- what is known of the front
 abbrev pub IsFront : List ℕ → Front → Type 0

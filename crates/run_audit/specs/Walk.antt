@@ -2,6 +2,7 @@
 use Rattle.std.specs.Prelude.{ℕ, ◌<◌, ◌≤◌, IfSome, Bool, true, false, ◌==◌, ◌&&◌, ◌+◌, List, [], ◌∷◌, length, Option, Some, None, Result, Ok, Err, if◌then◌else◌, codes, nat_eq, nat_lt, nat_le, not, slice_index_or}
 use Rattle.std.specs.List.{starts_with}
 use Rattle.std.specs.Str.{bytes_eq}
+use Rattle.bwe_specs.specs.declared.limits.TheConstants.{MAX_READERS, MAX_READS}
 use Rattle.bwe_specs.specs.declared.report.Report.{Report}
 use Rattle.text_scan.specs.Words.{words_of}
 use Rattle.doc_names.specs.NameTexts.{NameTexts, entry_at}
@@ -47,7 +48,7 @@ new_block number wanted = record { number = number; wanted = wanted; reads = 0; 
 abbrev pub reader_leads : ℕ → ℕ → Option ℕ → Option ReaderWords → Result Step AuditCause
 reader_leads total number wanted None = Err causes.Form
 reader_leads total number wanted (Some reader) =
-    if (reader.number == number) && nat_lt reader.number 64
+    if (reader.number == number) && nat_lt reader.number MAX_READERS
     then (if reader.length == total then leads_to (Line (new_block number wanted))
     else Err causes.Length)
     else Err causes.Reader
@@ -64,7 +65,7 @@ goes_on total block shown =
 
 unfoldable pub after_read : ℕ → Block → Shown → Result Step AuditCause
 after_read total block shown =
-    if nat_lt block.reads 1000
+    if nat_lt block.reads MAX_READS
     then (if goes_on total block shown
     then Ok (record {
       due = Line (record block { reads = block.reads + 1; prefix = shown.prefix });
@@ -170,7 +171,7 @@ is_over walk = may_end walk.due && (length walk.table == 0)
 abbrev pub IsDue : ℕ → Due → Type 0
 IsDue scripts (Reporter next) = next < scripts
 IsDue scripts Reader = Unit {0}
-IsDue scripts (Line block) = block.number < 64
+IsDue scripts (Line block) = block.number < MAX_READERS
 IsDue scripts (Next readers reads) = Unit {0}
 IsDue scripts Table = Unit {0}
 
