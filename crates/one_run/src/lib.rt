@@ -1,9 +1,9 @@
 //! One call: what it may read, what it writes, and its status.
 //!
 //! A program has its words by `words_of`. The top call reads by `read_input` and ends by `finish`,
-//! by `refuse_input` or by `write_usage`; `Ending` says of a whole call how it may end, for the line
-//! that its words are. The whole text is made before its first byte is written. Nothing is promised
-//! of which answer a line has, nor that memory is there.
+//! by `refuse_input` or by `write_usage`; `Ending` says of a whole call how it may end, for the
+//! line that its words are. The whole text is made before its first byte is written. Nothing is
+//! promised of which answer a line has, nor that memory is there.
 #![tactic(auto)]
 
 ghost use Rattle.std.specs.Prelude.{◌≡◌, ◌+◌, true, false, IfOk, IsErrOf, MatchResult};

@@ -60,4 +60,5 @@ WhatRanIsFoundLegal S K T L =
 -- `solve_once` may end as a call for the line `solve` may, and in no other way.
 abbrev pub SolvedIsServed : Type 0 → Type 0 → Type 0
 SolvedIsServed S K =
-    (served : Served S K) (status : ℕ) → IsSolved served status ↔ IsServed (Some Solve) served status
+    (served : Served S K) (status : ℕ)
+    → IsSolved served status ↔ IsServed (Some Solve) served status

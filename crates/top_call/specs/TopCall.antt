@@ -18,10 +18,10 @@ use Rattle.line_answers.specs.TiersReply.{tiers_accepted}
 -- What a line may get for its input: of all lines but `run` it is determined. Of `audit` it is said
 -- besides that status 0 comes exactly where the text is that of a closed legal run of the document.
 --
--- This has what the headline (docs/DEFINITIONS.md) says of the program. Of `solve`: "each allocation
--- is the one that raising every group's fair share by one at a time gives". Of `run`: its tables are
--- those "after a named prefix of one history of reports, in which each reporter's reports stand once
--- in its order", and "a reader's prefixes never fall".
+-- This has what the headline (docs/DEFINITIONS.md) says of the program. Of `solve`: "each
+-- allocation is the one that raising every group's fair share by one at a time gives". Of `run`:
+-- its tables are those "after a named prefix of one history of reports, in which each reporter's
+-- reports stand once in its order", and "a reader's prefixes never fall".
 abbrev pub replies : CommandLine → List ℕ → Reply → Type 0
 replies Solve input given = given ≡ document_reply solve_accepted input
 replies Check input given = given ≡ document_reply check_accepted input

@@ -1,4 +1,5 @@
-//! Gates that hold a reader until a settle was answered, one of which counts the calls of each kind.
+//! Gates that hold a reader until a settle was answered, one of which counts the calls of each
+//! kind.
 
 use board::{Bases, Profile, View};
 use crew_actors::{Actor, Gate};
