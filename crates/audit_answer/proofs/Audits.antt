@@ -25,7 +25,7 @@ use Rattle.doc_names.specs.NameTexts.{texts_of}
 use Rattle.table_text.specs.TableText.{text_of}
 use Rattle.audit_answer.specs.AuditReply.{IsAuditReply, audit_reply, audit_status}
 use Rattle.plan_doc.specs.Plans.{plan_in, plan_of}
-use Rattle.audit_law.proofs.DocumentVerdicts.{plan-is}
+use Rattle.plan_doc.proofs.PlanFacts.{plan-is}
 
 -- an accepted document has a demand for each of its tasks
 pub tasks-are : (accepted : Accepted) (document : Document) → IsDocumentOf accepted document → task_count (plan_in document) ≡ tasks_in document

@@ -2,9 +2,7 @@
 use Rattle.std.proofs.Common.{◌≡◌, ◌∙◌, ℕ, List, Vec, Global, length, ap, ap₂, subst}
 use Rattle.std.proofs.lemmas.List.{length-replicate}
 use Rattle.bwe_specs.specs.declared.report.Report.{Report}
-use Rattle.bwe_specs.specs.Allocation.{Plan, allocation}
-use Rattle.bwe_specs.specs.Paths.{PathGroups}
-use Rattle.bwe_specs.specs.Tree.{Cluster}
+use Rattle.bwe_specs.specs.Allocation.{allocation}
 use Rattle.allocator.specs.Frames.{task_count}
 use Rattle.document_scripts.specs.Scripts.{items_of, scripts_of}
 use Rattle.limit_table.specs.Tables.{total_of}
@@ -13,6 +11,7 @@ use Rattle.plan_doc.specs.Accepted.{IsDocumentOf}
 use Rattle.plan_doc.specs.Conditions.{link_count, tasks_in}
 use Rattle.plan_doc.specs.Document.{Accepted}
 use Rattle.plan_doc.specs.Plans.{plan_in, plan_of}
+use Rattle.plan_doc.proofs.PlanFacts.{plan-is}
 use Rattle.policy_tree.specs.Trees.{task_numbers}
 use Rattle.doc_names.specs.NameTexts.{texts_of}
 use Rattle.run_audit.specs.Verdict.{verdict_of}
@@ -22,15 +21,7 @@ use Rattle.audit_law.specs.Laws.{verdict_on}
 use Rattle.audit_law.specs.DocumentRun.{document_verdict}
 use Rattle.audit_law.specs.DocumentLaws.{AreScriptsOf}
 
-abbrev plan_parts : ℕ → List Cluster → List PathGroups → List ℕ → Plan
-plan_parts top clusters groups capacities = record { top = top; clusters = clusters; groups = groups; capacities = capacities }
-
 module _ (accepted : Accepted) (document : read.Document) (is : IsDocumentOf accepted document) where
-  pub plan-is : plan_in document ≡ plan_of accepted
-  plan-is =
-      ap (λ tree. plan_parts tree.top tree.clusters document.plan document.topology.capacities) is.tree
-      ∙ ap₂ (λ plan topology. plan_parts accepted.top accepted.clusters plan topology.capacities) is.plan is.topology
-
   pub names-are : texts_of document.names ≡ accepted.names
   names-are = is.names
 
@@ -49,14 +40,14 @@ module _ (accepted : Accepted) (document : read.Document) (is : IsDocumentOf acc
     pub run-is : (text : List ℕ) → IsClosedRun (texts_of document.names) (allocation (plan_in document)) (tasks_in document) (link_count document) scripts text
         ≡ IsClosedRun accepted.names (allocation (plan_of accepted)) (task_count (plan_of accepted)) (length (plan_of accepted).capacities) scripts text
     run-is text =
-        ap₂ (λ names plan. IsClosedRun names (allocation plan) (tasks_in document) (link_count document) scripts text) names-are plan-is
+        ap₂ (λ names plan. IsClosedRun names (allocation plan) (tasks_in document) (link_count document) scripts text) names-are (plan-is accepted document is)
         ∙ ap₂ (λ tasks links. IsClosedRun accepted.names (allocation (plan_of accepted)) tasks links scripts text) tasks-are links-are
 
     -- and so is the verdict
     pub verdict-is : (text : List ℕ) → AreScriptsOf document scripts
         → verdict_on (texts_of document.names) (allocation (plan_in document)) (allocation (plan_in document) document.script.items) scripts text ≡ document_verdict accepted text
     verdict-is text split =
-        ap₂ (λ names plan. verdict_on names (allocation plan) (allocation plan document.script.items) scripts text) names-are plan-is
+        ap₂ (λ names plan. verdict_on names (allocation plan) (allocation plan document.script.items) scripts text) names-are (plan-is accepted document is)
         ∙ ap (λ script. verdict_on accepted.names (allocation (plan_of accepted)) (allocation (plan_of accepted) script) scripts text) is.script
         ∙ ap (λ lists. verdict_of accepted.names lists (λ reports. total_of (allocation (plan_of accepted) reports))
         (text_of accepted.names (allocation (plan_of accepted) accepted.script)) text) (subst (λ (T : Type 0). T) split-is split)

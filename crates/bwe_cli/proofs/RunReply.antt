@@ -11,7 +11,7 @@ use Rattle.plan_doc.specs.Document.{Accepted}
 use Rattle.doc_names.specs.NameTexts.{texts_of}
 use Rattle.run_text.specs.RunText.{run_text_of}
 use Rattle.crew_log.specs.LegalCrewLog.{IsClosed}
-use Rattle.audit_law.proofs.DocumentVerdicts.{plan-is}
+use Rattle.plan_doc.proofs.PlanFacts.{plan-is}
 use Rattle.top_call.specs.Runs.{IsRunOf}
 use Rattle.document_scripts.proofs.Split.{split-count}
 use Rattle.plan_doc.specs.Plans.{plan_in, plan_of}

@@ -2,9 +2,6 @@
 use Rattle.std.proofs.Common.{◌≡◌, ℕ, ◌+◌, List, [], ◌∷◌, ◌++◌, length, Option, Some, None, IfSome, Result, Err, is_ok, false, sym, ◌∙◌, ap, ap₂, subst}
 use Rattle.std.specs.Option.{option_map}
 use Rattle.std.proofs.lemmas.List.{length_push}
-use Rattle.bwe_specs.specs.Allocation.{Plan}
-use Rattle.bwe_specs.specs.Paths.{PathGroups}
-use Rattle.bwe_specs.specs.Tree.{Cluster}
 use Rattle.demand_book.specs.Fit.{IsFit}
 use Rattle.allocator.specs.Frames.{task_count}
 use Rattle.plan_doc.specs.Document.{Accepted, document}
@@ -14,6 +11,7 @@ use Rattle.doc_names.specs.NameTexts.{NameTexts}
 use Rattle.plan_doc.specs.Plans.{plan_in, plan_of}
 use Rattle.plan_doc.specs.Refusals.{Refusal}
 use Rattle.plan_doc.specs.RefusalLines.{refusal_line}
+use Rattle.plan_doc.proofs.PlanFacts.{plan-is}
 use Rattle.live_lines.specs.Cutting.{Held}
 use Rattle.live_lines.specs.Known.{Known, known_by}
 use Rattle.live_lines.specs.Meaning.{meaning_of, IfNewReport}
@@ -78,14 +76,6 @@ follows session new bytes lines line meaning known count plan means stands follo
     )
 
 -- ---- before any line
-
-abbrev plan_parts : ℕ → List Cluster → List PathGroups → List ℕ → Plan
-plan_parts top clusters groups capacities = record { top = top; clusters = clusters; groups = groups; capacities = capacities }
-
-plan-is : (accepted : Accepted) (document : Document) → IsDocumentOf accepted document → plan_in document ≡ plan_of accepted
-plan-is accepted document is =
-    ap (λ tree. plan_parts tree.top tree.clusters document.plan document.topology.capacities) is.tree
-    ∙ ap₂ (λ plan topology. plan_parts accepted.top accepted.clusters plan topology.capacities) is.plan is.topology
 
 abbrev known_parts : NameTexts → List ℕ → List (Option ℕ) → Known
 known_parts names task_owners link_owners = record {
