@@ -170,6 +170,31 @@ All-drop-append : (P : Report → Type 0) (front later : List Report) → All P 
 All-drop-append P [] later all = all
 All-drop-append P (first ∷ front) later all = All-drop-append P front later (All-tail P first (front ++ later) all)
 
+-- the next report of a history is of the scripts and is taken too, and the history stays theirs
+record TakesNext (tasks links : ℕ) (scripts : List (List Report)) (done later : List Report) (taken : List ℕ) (report : Report) : Type 0 where
+  whole : (done ++ report ∷ []) ++ later ≡ done ++ report ∷ later
+  legal : IsInterleaving tasks links scripts ((done ++ report ∷ []) ++ later)
+  allowed : (report.reporter < length scripts) × IsFit tasks links report
+  has : HasTaken tasks links scripts (done ++ report ∷ []) (set taken report.reporter (get_or taken report.reporter 0 + 1))
+
+takes_next : (tasks links : ℕ) (scripts : List (List Report)) (done later : List Report) (taken : List ℕ) (report : Report) → HasTaken tasks links scripts done taken
+    → IsInterleaving tasks links scripts (done ++ report ∷ later) → TakesNext tasks links scripts done later taken report
+takes_next tasks links scripts done later taken report has legal = record {
+  whole = whole;
+  legal = subst (IsInterleaving tasks links scripts) (sym whole) legal;
+  allowed = allowed;
+  has = taken_more tasks links scripts done taken report has allowed.0 allowed.1 (omega (arith, has.counted report.reporter allowed.0, script_is));
+}
+  where
+    whole : (done ++ report ∷ []) ++ later ≡ done ++ report ∷ later
+    whole = append_assoc done (report ∷ []) later
+
+    allowed : (report.reporter < length scripts) × IsFit tasks links report
+    allowed = All-head (λ (r : Report). (r.reporter < length scripts) × IsFit tasks links r) report later (All-drop-append (λ (r : Report). (r.reporter < length scripts) × IsFit tasks links r) done (report ∷ later) legal.no_other)
+
+    script_is : length (slice_index_or scripts report.reporter []) ≡ length (reports_of report.reporter done) + suc (length (reports_of report.reporter later))
+    script_is = ap length (sym (legal.each report.reporter allowed.0) ∙ reports-split report.reporter done later report refl) ∙ length-append (reports_of report.reporter done) (report ∷ reports_of report.reporter later)
+
 pub lines_next : (names : NameTexts) (scripts : List (List Report)) (printed next : Printed) (line : List ℕ) (lines : List (List ℕ)) → length printed.reports < total_of scripts
     → take_line names scripts printed line ≡ Ok next → take_lines names scripts printed (line ∷ lines) ≡ take_lines names scripts next lines
 unfolding take_lines
@@ -228,28 +253,19 @@ module _ (names : NameTexts) (are : AreNames names) (tasks links : ℕ) (scripts
   all_taken (report ∷ later) done taken lines has legal =
       lines_next names scripts (record { reports = done; taken = taken }) (record { reports = done ++ report ∷ []; taken = set taken report.reporter (get_or taken report.reporter 0 + 1) })
       (spaced (report_line names (length done) report)) (report_lines names (suc (length done)) later ++ lines) short
-      (line_taken done later taken report has legal allowed.0 allowed.1 (omega (arith, short, given.few)))
+      (line_taken done later taken report has legal next_one.allowed.0 next_one.allowed.1 (omega (arith, short, given.few)))
       ∙ ap (λ (place : ℕ). take_lines names scripts next (report_lines names place later ++ lines)) (omega (arith, length_push done report))
-      ∙ all_taken later (done ++ report ∷ []) (set taken report.reporter (get_or taken report.reporter 0 + 1)) lines has_more (subst (IsInterleaving tasks links scripts) (sym whole) legal)
-      ∙ ap (λ (reports : List Report). Ok (record { reports = reports; lines = lines })) whole
+      ∙ all_taken later (done ++ report ∷ []) (set taken report.reporter (get_or taken report.reporter 0 + 1)) lines next_one.has next_one.legal
+      ∙ ap (λ (reports : List Report). Ok (record { reports = reports; lines = lines })) next_one.whole
     where
       next : Printed
       next = record { reports = done ++ report ∷ []; taken = set taken report.reporter (get_or taken report.reporter 0 + 1) }
 
-      whole : (done ++ report ∷ []) ++ later ≡ done ++ report ∷ later
-      whole = append_assoc done (report ∷ []) later
-
-      allowed : (report.reporter < length scripts) × IsFit tasks links report
-      allowed = All-head (λ (r : Report). (r.reporter < length scripts) × IsFit tasks links r) report later (All-drop-append (λ (r : Report). (r.reporter < length scripts) × IsFit tasks links r) done (report ∷ later) legal.no_other)
-
-      script_is : length (slice_index_or scripts report.reporter []) ≡ length (reports_of report.reporter done) + suc (length (reports_of report.reporter later))
-      script_is = ap length (sym (legal.each report.reporter allowed.0) ∙ reports-split report.reporter done later report refl) ∙ length-append (reports_of report.reporter done) (report ∷ reports_of report.reporter later)
-
-      has_more : HasTaken tasks links scripts (done ++ report ∷ []) (set taken report.reporter (get_or taken report.reporter 0 + 1))
-      has_more = taken_more tasks links scripts done taken report has allowed.0 allowed.1 (omega (arith, has.counted report.reporter allowed.0, script_is))
+      next_one : TakesNext tasks links scripts done later taken report
+      next_one = takes_next tasks links scripts done later taken report has legal
 
       short : length done < total_of scripts
-      short = omega (arith, has_more.sum_so, length_push done report, sum-le (set taken report.reporter (get_or taken report.reporter 0 + 1)) scripts has_more.same has_more.within)
+      short = omega (arith, next_one.has.sum_so, length_push done report, sum-le (set taken report.reporter (get_or taken report.reporter 0 + 1)) scripts next_one.has.same next_one.has.within)
 
   -- a history's lines begin a text as they have to
   pub history_taken : (history : List Report) (lines : List (List ℕ)) → IsInterleaving tasks links scripts history → length history ≡ total_of scripts
@@ -274,20 +290,11 @@ module _ (tasks links : ℕ) (scripts : List (List Report)) where
       → (all : List ℕ) × HasTaken tasks links scripts (done ++ later) all
   whole_taken [] done taken has legal = (taken, subst (λ (reports : List Report). HasTaken tasks links scripts reports taken) (sym (append-nil done)) has)
   whole_taken (report ∷ later) done taken has legal =
-      let rest = whole_taken later (done ++ report ∷ []) (set taken report.reporter (get_or taken report.reporter 0 + 1)) has_more (subst (IsInterleaving tasks links scripts) (sym whole) legal) in
-      (rest.0, subst (λ (reports : List Report). HasTaken tasks links scripts reports rest.0) whole rest.1)
+      let rest = whole_taken later (done ++ report ∷ []) (set taken report.reporter (get_or taken report.reporter 0 + 1)) next_one.has next_one.legal in
+      (rest.0, subst (λ (reports : List Report). HasTaken tasks links scripts reports rest.0) next_one.whole rest.1)
     where
-      whole : (done ++ report ∷ []) ++ later ≡ done ++ report ∷ later
-      whole = append_assoc done (report ∷ []) later
-
-      allowed : (report.reporter < length scripts) × IsFit tasks links report
-      allowed = All-head (λ (r : Report). (r.reporter < length scripts) × IsFit tasks links r) report later (All-drop-append (λ (r : Report). (r.reporter < length scripts) × IsFit tasks links r) done (report ∷ later) legal.no_other)
-
-      script_is : length (slice_index_or scripts report.reporter []) ≡ length (reports_of report.reporter done) + suc (length (reports_of report.reporter later))
-      script_is = ap length (sym (legal.each report.reporter allowed.0) ∙ reports-split report.reporter done later report refl) ∙ length-append (reports_of report.reporter done) (report ∷ reports_of report.reporter later)
-
-      has_more : HasTaken tasks links scripts (done ++ report ∷ []) (set taken report.reporter (get_or taken report.reporter 0 + 1))
-      has_more = taken_more tasks links scripts done taken report has allowed.0 allowed.1 (omega (arith, has.counted report.reporter allowed.0, script_is))
+      next_one : TakesNext tasks links scripts done later taken report
+      next_one = takes_next tasks links scripts done later taken report has legal
 
   -- a history of the scripts has as many reports as they
   pub history_length : (history : List Report) → IsInterleaving tasks links scripts history → length history ≡ total_of scripts

@@ -2,7 +2,7 @@
 use Rattle.std.proofs.Common.{◌≡◌, ◌<◌, ◌≤◌, ◌+◌, ◌^◌, ◌++◌, ◌==◌, ◌&&◌, ℕ, suc, Bool, true, false, cond, not, List, [], ◌∷◌, length, Option, Some, None, Result, Ok, Err, refl, sym, ap, ◌∙◌, subst, arith, append_assoc}
 use Rattle.std.specs.Prelude.{slice_index_or}
 use Rattle.std.specs.Str.{bytes_eq}
-use Rattle.std.proofs.lemmas.List.{length-append, get_or_at}
+use Rattle.std.proofs.lemmas.List.{length-append, length_push, get_or_at}
 use Rattle.std.proofs.lemmas.Bool.{and_from, and_parts, eq-eqb, eqb-true, le-ltb, lt-ltb, ne_eqb}
 use Rattle.bwe_specs.specs.declared.report.Report.{Report}
 use Rattle.text_scan.specs.Words.{words_of}
@@ -153,13 +153,10 @@ module _ (names : NameTexts) (scripts : List (List Report)) (total_at : ℕ → 
         (record { walk = record { due = due_from scripts (length front + 1); table = table }; shown = None })
         (subst (λ (list : List Report). after_line names scripts (record { due = Reporter (length front); table = table }) (spaced (sent_line names (length front) (length list))) ≡ Ok (record { walk = record { due = due_from scripts (length front + 1); table = table }; shown = None })) script_is (sent_on table (length front) within))
         refl
-        (subst (λ (n : ℕ). IsLegalFrom (record { due = due_from scripts (length front + 1); table = table }) (sent_lines names n later ++ lines)) (omega (arith, longer))
-        (subst (λ (n : ℕ). IsLegalFrom (record { due = due_from scripts n; table = table }) (sent_lines names (length (front ++ script ∷ [])) later ++ lines)) longer
+        (subst (λ (n : ℕ). IsLegalFrom (record { due = due_from scripts (length front + 1); table = table }) (sent_lines names n later ++ lines)) (omega (arith, length_push front script))
+        (subst (λ (n : ℕ). IsLegalFrom (record { due = due_from scripts n; table = table }) (sent_lines names (length (front ++ script ∷ [])) later ++ lines)) (length_push front script)
         (all_sent table lines (front ++ script ∷ []) later (is ∙ sym (append_assoc front (script ∷ []) later)) legal))))
       where
-        longer : length (front ++ script ∷ []) ≡ length front + 1
-        longer = omega (arith, length-append front (script ∷ []))
-
         within : length front < length scripts
         within = omega (arith, ap length is, length-append front (script ∷ later))
 
@@ -213,19 +210,16 @@ module _ (names : NameTexts) (scripts : List (List Report)) (total_at : ℕ → 
   sent_read_back table number front (script ∷ later) (line ∷ lines) is legal =
       let read : IsSent (length (front ++ script ∷ [])) later table lines =
       sent_read_back table (number + 1) (front ++ script ∷ []) later lines (is ∙ sym (append_assoc front (script ∷ []) later))
-      (subst (λ (n : ℕ). judge names scripts total_at left (record { due = due_from scripts n; table = table }) (number + 1) lines ≡ Legal) (sym longer) legal_next) in
+      (subst (λ (n : ℕ). judge names scripts total_at left (record { due = due_from scripts n; table = table }) (number + 1) lines ≡ Legal) (sym (length_push front script)) legal_next) in
       record {
         rest = read.rest;
         number = read.number;
         lines_so =
             ap (λ (first : List ℕ). first ∷ lines) line_so
-            ∙ ap (λ (others : List (List ℕ)). spaced (sent_line names (length front) (length script)) ∷ others) (read.lines_so ∙ ap (λ (n : ℕ). sent_lines names n later ++ read.rest) (omega (arith, longer)));
+            ∙ ap (λ (others : List (List ℕ)). spaced (sent_line names (length front) (length script)) ∷ others) (read.lines_so ∙ ap (λ (n : ℕ). sent_lines names n later ++ read.rest) (omega (arith, length_push front script)));
         legal = read.legal;
       }
     where
-      longer : length (front ++ script ∷ []) ≡ length front + 1
-      longer = omega (arith, length-append front (script ∷ []))
-
       within : length front < length scripts
       within = omega (arith, ap length is, length-append front (script ∷ later))
 
