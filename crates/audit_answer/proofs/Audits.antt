@@ -8,7 +8,8 @@ use Rattle.allocator.specs.Frames.{task_count}
 use Rattle.doc_names.specs.declared.Names.{Names}
 use Rattle.audit_law.specs.DocumentRun.{IsDocumentRun, document_verdict, script_verdict}
 use Rattle.crew_log.specs.Scripts.{AreOfReporters, reports_in}
-use Rattle.document_scripts.specs.Scripts.{items_of, scripts_of}
+use Rattle.bwe_specs.specs.Lists.{lists_of}
+use Rattle.document_scripts.specs.Scripts.{scripts_of}
 use Rattle.limit_table.specs.Tables as tables
 use Rattle.one_run.specs.Endings.{Reply}
 use Rattle.plan_doc.specs.declared.document.Document.{Document}
@@ -41,16 +42,16 @@ module _ (document : Document) (plan : Plan) (same : plan ≡ plan_in document) 
       let counted : AreFit (task_count (plan_in document)) (link_count document) scripts = subst (λ count. AreFit count (link_count document) scripts) (sym tasks) fit in
       subst (λ planned. AreFit (task_count planned) (length planned.capacities) scripts) (sym same) counted
 
-  pub are-few : reports_in scripts ≤ MAX_REPORTS → history.total_of (history.scripts_of scripts) ≤ MAX_REPORTS
+  pub are-few : reports_in scripts ≤ MAX_REPORTS → history.total_of (lists_of scripts) ≤ MAX_REPORTS
   are-few few = subst (λ count. count ≤ MAX_REPORTS) (sym (total_counted scripts)) few
 
   -- the verdict is that on a run of the document
-  pub verdict-is : (names : Names) → names ≡ document.names → (split : items_of scripts ≡ scripts_of (reporter_count document) document.script.items)
+  pub verdict-is : (names : Names) → names ≡ document.names → (split : lists_of scripts ≡ scripts_of (reporter_count document) document.script.items)
       → (table : Table) → table ≡ allocation (plan_in document) document.script.items → (bytes : List ℕ) → bytes ≡ text_of (texts_of names) table → (text : List ℕ)
-      → verdict_of (texts_of names) (history.scripts_of scripts) (λ reports. tables.total_of (allocation plan reports)) bytes text
+      → verdict_of (texts_of names) (lists_of scripts) (λ reports. tables.total_of (allocation plan reports)) bytes text
       ≡ script_verdict (texts_of document.names) (plan_in document) document.script.items text
   verdict-is names named split table solved bytes printed text =
-      ap (λ planned. verdict_of (texts_of names) (history.scripts_of scripts) (λ reports. tables.total_of (allocation planned reports)) bytes text) same
+      ap (λ planned. verdict_of (texts_of names) (lists_of scripts) (λ reports. tables.total_of (allocation planned reports)) bytes text) same
       ∙ ap (λ lists. verdict_of (texts_of names) lists (λ reports. tables.total_of (allocation (plan_in document) reports)) bytes text) split
       ∙ ap (λ shown. verdict_of (texts_of names) (scripts_of (reporter_count document) document.script.items) (λ reports. tables.total_of (allocation (plan_in document) reports)) shown text) printed
       ∙ ap (λ made. verdict_of (texts_of names) (scripts_of (reporter_count document) document.script.items) (λ reports. tables.total_of (allocation (plan_in document) reports)) (text_of (texts_of names) made) text) solved

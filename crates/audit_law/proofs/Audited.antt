@@ -10,7 +10,8 @@ use Rattle.bwe_specs.specs.Allocation.{allocation}
 use Rattle.bwe_specs.specs.TreeFunctions.{AreClusters}
 use Rattle.bwe_specs.specs.Reports.{numbers as numbers_below, reports_of}
 use Rattle.crew_log.specs.Scripts.{AreOfReporters}
-use Rattle.document_scripts.specs.Scripts.{items_of, scripts_of}
+use Rattle.bwe_specs.specs.Lists.{lists_of}
+use Rattle.document_scripts.specs.Scripts.{scripts_of}
 use Rattle.demand_book.specs.Fit.{IsFit}
 use Rattle.document_scripts.proofs.Owned.{are-scripts, few-scripts, history-table, room-scripts}
 use Rattle.document_scripts.proofs.Split.{split-count}
@@ -38,7 +39,6 @@ use Rattle.wan_topology.specs.Network.{network_of}
 use Rattle.raw_document.specs.declared.doc_path.PathStep.{PathStep}
 use Rattle.doc_names.specs.NameTexts.{texts_of, NameTexts}
 use Rattle.run_audit.proofs.Counts.{total_counted}
-use Rattle.run_audit.specs.History.{scripts_of as lists_of}
 use Rattle.audit_law.specs.ClosedRun.{AreAudited, AreNames, AreScripts, IsInterleaving}
 use Rattle.audit_law.proofs.Vectors.{vec_of}
 use Rattle.audit_law.proofs.Logs.{each_from, script_at, script_count}
@@ -184,7 +184,7 @@ vecs_of [] few = []
 vecs_of (list ∷ lists) few =
     vec_of list (All-head (λ (list : List Report). length list < 2 ^ 63) list lists few) ∷ vecs_of lists (All-tail (λ (list : List Report). length list < 2 ^ 63) list lists few)
 
-items-vecs_of : (lists : List (List Report)) (few : All (λ list. length list < 2 ^ 63) lists) → items_of (vecs_of lists few) ≡ lists
+items-vecs_of : (lists : List (List Report)) (few : All (λ list. length list < 2 ^ 63) lists) → lists_of (vecs_of lists few) ≡ lists
 unfolding vecs_of
 items-vecs_of [] few = refl
 items-vecs_of (list ∷ lists) few = ap (λ (rest : List (List Report)). list ∷ rest) (items-vecs_of lists (All-tail (λ (list : List Report). length list < 2 ^ 63) list lists few))

@@ -5,7 +5,7 @@ use Rattle.std.specs.List.{sum_by}
 use Rattle.std.proofs.lemmas.List.{get_or-reverse, length-append, length-map, length-reverse}
 use Rattle.std.proofs.lemmas.List.Elements.{All-head, All-tail}
 use Rattle.std.proofs.lemmas.List.Sums.{sum_by-cons}
-use Rattle.bwe_specs.specs.declared.limits.TheConstants.{MAX_AMOUNT}
+use Rattle.bwe_specs.specs.declared.limits.TheConstants.{MAX_AMOUNT, MAX_TOTAL}
 use Rattle.bwe_specs.specs.declared.report.Report.{Report}
 use Rattle.bwe_specs.specs.Bounded.{sum_below}
 use Rattle.bwe_specs.specs.FunctionValue.{Point}
@@ -83,9 +83,9 @@ total_small plan reports are same few all =
     wan : Wan
     wan = wan_after plan reports
 
-    bound : sum_below (length plan.groups) (λ group. wan.value group wan.top) ≤ 20_000_000_000_000_000
+    bound : sum_below (length plan.groups) (λ group. wan.value group wan.top) ≤ MAX_TOTAL
     bound =
-        subst (λ (n : ℕ). sum_below n (λ group. wan.value group wan.top) ≤ 20_000_000_000_000_000) same
+        subst (λ (n : ℕ). sum_below n (λ group. wan.value group wan.top) ≤ MAX_TOTAL) same
         (omega (
           arith,
           few,

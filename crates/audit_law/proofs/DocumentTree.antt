@@ -7,6 +7,7 @@ use Rattle.bw_function.specs.BwFunction.{points_of}
 use Rattle.bw_function.specs.Faults.{function_fault}
 use Rattle.bw_function.specs.declared.fault.FunctionFault.{FunctionFault}
 use Rattle.bw_function.proofs.Faults.{function_fault-none}
+use Rattle.bwe_specs.proofs.Lists.{neither}
 use Rattle.bwe_specs.specs.FunctionValue.{IsFunction}
 use Rattle.bwe_specs.specs.Tree.{Cluster}
 use Rattle.bwe_specs.specs.TreeFunctions.{AreClusters, AreJobs, AreUsers, IsConfigured}
@@ -27,10 +28,6 @@ below_none : (step : PathStep) (refused : Option RefusedFunction) → below step
 below_none step None e = refl
 below_none step (Some function) e = absurd cc
 
-both_none : (one two : Option RefusedFunction) → option_or one two ≡ None → (one ≡ None) × (two ≡ None)
-both_none None two e = (refl, e)
-both_none (Some function) two e = absurd cc
-
 here_none : (top : ℕ) (points : List (ℕ × ℕ)) → refused_here top points ≡ None → IsFunction (points_of points) top
 here_none top points e = (function_fault-none points top (go (function_fault points top) e)).0 where
   named : FunctionFault → RefusedFunction
@@ -48,24 +45,24 @@ jobs_right : (top first place : ℕ) (jobs : List Job) → first_refused (refuse
 unfolding first_refused refused_in_job numbered
 jobs_right top first place [] e = tt
 jobs_right top first place (job ∷ jobs) e =
-    let parts = both_none (below (Index place) (refused_in_job top job)) (first_refused (refused_in_job top) (suc place) jobs) e in
-    let here = both_none (refused_configured top job.function) (below (Key keys.Task) (refused_here top job.task)) (below_none (Index place) (refused_in_job top job) parts.0) in
+    let parts = neither (below (Index place) (refused_in_job top job)) (first_refused (refused_in_job top) (suc place) jobs) e in
+    let here = neither (refused_configured top job.function) (below (Key keys.Task) (refused_here top job.task)) (below_none (Index place) (refused_in_job top job) parts.0) in
     ((configured_none top job.function here.0, here_none top job.task (below_none (Key keys.Task) (refused_here top job.task) here.1)), jobs_right top (first + job_tasks (job_part top job)) (suc place) jobs parts.1)
 
 users_right : (top first place : ℕ) (users : List User) → first_refused (refused_in_user top) place users ≡ None → AreUsers top (numbered_users first (map (user_part top) users))
 unfolding first_refused refused_in_user numbered
 users_right top first place [] e = tt
 users_right top first place (user ∷ users) e =
-    let parts = both_none (below (Index place) (refused_in_user top user)) (first_refused (refused_in_user top) (suc place) users) e in
-    let here = both_none (refused_configured top user.function) (below (Key keys.Jobs) (first_refused (refused_in_job top) 0 user.jobs)) (below_none (Index place) (refused_in_user top user) parts.0) in
+    let parts = neither (below (Index place) (refused_in_user top user)) (first_refused (refused_in_user top) (suc place) users) e in
+    let here = neither (refused_configured top user.function) (below (Key keys.Jobs) (first_refused (refused_in_job top) 0 user.jobs)) (below_none (Index place) (refused_in_user top user) parts.0) in
     ((configured_none top user.function here.0, jobs_right top first 0 user.jobs (below_none (Key keys.Jobs) (first_refused (refused_in_job top) 0 user.jobs) here.1)), users_right top (first + user_tasks (user_part top user)) (suc place) users parts.1)
 
 groups_right : (top first place : ℕ) (groups : List Group) → first_refused (refused_in_group top) place groups ≡ None → AreClusters top (numbered cluster_tasks numbered_cluster first (map (cluster_part top) groups))
 unfolding first_refused refused_in_group numbered
 groups_right top first place [] e = tt
 groups_right top first place (group ∷ groups) e =
-    let parts = both_none (below (Index place) (refused_in_group top group)) (first_refused (refused_in_group top) (suc place) groups) e in
-    let here = both_none (refused_configured top group.function) (below (Key keys.Users) (first_refused (refused_in_user top) 0 group.users)) (below_none (Index place) (refused_in_group top group) parts.0) in
+    let parts = neither (below (Index place) (refused_in_group top group)) (first_refused (refused_in_group top) (suc place) groups) e in
+    let here = neither (refused_configured top group.function) (below (Key keys.Users) (first_refused (refused_in_user top) 0 group.users)) (below_none (Index place) (refused_in_group top group) parts.0) in
     ((configured_none top group.function here.0, users_right top first 0 group.users (below_none (Key keys.Users) (first_refused (refused_in_user top) 0 group.users) here.1)), groups_right top (first + cluster_tasks (cluster_part top group)) (suc place) groups parts.1)
 
 -- functions that are not refused are right

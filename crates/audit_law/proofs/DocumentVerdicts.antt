@@ -4,7 +4,8 @@ use Rattle.std.proofs.lemmas.List.{length-replicate}
 use Rattle.bwe_specs.specs.declared.report.Report.{Report}
 use Rattle.bwe_specs.specs.Allocation.{allocation}
 use Rattle.allocator.specs.Frames.{task_count}
-use Rattle.document_scripts.specs.Scripts.{items_of, scripts_of}
+use Rattle.bwe_specs.specs.Lists.{lists_of}
+use Rattle.document_scripts.specs.Scripts.{scripts_of}
 use Rattle.limit_table.specs.Tables.{total_of}
 use Rattle.plan_doc.specs.declared.document.Document as read
 use Rattle.plan_doc.specs.Accepted.{IsDocumentOf}
@@ -33,8 +34,8 @@ module _ (accepted : Accepted) (document : read.Document) (is : IsDocumentOf acc
 
   module _ (scripts : List (Vec Report Global)) where
     -- the scripts of the parts of the code are those of the definition
-    pub split-is : AreScriptsOf document scripts ≡ (items_of scripts ≡ scripts_of (length accepted.names.reporters) accepted.script)
-    split-is = ap₂ (λ names script. items_of scripts ≡ scripts_of (length names.reporters) script) is.names is.script
+    pub split-is : AreScriptsOf document scripts ≡ (lists_of scripts ≡ scripts_of (length accepted.names.reporters) accepted.script)
+    split-is = ap₂ (λ names script. lists_of scripts ≡ scripts_of (length names.reporters) script) is.names is.script
 
     -- a closed run of the parts of the code is one of the definition
     pub run-is : (text : List ℕ) → IsClosedRun (texts_of document.names) (allocation (plan_in document)) (tasks_in document) (link_count document) scripts text

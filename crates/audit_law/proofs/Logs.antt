@@ -16,7 +16,7 @@ use Rattle.crew_log.specs.Lines.{IsLineOf, NeverGoBack}
 use Rattle.crew_log.specs.LegalCrewLog.{IsReaderOf, lines_of as reader_lines_of}
 use Rattle.table_text.specs.TableText.{text_of}
 use Rattle.doc_names.specs.NameTexts.{NameTexts}
-use Rattle.run_audit.specs.History.{scripts_of}
+use Rattle.bwe_specs.specs.Lists.{lists_of}
 use Rattle.audit_law.specs.ClosedRun.{AreAudited, IsClosedRun, IsInterleaving}
 use Rattle.audit_law.proofs.Vectors.{vec_of}
 use Rattle.audit_law.proofs.Lines.{printed}
@@ -32,28 +32,28 @@ no_reports : Vec Report Global
 no_reports = vec_of [] (omega arith)
 
 pub script_at : (scripts : List (Vec Report Global)) (number : ℕ) (other : Vec Report Global) → number < length scripts
-    → slice_index_or (scripts_of scripts) number [] ≡ (slice_index_or scripts number other).items
+    → slice_index_or (lists_of scripts) number [] ≡ (slice_index_or scripts number other).items
 script_at scripts number other within = get_or-map (λ (script : Vec Report Global). script.items) scripts number other [] within
 
-pub script_count : (scripts : List (Vec Report Global)) → length (scripts_of scripts) ≡ length scripts
+pub script_count : (scripts : List (Vec Report Global)) → length (lists_of scripts) ≡ length scripts
 script_count scripts = length-map scripts (λ (script : Vec Report Global). script.items)
 
-lengths-are : (scripts : List (Vec Report Global)) → map (λ script. length script.items) scripts ≡ map (λ script. length script) (scripts_of scripts)
+lengths-are : (scripts : List (Vec Report Global)) → map (λ script. length script.items) scripts ≡ map (λ script. length script) (lists_of scripts)
 lengths-are [] = refl
 lengths-are (script ∷ scripts) = ap (λ (rest : List ℕ). length script.items ∷ rest) (lengths-are scripts)
 
 module _ (tasks links : ℕ) (scripts : List (Vec Report Global)) (history : List Report) where
   interleaving_from : ((number : ℕ) (other : Vec Report Global) → number < length scripts → reports_of number history ≡ (slice_index_or scripts number other).items)
-      → All (IsAllowed (length scripts) (IsFit tasks links)) history → IsInterleaving tasks links (scripts_of scripts) history
+      → All (IsAllowed (length scripts) (IsFit tasks links)) history → IsInterleaving tasks links (lists_of scripts) history
   interleaving_from each no_other = record {
     each = λ number lt. let within : number < length scripts = omega (arith, lt, script_count scripts) in each number no_reports within ∙ sym (script_at scripts number no_reports within);
     no_other = subst (λ (n : ℕ). All (λ report. (report.reporter < n) × IsFit tasks links report) history) (sym (script_count scripts)) no_other;
   }
 
-  pub each_from : IsInterleaving tasks links (scripts_of scripts) history → (number : ℕ) (other : Vec Report Global) → number < length scripts → reports_of number history ≡ (slice_index_or scripts number other).items
+  pub each_from : IsInterleaving tasks links (lists_of scripts) history → (number : ℕ) (other : Vec Report Global) → number < length scripts → reports_of number history ≡ (slice_index_or scripts number other).items
   each_from legal number other within = legal.each number (omega (arith, within, script_count scripts)) ∙ script_at scripts number other within
 
-  allowed_from : IsInterleaving tasks links (scripts_of scripts) history → All (IsAllowed (length scripts) (IsFit tasks links)) history
+  allowed_from : IsInterleaving tasks links (lists_of scripts) history → All (IsAllowed (length scripts) (IsFit tasks links)) history
   allowed_from legal = subst (λ (n : ℕ). All (λ report. (report.reporter < n) × IsFit tasks links report) history) (script_count scripts) legal.no_other
 
 -- ---- readers
@@ -142,7 +142,7 @@ module _ (table_of : List Report → Table) (allowed : Report → Type 0) (reads
 
 module _ (names : NameTexts) (table_of : List Report → Table) (table : Table) (tasks links : ℕ) (scripts : List (Vec Report Global)) (audited : AreAudited names table_of table tasks links scripts) where
   -- the log of a closed legal run, by what its lines show
-  pub run_of : (text : List ℕ) → IsClosedRun names table_of tasks links scripts text → IsRun names tasks links (scripts_of scripts) (λ reports. table_total (table_of reports)) table text
+  pub run_of : (text : List ℕ) → IsClosedRun names table_of tasks links scripts text → IsRun names tasks links (lists_of scripts) (λ reports. table_total (table_of reports)) table text
   run_of text run = go run.log.readers.items refl where
     log : CrewLog Table
     log = run.log
@@ -153,7 +153,7 @@ module _ (names : NameTexts) (table_of : List Report → Table) (table : Table) 
     allowed : Report → Type 0
     allowed = IsAllowed (length scripts) (IsFit tasks links)
 
-    legal : IsInterleaving tasks links (scripts_of scripts) history
+    legal : IsInterleaving tasks links (lists_of scripts) history
     legal = interleaving_from tasks links scripts history run.legal.scripts_so run.legal.no_other
 
     part : All (IsPart table_of allowed run.reads history) log.readers.items
@@ -162,16 +162,16 @@ module _ (names : NameTexts) (table_of : List Report → Table) (table : Table) 
     closed : All (IsClosed (length history)) log.readers.items
     closed k d lt = reader_closed table_of allowed run.reads history (get_or log.readers.items k d) (part k d lt)
 
-    text_so : text ≡ printed (front_lines names history (scripts_of scripts) (all_seen_of log.readers.items)) ++ text_of names table
+    text_so : text ≡ printed (front_lines names history (lists_of scripts) (all_seen_of log.readers.items)) ++ text_of names table
     text_so =
         run.text_so
-        ∙ run_text_is names log (scripts_of scripts) (run.legal.sent ∙ lengths-are scripts) closed
-        ∙ ap (λ (t : Table). printed (front_lines names history (scripts_of scripts) (all_seen_of log.readers.items)) ++ text_of names t) (run.legal.table_so ∙ audited.table_so history legal)
+        ∙ run_text_is names log (lists_of scripts) (run.legal.sent ∙ lengths-are scripts) closed
+        ∙ ap (λ (t : Table). printed (front_lines names history (lists_of scripts) (all_seen_of log.readers.items)) ++ text_of names t) (run.legal.table_so ∙ audited.table_so history legal)
 
     seen : All (IsSeen (total_at table_of history) (length history) run.reads) (all_seen_of log.readers.items)
     seen = All-map (IsSeen (total_at table_of history) (length history) run.reads) seen_of log.readers.items (λ k d lt. reader_seen table_of allowed run.reads history (get_or log.readers.items k d) (part k d lt))
 
-    go : (readers : List ReaderLog) → log.readers.items ≡ readers → IsRun names tasks links (scripts_of scripts) (λ reports. table_total (table_of reports)) table text
+    go : (readers : List ReaderLog) → log.readers.items ≡ readers → IsRun names tasks links (lists_of scripts) (λ reports. table_total (table_of reports)) table text
     go [] is = absurd (omega (arith, run.some_readers, run.legal.readers_so, ap length is))
     go (first ∷ later) is = record {
       history = history;
@@ -182,11 +182,11 @@ module _ (names : NameTexts) (table_of : List Report → Table) (table : Table) 
       few_reads = run.few_reads;
       few = omega (arith, run.few_readers, run.legal.readers_so, ap length is, length-map later seen_of);
       seen = subst (λ (readers : List ReaderLog). All (IsSeen (total_at table_of history) (length history) run.reads) (all_seen_of readers)) is seen;
-      text_so = text_so ∙ ap (λ (readers : List ReaderLog). printed (front_lines names history (scripts_of scripts) (all_seen_of readers)) ++ text_of names table) is;
+      text_so = text_so ∙ ap (λ (readers : List ReaderLog). printed (front_lines names history (lists_of scripts) (all_seen_of readers)) ++ text_of names table) is;
     }
 
   -- and the other way round
-  pub closed_of : (text : List ℕ) → IsRun names tasks links (scripts_of scripts) (λ reports. table_total (table_of reports)) table text → IsClosedRun names table_of tasks links scripts text
+  pub closed_of : (text : List ℕ) → IsRun names tasks links (lists_of scripts) (λ reports. table_total (table_of reports)) table text → IsClosedRun names table_of tasks links scripts text
   closed_of text run = record {
     log = log;
     readers = length seen;
@@ -205,8 +205,8 @@ module _ (names : NameTexts) (table_of : List Report → Table) (table : Table) 
     closed = λ k d lt. (parts k d lt).1;
     text_so =
         run.text_so
-        ∙ ap (λ (s : List Seen). printed (front_lines names history (scripts_of scripts) s) ++ text_of names table) (sym (seen-readers table_of allowed run.reads history seen few))
-        ∙ sym (run_text_is names log (scripts_of scripts) (lengths-are scripts) (λ k d lt. reader_closed table_of allowed run.reads history (get_or readers k d) (parts k d lt)));
+        ∙ ap (λ (s : List Seen). printed (front_lines names history (lists_of scripts) s) ++ text_of names table) (sym (seen-readers table_of allowed run.reads history seen few))
+        ∙ sym (run_text_is names log (lists_of scripts) (lengths-are scripts) (λ k d lt. reader_closed table_of allowed run.reads history (get_or readers k d) (parts k d lt)));
   }
     where
       history : List Report
@@ -232,7 +232,7 @@ module _ (names : NameTexts) (table_of : List Report → Table) (table : Table) 
 
       log : CrewLog Table
       log = record {
-        history = vec_of history (omega (arith, history_length tasks links (scripts_of scripts) history run.legal, audited.scripts_so.few));
+        history = vec_of history (omega (arith, history_length tasks links (lists_of scripts) history run.legal, audited.scripts_so.few));
         sent = vec_of (map (λ script. length script.items) scripts) (omega (arith, length-map scripts (λ (script : Vec Report Global). length script.items), script_count scripts, audited.scripts_so.few_reporters));
         readers = vec_of readers (omega (arith, count, run.few));
         table = table;

@@ -12,7 +12,8 @@ use Rattle.crew_log.specs.declared.log.CrewLog.{CrewLog}
 use Rattle.crew_log.specs.LegalCrewLog.{IsClosed, IsLegalCrewLog}
 use Rattle.run_text.specs.RunText.{run_text_of}
 use Rattle.doc_names.specs.NameTexts.{IsPlain, NameTexts}
-use Rattle.run_audit.specs.History.{scripts_of, total_of}
+use Rattle.bwe_specs.specs.Lists.{lists_of}
+use Rattle.run_audit.specs.History.{total_of}
 
 -- ---- what is asked of names and scripts
 
@@ -67,8 +68,8 @@ pub record IsClosedRun (names : NameTexts) (table_of : List Report → Table) (t
 pub record AreAudited (names : NameTexts) (table_of : List Report → Table) (table : Table)
     (tasks links : ℕ) (scripts : List (Vec Report Global)) : Type 0 where
   pub names_so : AreNames names
-  pub scripts_so : AreScripts names tasks links (scripts_of scripts)
+  pub scripts_so : AreScripts names tasks links (lists_of scripts)
   pub totals : (reports : List Report) → All (IsFit tasks links) reports
       → table_total (table_of reports) < 2 ^ 64
-  pub table_so : (history : List Report) → IsInterleaving tasks links (scripts_of scripts) history
+  pub table_so : (history : List Report) → IsInterleaving tasks links (lists_of scripts) history
       → table_of history ≡ table

@@ -4,7 +4,8 @@ use Rattle.std.specs.Prelude.{◌≡◌, ℕ, List, Vec, Ok}
 use Rattle.std.specs.declared.alloc.Global.{Global}
 use Rattle.bwe_specs.specs.declared.report.Report.{Report}
 use Rattle.bwe_specs.specs.Allocation.{allocation}
-use Rattle.document_scripts.specs.Scripts.{items_of, scripts_of}
+use Rattle.bwe_specs.specs.Lists.{lists_of}
+use Rattle.document_scripts.specs.Scripts.{scripts_of}
 use Rattle.plan_doc.specs.declared.document.Document as read
 use Rattle.plan_doc.specs.Accepted.{IsAccepted, IsDocumentOf}
 use Rattle.plan_doc.specs.Conditions.{IsUsable, link_count, reporter_count, tasks_in}
@@ -18,7 +19,7 @@ use Rattle.audit_law.specs.DocumentRun.{IsDocumentRun, document_verdict}
 -- the scripts are the document's script split by reporter
 abbrev pub AreScriptsOf : read.Document → List (Vec Report Global) → Type 0
 AreScriptsOf document scripts =
-    items_of scripts ≡ scripts_of (reporter_count document) document.script.items
+    lists_of scripts ≡ scripts_of (reporter_count document) document.script.items
 
 -- an accepted document has what the law of the audit asks of names, scripts, totals and tables
 abbrev pub AcceptedDocumentIsAudited : Type 0

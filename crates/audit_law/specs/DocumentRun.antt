@@ -4,7 +4,8 @@ use Rattle.std.specs.declared.alloc.Global.{Global}
 use Rattle.bwe_specs.specs.declared.report.Report.{Report}
 use Rattle.bwe_specs.specs.Allocation.{Plan, allocation}
 use Rattle.allocator.specs.Frames.{task_count}
-use Rattle.document_scripts.specs.Scripts.{items_of, scripts_of}
+use Rattle.bwe_specs.specs.Lists.{lists_of}
+use Rattle.document_scripts.specs.Scripts.{scripts_of}
 use Rattle.limit_table.specs.Tables.{total_of}
 use Rattle.plan_doc.specs.Document.{Accepted}
 use Rattle.plan_doc.specs.Plans.{plan_of}
@@ -18,7 +19,7 @@ use Rattle.audit_law.specs.ClosedRun.{IsClosedRun}
 -- the allocations of its plan
 pub record IsDocumentRun (document : Accepted) (text : List ℕ) : Type 0 where
   pub scripts : List (Vec Report Global)
-  pub split : items_of scripts ≡ scripts_of (length document.names.reporters) document.script
+  pub split : lists_of scripts ≡ scripts_of (length document.names.reporters) document.script
   pub run : IsClosedRun document.names (allocation (plan_of document))
       (task_count (plan_of document)) (length (plan_of document).capacities) scripts text
 

@@ -6,7 +6,7 @@ use Rattle.bwe_specs.specs.Allocation.{Table}
 use Rattle.limit_table.specs.Tables.{total_of as table_total}
 use Rattle.table_text.specs.TableText.{text_of}
 use Rattle.doc_names.specs.NameTexts.{NameTexts}
-use Rattle.run_audit.specs.History.{scripts_of}
+use Rattle.bwe_specs.specs.Lists.{lists_of}
 use Rattle.run_audit.specs.Verdict.{verdict_of}
 use Rattle.run_audit.specs.declared.verdict.AuditVerdict.{AuditVerdict}
 use Rattle.run_audit.specs.declared.verdict.AuditVerdict.TheVariants.{Legal}
@@ -16,7 +16,7 @@ use Rattle.audit_law.specs.ClosedRun.{AreAudited, IsClosedRun}
 abbrev pub verdict_on : NameTexts → (List Report → Table) → Table → List (Vec Report Global)
     → List ℕ → AuditVerdict
 verdict_on names table_of table scripts text =
-    verdict_of names (scripts_of scripts) (λ reports. table_total (table_of reports))
+    verdict_of names (lists_of scripts) (λ reports. table_total (table_of reports))
     (text_of names table) text
 
 -- the text of each closed legal run is legal

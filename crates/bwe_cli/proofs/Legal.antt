@@ -8,12 +8,13 @@ use Rattle.crew_log.specs.declared.log.CrewLog.{CrewLog}
 use Rattle.crew_log.specs.LegalCrewLog.{IsLegalCrewLog}
 use Rattle.plan_doc.specs.declared.document.Document.{Document}
 use Rattle.plan_doc.specs.Conditions.{IsUsable, reporter_count}
-use Rattle.document_scripts.specs.Scripts.{items_of, scripts_of}
+use Rattle.bwe_specs.specs.Lists.{lists_of}
+use Rattle.document_scripts.specs.Scripts.{scripts_of}
 use Rattle.document_scripts.proofs.Owned.{history-table, own-in, owner_in, plan_in, within-in}
 use Rattle.document_scripts.proofs.Split.{split-count}
 use Rattle.top_call.specs.Runs.{IsRunOf}
 
-module _ (document : Document) (usable : IsUsable document) (scripts : List (Vec Report Global)) (split : items_of scripts ≡ scripts_of (reporter_count document) document.script.items) where
+module _ (document : Document) (usable : IsUsable document) (scripts : List (Vec Report Global)) (split : lists_of scripts ≡ scripts_of (reporter_count document) document.script.items) where
   pub run-is : (readers reads : ℕ) (log : CrewLog Table)
       → IsLegalCrewLog (λ reports table. table ≡ allocation (plan_in document usable) reports) total_of (task_count (plan_in document usable)) (length (plan_in document usable).capacities) scripts readers reads log
       → IsRunOf (plan_in document usable) document.script.items (reporter_count document) readers reads log

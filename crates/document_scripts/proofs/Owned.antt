@@ -15,7 +15,8 @@ use Rattle.plan_doc.specs.declared.document.Document.{Document}
 use Rattle.plan_doc.specs.Conditions.{IsUsable, link_count, reporter_count, tasks_in}
 use Rattle.plan_doc.specs.Owners.{owner_of}
 use Rattle.crew_log.specs.Scripts.{AreOfReporters, reports_in}
-use Rattle.document_scripts.specs.Scripts.{items_of, scripts_of}
+use Rattle.bwe_specs.specs.Lists.{lists_of}
+use Rattle.document_scripts.specs.Scripts.{scripts_of}
 use Rattle.document_scripts.proofs.Split.{split-at, split-count, split-scripts, split-within}
 
 -- what follows of an answer that is there
@@ -48,7 +49,7 @@ owned owner reporters (report ∷ reports) own within = (
   owned owner reporters reports (All-tail (λ report. report.reporter ≡ owner report.target) report reports own) (All-tail (λ report. report.reporter < reporters) report reports within),
 )
 
-module _ (plan : Plan) (owner : Target → ℕ) (reporters : ℕ) (script history : List Report) (scripts : List (Vec Report Global)) (split : items_of scripts ≡ scripts_of reporters script)
+module _ (plan : Plan) (owner : Target → ℕ) (reporters : ℕ) (script history : List Report) (scripts : List (Vec Report Global)) (split : lists_of scripts ≡ scripts_of reporters script)
     (each : (number : ℕ) (other : Vec Report Global) → number < length scripts → reports_of number history ≡ (slice_index_or scripts number other).items)
     (own : All (λ report. report.reporter ≡ owner report.target) script)
     (script_within : All (λ report. report.reporter < reporters) script) (history_within : All (λ report. report.reporter < reporters) history) where
@@ -57,7 +58,7 @@ module _ (plan : Plan) (owner : Target → ℕ) (reporters : ℕ) (script histor
       let within : number < length scripts = omega (arith, split-count reporters script scripts split) in
       go scripts split each within
     where
-      go : (scripts : List (Vec Report Global)) → items_of scripts ≡ scripts_of reporters script
+      go : (scripts : List (Vec Report Global)) → lists_of scripts ≡ scripts_of reporters script
           → ((number : ℕ) (other : Vec Report Global) → number < length scripts → reports_of number history ≡ (slice_index_or scripts number other).items)
           → number < length scripts → reports_of number history ≡ reports_of number script
       go [] split each within = absurd (omega arith)
@@ -104,7 +105,7 @@ module _ (document : Document) (usable : IsUsable document) where
   fit-in : All (IsFit (tasks_in document) (link_count document)) document.script.items
   fit-in k d lt = (usable.reports k d lt).1
 
-  module _ (scripts : List (Vec Report Global)) (split : items_of scripts ≡ scripts_of (reporter_count document) document.script.items) where
+  module _ (scripts : List (Vec Report Global)) (split : lists_of scripts ≡ scripts_of (reporter_count document) document.script.items) where
     pub few-scripts : length scripts ≤ MAX_REPORTERS
     few-scripts = subst (λ count. count ≤ MAX_REPORTERS) (sym (split-count (reporter_count document) document.script.items scripts split)) usable.few_reporters
 

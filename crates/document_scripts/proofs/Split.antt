@@ -13,7 +13,8 @@ use Rattle.bwe_specs.proofs.Bounds.{sum_below-add, sum_below-zero, sum_below-sam
 use Rattle.bwe_specs.proofs.Sums.{sum_by-numbers}
 use Rattle.demand_book.specs.Fit.{IsFit}
 use Rattle.crew_log.specs.Scripts.{AreOfReporters, reports_in}
-use Rattle.document_scripts.specs.Scripts.{items_of, scripts_of}
+use Rattle.bwe_specs.specs.Lists.{lists_of}
+use Rattle.document_scripts.specs.Scripts.{scripts_of}
 
 -- 1 where the two numbers are the same, else 0
 one_if : ℕ → ℕ → ℕ
@@ -54,12 +55,12 @@ reports-within count (report ∷ script) =
       reports-within count script,
     )
 
-lengths-are : (scripts : List (Vec Report Global)) → sum_by (λ script. length script.items) scripts ≡ sum_by length (items_of scripts)
+lengths-are : (scripts : List (Vec Report Global)) → sum_by (λ script. length script.items) scripts ≡ sum_by length (lists_of scripts)
 lengths-are [] = refl
 lengths-are (script ∷ scripts) =
-    omega (arith, sum_by-cons (λ (script : Vec Report Global). length script.items) script scripts, sum_by-cons (λ (list : List Report). length list) script.items (items_of scripts), lengths-are scripts)
+    omega (arith, sum_by-cons (λ (script : Vec Report Global). length script.items) script scripts, sum_by-cons (λ (list : List Report). length list) script.items (lists_of scripts), lengths-are scripts)
 
-module _ (reporters : ℕ) (script : List Report) (scripts : List (Vec Report Global)) (split : items_of scripts ≡ scripts_of reporters script) where
+module _ (reporters : ℕ) (script : List Report) (scripts : List (Vec Report Global)) (split : lists_of scripts ≡ scripts_of reporters script) where
   pub split-count : length scripts ≡ reporters
   split-count = sym (length-map scripts (λ script. script.items)) ∙ ap length split ∙ length-map-range_with_len (λ number. reports_of number script) 0 reporters
 

@@ -7,6 +7,3 @@ use Rattle.bwe_specs.specs.Reports.{numbers, reports_of}
 -- those of each number, in the script's order
 abbrev pub scripts_of : ℕ → List Report → List (List Report)
 scripts_of reporters script = map (λ number. reports_of number script) (numbers reporters)
-
-abbrev pub items_of : List (Vec Report Global) → List (List Report)
-items_of scripts = map (λ script. script.items) scripts

@@ -9,7 +9,8 @@ ghost use Rattle.bwe_specs.specs.declared.limits.TheConstants.{MAX_REPORTERS, MA
 ghost use Rattle.bwe_specs.specs.Reports.{reports_of};
 ghost use Rattle.plan_doc.specs.Conditions.{IsUsable, link_count, reporter_count, tasks_in};
 ghost use Rattle.crew_log.specs.Scripts.{AreOfReporters, reports_in};
-ghost use Rattle.document_scripts.specs.Scripts.{items_of, scripts_of};
+ghost use Rattle.bwe_specs.specs.Lists.{lists_of};
+ghost use Rattle.document_scripts.specs.Scripts.{scripts_of};
 
 use bwe_specs::{OutOfMemory, Report};
 use plan_doc::Document;
@@ -22,7 +23,7 @@ pub fn scripts_of_document(
 ) -> Result<Vec<Vec<Report>>, OutOfMemory>
     requires { IsUsable document.now }
     ensures split { IfOk result (λ scripts.
-        items_of scripts.items
+        lists_of scripts.items
         ≡ scripts_of (reporter_count document.now) document.now.script.items) }
     ensures few { IfOk result (λ scripts. length scripts.items ≤ MAX_REPORTERS) }
     ensures scripts { IfOk result (λ scripts.
@@ -39,7 +40,7 @@ fn split_by_reporter(
     script: &[Report],
     reporters: u32,
 ) -> Result<Vec<Vec<Report>>, OutOfMemory>
-    ensures { IfOk result (λ scripts. items_of scripts.items ≡ scripts_of reporters script.now) }
+    ensures { IfOk result (λ scripts. lists_of scripts.items ≡ scripts_of reporters script.now) }
 {
     let mut scripts = Vec::new(alloc);
     for reporter in 0..reporters {

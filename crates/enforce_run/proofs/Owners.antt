@@ -8,7 +8,7 @@ use Rattle.std.proofs.lemmas.List.FromFn.{get_or-range_with_len, length-range_wi
 use Rattle.std.proofs.lemmas.List.Sums.{length-filter, count_by-le-length}
 use Rattle.std.proofs.lemmas.List.Elements.{All-map, All-filter, filter-append}
 use Rattle.bwe_specs.specs.Reports.{numbers}
-use Rattle.enforcer_core.specs.World.{rows_of}
+use Rattle.bwe_specs.specs.Lists.{lists_of}
 use Rattle.enforce_run.specs.Playing.{owned_below, owned_by, regions_of}
 use Rattle.table_text.proofs.Lines.{numbers-more}
 
@@ -29,10 +29,10 @@ no_task_more owners reporter task differs =
     task_more owners reporter task ∙ ap (λ (b : Bool). owned_below owners reporter task ++ cond b (task ∷ []) []) (ne_eqb (get_or owners task 0) reporter differs) ∙ append-nil (owned_below owners reporter task)
 
 -- one region more
-pub one_region_more : (owners : List ℕ) (old new : List (Vec ℕ Global)) (row : Vec ℕ Global) (reporter : ℕ) → rows_of old ≡ regions_of reporter owners → new ≡ old ++ row ∷ [] → row.items ≡ owned_by owners reporter
-    → rows_of new ≡ regions_of (reporter + 1) owners
+pub one_region_more : (owners : List ℕ) (old new : List (Vec ℕ Global)) (row : Vec ℕ Global) (reporter : ℕ) → lists_of old ≡ regions_of reporter owners → new ≡ old ++ row ∷ [] → row.items ≡ owned_by owners reporter
+    → lists_of new ≡ regions_of (reporter + 1) owners
 one_region_more owners old new row reporter before pushed is =
-    ap rows_of pushed ∙ map-append (λ (row : Vec ℕ Global). row.items) old (row ∷ []) ∙ ap (λ (rows : List (List ℕ)). rows ++ row.items ∷ []) before
+    ap lists_of pushed ∙ map-append (λ (row : Vec ℕ Global). row.items) old (row ∷ []) ∙ ap (λ (rows : List (List ℕ)). rows ++ row.items ∷ []) before
     ∙ ap (λ (tasks : List ℕ). regions_of reporter owners ++ tasks ∷ []) is
     ∙ sym (map-append (λ reporter. owned_by owners reporter) (numbers reporter) (reporter ∷ [])) ∙ ap (map (λ reporter. owned_by owners reporter)) (numbers-more reporter)
 

@@ -3,7 +3,8 @@
 ghost use Rattle.std.specs.Prelude.{◌≡◌, ◌<◌, ◌≤◌, ◌^◌, [], IfOk, OnOk, length, take};
 ghost use Rattle.std.specs.List.{All};
 ghost use Rattle.demand_book.specs.Fit.{IsFit};
-ghost use Rattle.enforcer_core.specs.World.{IsMeant, answer_to, rows_of, world_after};
+ghost use Rattle.bwe_specs.specs.Lists.{lists_of};
+ghost use Rattle.enforcer_core.specs.World.{IsMeant, answer_to, world_after};
 ghost use Rattle.enforce_run.specs.EventLines.{AreThere};
 ghost use Rattle.enforce_run.specs.Playing.{IsIn, IsOnScript, event_in, played_of};
 
@@ -27,12 +28,12 @@ pub(crate) fn play<M: Maker>(
     requires fit { All (IsFit (M.plan_tasks (M.plan maker)) (M.plan_links (M.plan maker)))
         script.now }
     requires tasks { All (λ tasks. All (λ task. task < M.plan_tasks (M.plan maker)) tasks)
-        (rows_of regions.items) }
+        (lists_of regions.items) }
     requires there { AreThere (length regions.items) [] lines.now }
     ensures played { IfOk result (λ played. record { answers = played.0.items; world = played.1 }
         ≡ played_of M.Table.covers M.Table.limit_at (M.table_of (M.plan maker)) script.now
-        (rows_of regions.items) lines.now) }
-    ensures tasks { IfOk result (λ played. played.1.tasks ≡ rows_of regions.items) }
+        (lists_of regions.items) lines.now) }
+    ensures tasks { IfOk result (λ played. played.1.tasks ≡ lists_of regions.items) }
 {
     let first = maker.table(alloc)?;
     let mut world = World::new(alloc, regions, first)?;

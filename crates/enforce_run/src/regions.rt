@@ -1,7 +1,7 @@
 //! The regions of reporters.
 
 ghost use Rattle.std.specs.Prelude.{◌≡◌, ◌<◌, ◌^◌, IfOk, length};
-ghost use Rattle.enforcer_core.specs.World.{rows_of};
+ghost use Rattle.bwe_specs.specs.Lists.{lists_of};
 ghost use Rattle.enforce_run.specs.Playing.{owned_by, regions_of as regions_of_owners};
 
 use bwe_specs::OutOfMemory;
@@ -17,7 +17,7 @@ pub(crate) fn regions_of(
 ) -> Result<Vec<Vec<u32>>, OutOfMemory>
     requires few { length owners.now < 2 ^ 32 }
     ensures { IfOk result
-        (λ regions. rows_of regions.items ≡ regions_of_owners reporters owners.now) }
+        (λ regions. lists_of regions.items ≡ regions_of_owners reporters owners.now) }
 {
     let mut regions = Vec::with_capacity(alloc, reporters as usize)?;
     for reporter in 0..reporters {

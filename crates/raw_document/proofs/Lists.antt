@@ -73,7 +73,7 @@ under_gives output_view step q (Err inner) (Err OutOfMemory) gives is_under = tt
 under_gives output_view step q (Err OutOfMemory) (Err (At path)) gives is_under = absurd is_under
 under_gives output_view step q (Err (At below)) (Err (At path)) gives is_under = rw gives (ap Err (sym is_under))
 
-list_items-items_of : (ds : List Data) → list_items (items_of ds) ≡ ds
+pub list_items-items_of : (ds : List Data) → list_items (items_of ds) ≡ ds
 list_items-items_of [] = refl
 list_items-items_of (d ∷ ds) = ap (λ es. d ∷ es) (list_items-items_of ds)
 

@@ -7,7 +7,8 @@ use Rattle.bwe_specs.specs.declared.report.Report.{Report}
 use Rattle.text_scan.specs.Words.{words_of}
 use Rattle.doc_names.specs.NameTexts.{NameTexts}
 use Rattle.run_audit.specs.Forms.{history_of, report_of}
-use Rattle.run_audit.specs.History.{Printed, Reported, begins, continue_with, fault, history_in, is_line_of, line_after, next_of, none_printed, scripts_of, take_line, take_lines, take_next, take_words, total_of, with_report}
+use Rattle.bwe_specs.specs.Lists.{lists_of}
+use Rattle.run_audit.specs.History.{Printed, Reported, begins, continue_with, fault, history_in, is_line_of, line_after, next_of, none_printed, take_line, take_lines, take_next, take_words, total_of, with_report}
 use Rattle.run_audit.specs.declared.forms.ReportWords.{ReportWords}
 use Rattle.run_audit.specs.declared.verdict.AuditCause.TheVariants.{Form, Script}
 use Rattle.run_audit.specs.declared.verdict.Fault.{Fault}
@@ -20,7 +21,7 @@ module _ (P : Report → Type 0) where
 
   -- what every report of the scripts has, the next one of any reporter has
   pub next_fits : (scripts : List (Vec Report Global)) → ((number : ℕ) (script : Vec Report Global) → number < length scripts → All P (slice_index_or scripts number script).items)
-      → (reporter place : ℕ) → IfSome (slice_get (slice_index_or (scripts_of scripts) reporter []) place) P
+      → (reporter place : ℕ) → IfSome (slice_get (slice_index_or (lists_of scripts) reporter []) place) P
   next_fits [] all reporter place = tt
   next_fits (script ∷ scripts) all zero place = fits_at script.items place (all 0 script (omega arith))
   next_fits (script ∷ scripts) all (suc reporter) place = next_fits scripts (λ number other within. all (suc number) other (omega (arith, within))) reporter place

@@ -16,9 +16,6 @@ use Rattle.run_audit.specs.declared.verdict.Fault.{Fault}
 use Rattle.run_audit.specs.declared.verdict.Stop.{Stop}
 use Rattle.run_audit.specs.declared.verdict.Stop.TheVariants.{At, OutOfMemory}
 
-abbrev pub scripts_of : List (Vec Report Global) → List (List Report)
-scripts_of scripts = map (λ script. script.items) scripts
-
 -- how many reports the scripts have
 abbrev pub total_of : List (List Report) → ℕ
 total_of scripts = sum_by length scripts

@@ -1,7 +1,8 @@
 //! Which line is due behind the history, and where a line leads that is not of the table.
 ghost use Rattle.std.specs.Prelude.{◌≡◌, ℕ, ◌<◌, ◌≤◌, length, map, string_bytes, IfOk, IsNone, IfSome};
 ghost use Rattle.doc_names.specs.NameTexts.{texts_of};
-ghost use Rattle.run_audit.specs.History.{scripts_of, total_of};
+ghost use Rattle.bwe_specs.specs.Lists.{lists_of};
+ghost use Rattle.run_audit.specs.History.{total_of};
 ghost use Rattle.run_audit.specs.Walk as walk;
 
 use crate::forms::{Shown, reader_of, sent_of, shown_of};
@@ -52,7 +53,7 @@ fn leads_to(due: Due) -> Result<Step, AuditCause>
 
 /// The line of the next reporter, or behind the last one a reader's.
 pub(crate) fn due_from(scripts: &[Vec<Report>], next: u64) -> Due
-    ensures step { result ≡ walk.due_from (scripts_of scripts.now) next }
+    ensures step { result ≡ walk.due_from (lists_of scripts.now) next }
     ensures due { walk.IsDue (length scripts.now) result }
 {
     if next < scripts.len() as u64 {
@@ -70,7 +71,7 @@ fn after_reporter(
 ) -> Result<Step, AuditCause>
     requires next { next < length scripts.now }
     ensures step { result
-        ≡ walk.after_reporter (texts_of names.now) (scripts_of scripts.now) next line.now }
+        ≡ walk.after_reporter (texts_of names.now) (lists_of scripts.now) next line.now }
     ensures due { IfOk result (λ step. walk.IsDue (length scripts.now) step.due) }
     ensures shown { IfOk result (λ step. IsNone step.shown) }
 {
@@ -200,10 +201,10 @@ pub(crate) fn step_from(
     due: Due,
     line: &LineWords<'_>,
 ) -> Result<Step, AuditCause>
-    requires total { total ≡ total_of (scripts_of scripts.now) }
+    requires total { total ≡ total_of (lists_of scripts.now) }
     requires due { walk.IsDue (length scripts.now) due }
     ensures step { result
-        ≡ walk.step_from (texts_of names.now) (scripts_of scripts.now) due line.now }
+        ≡ walk.step_from (texts_of names.now) (lists_of scripts.now) due line.now }
     ensures due { IfOk result (λ step. walk.IsDue (length scripts.now) step.due) }
     ensures shown { IfOk result (λ step. IfSome step.shown (λ shown. shown.prefix ≤ total)) }
 {

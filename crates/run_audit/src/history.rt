@@ -3,7 +3,8 @@ ghost use Rattle.std.specs.Prelude.{◌≡◌, ◌+◌, ◌<◌, ◌≤◌, ◌^
 ghost use Rattle.doc_names.specs.NameTexts.{texts_of};
 ghost use Rattle.run_audit.specs.Forms.{report_of as report_words};
 ghost use Rattle.run_audit.specs.History as history;
-ghost use Rattle.run_audit.specs.History.{IsStop, scripts_of, total_of};
+ghost use Rattle.bwe_specs.specs.Lists.{lists_of};
+ghost use Rattle.run_audit.specs.History.{IsStop, total_of};
 ghost use Rattle.run_audit.specs.declared.verdict.Stop.TheVariants.{At};
 
 use crate::forms::{ReportWords, history_in, report_of, reporter_of};
@@ -35,7 +36,7 @@ impl PrintedHistory {
     // The report of the reporter's script that comes next.
     fn next_of(&self, scripts: &[Vec<Report>], reporter: usize) -> Option<Report>
         requires taken { length self.now.taken ≡ length scripts.now }
-        ensures next { result ≡ history.next_of (scripts_of scripts.now) self.now.taken reporter }
+        ensures next { result ≡ history.next_of (lists_of scripts.now) self.now.taken reporter }
         ensures within { IfSome result (λ _. reporter < length self.now.taken) }
         ensures fits { IfSome result (λ _. slice_index self.now.taken reporter + 1 < 2 ^ 64) }
     {
@@ -70,10 +71,10 @@ impl PrintedHistory {
     fn take_line(&mut self, names: &Names, scripts: &[Vec<Report>], line: &[u8]) -> Result<(), Stop>
         requires taken { length self.old.taken ≡ length scripts.now }
         ensures ok { OnOk result
-            (history.take_line (texts_of names.now) (scripts_of scripts.now) self.old line.now
+            (history.take_line (texts_of names.now) (lists_of scripts.now) self.old line.now
             ≡ Ok self.new) }
         ensures stop { IfErr result
-            (IsStop (history.take_line (texts_of names.now) (scripts_of scripts.now) self.old
+            (IsStop (history.take_line (texts_of names.now) (lists_of scripts.now) self.old
             line.now)) }
         ensures taken { OnOk result (length self.new.taken ≡ length scripts.now) }
         ensures grows { OnOk result (length self.new.reports ≡ length self.old.reports + 1) }
@@ -93,10 +94,10 @@ impl PrintedHistory {
         line: &LineWords<'_>,
     ) -> Result<(), Stop>
         requires taken { length self.old.taken ≡ length scripts.now }
-        ensures ok { OnOk result (history.take_words (texts_of names.now) (scripts_of scripts.now)
+        ensures ok { OnOk result (history.take_words (texts_of names.now) (lists_of scripts.now)
             self.old line.now (report_words (texts_of names.now) line.now) ≡ Ok self.new) }
         ensures stop { IfErr result
-            (IsStop (history.take_words (texts_of names.now) (scripts_of scripts.now)
+            (IsStop (history.take_words (texts_of names.now) (lists_of scripts.now)
             self.old line.now (report_words (texts_of names.now) line.now))) }
         ensures taken { OnOk result (length self.new.taken ≡ length scripts.now) }
         ensures grows { OnOk result (length self.new.reports ≡ length self.old.reports + 1) }
@@ -125,16 +126,16 @@ impl PrintedHistory {
         total: u64,
         text: &mut Lines<'_>,
     ) -> Result<(), Stop>
-        requires total { total ≡ total_of (scripts_of scripts.now) }
+        requires total { total ≡ total_of (lists_of scripts.now) }
         requires taken { length self.old.taken ≡ length scripts.now }
         requires within { length self.old.reports ≤ total }
         requires number { text.old.number ≡ history.line_after self.old }
         ensures ok { OnOk result
-            (history.take_lines (texts_of names.now) (scripts_of scripts.now) self.old
+            (history.take_lines (texts_of names.now) (lists_of scripts.now) self.old
             text.old.lines
             ≡ Ok (record { reports = self.new.reports; lines = text.new.lines })) }
         ensures stop { IfErr result
-            (IsStop (history.take_lines (texts_of names.now) (scripts_of scripts.now) self.old
+            (IsStop (history.take_lines (texts_of names.now) (lists_of scripts.now) self.old
             text.old.lines)) }
         ensures all { OnOk result (length self.new.reports ≡ total) }
         ensures left { OnOk result (text.new.left ≡ text.old.left) }
@@ -197,13 +198,13 @@ pub(crate) fn read_history(
     total: u64,
     text: &mut Lines<'_>,
 ) -> Result<Vec<Report>, Stop>
-    requires total { total ≡ total_of (scripts_of scripts.now) }
+    requires total { total ≡ total_of (lists_of scripts.now) }
     requires number { text.old.number ≡ 0 }
     ensures ok { IfOk result (λ reports.
-        history.history_in (texts_of names.now) (scripts_of scripts.now) text.old.lines
+        history.history_in (texts_of names.now) (lists_of scripts.now) text.old.lines
         ≡ Ok (record { reports = reports.items; lines = text.new.lines })) }
     ensures stop { IfErr result
-        (IsStop (history.history_in (texts_of names.now) (scripts_of scripts.now) text.old.lines)) }
+        (IsStop (history.history_in (texts_of names.now) (lists_of scripts.now) text.old.lines)) }
     ensures all { IfOk result (λ reports. length reports.items ≡ total) }
     ensures left { OnOk result (text.new.left ≡ text.old.left) }
     ensures number { IfOk result (λ reports. text.new.number ≡ length reports.items + 1) }

@@ -4,7 +4,8 @@ ghost use Rattle.std.specs.List.{All};
 ghost use Rattle.bwe_specs.specs.declared.report.Report.{Report};
 ghost use Rattle.demand_book.specs.Fit.{IsFit};
 ghost use Rattle.doc_names.specs.NameTexts.{texts_of};
-ghost use Rattle.run_audit.specs.History.{scripts_of, total_of};
+ghost use Rattle.bwe_specs.specs.Lists.{lists_of};
+ghost use Rattle.run_audit.specs.History.{total_of};
 ghost use Rattle.run_audit.specs.Walk.{due_from as first_due};
 ghost use Rattle.run_audit.specs.Verdict.{AreFit, IsVerdictAt, judge, verdict_of};
 
@@ -35,9 +36,9 @@ pub fn audit<M: Maker>(
 ) -> Result<AuditVerdict, OutOfMemory>
     requires first { M.absorbed maker [] }
     requires fit { AreFit (M.plan_tasks (M.plan maker)) (M.plan_links (M.plan maker)) scripts.now }
-    requires few { total_of (scripts_of scripts.now) ≤ MAX_REPORTS }
+    requires few { total_of (lists_of scripts.now) ≤ MAX_REPORTS }
     ensures { IfOk result (λ verdict. verdict
-        ≡ verdict_of (texts_of names.now) (scripts_of scripts.now)
+        ≡ verdict_of (texts_of names.now) (lists_of scripts.now)
         (λ reports. M.Table.total_of (M.table_of (M.plan maker) reports)) table.now text.now) }
 {
     let total = total_reports(scripts);
@@ -71,8 +72,8 @@ fn verdict_at(stop: Stop) -> Result<AuditVerdict, OutOfMemory>
 
 // How many reports the scripts have.
 fn total_reports(scripts: &[Vec<Report>]) -> u64
-    requires { total_of (scripts_of scripts.now) ≤ MAX_REPORTS }
-    ensures { result ≡ total_of (scripts_of scripts.now) }
+    requires { total_of (lists_of scripts.now) ≤ MAX_REPORTS }
+    ensures { result ≡ total_of (lists_of scripts.now) }
 {
     let mut total = 0;
     for script in scripts {
@@ -95,11 +96,11 @@ fn audit_rest<M: Maker>(
     requires few { length history.now ≤ MAX_REPORTS }
     requires fit { All (IsFit (M.plan_tasks (M.plan maker)) (M.plan_links (M.plan maker)))
         history.now }
-    requires all { length history.now ≡ total_of (scripts_of scripts.now) }
-    ensures { IfOk result (λ verdict. verdict ≡ judge (texts_of names.now) (scripts_of scripts.now)
+    requires all { length history.now ≡ total_of (lists_of scripts.now) }
+    ensures { IfOk result (λ verdict. verdict ≡ judge (texts_of names.now) (lists_of scripts.now)
         (λ prefix. M.Table.total_of (M.table_of (M.plan maker) (take prefix history.now)))
         text.old.left
-        (record { due = first_due (scripts_of scripts.now) 0; table = table.entry.lines })
+        (record { due = first_due (lists_of scripts.now) 0; table = table.entry.lines })
         text.old.number text.old.lines) }
 {
     let mut walk = Walk {

@@ -2,7 +2,8 @@
 ghost use Rattle.std.specs.Prelude.{◌≡◌, ◌≤◌, ◌++◌, [], length, IfErr, IfOk, IfSome, OnOk};
 ghost use Rattle.std.specs.List.{All};
 ghost use Rattle.doc_names.specs.NameTexts.{texts_of};
-ghost use Rattle.run_audit.specs.History.{scripts_of, total_of};
+ghost use Rattle.bwe_specs.specs.Lists.{lists_of};
+ghost use Rattle.run_audit.specs.History.{total_of};
 ghost use Rattle.run_audit.specs.Walk as steps;
 ghost use Rattle.run_audit.specs.Verdict.{at_end};
 ghost use Rattle.run_audit.specs.Checks.{checks_of, found_of, pursue as pursue_lines};
@@ -89,13 +90,13 @@ impl<'a> Walk<'a> {
         total: u64,
         line: &[u8],
     ) -> Result<Option<Shown>, AuditCause>
-        requires total { total ≡ total_of (scripts_of scripts.now) }
+        requires total { total ≡ total_of (lists_of scripts.now) }
         requires due { steps.IsDue (length scripts.now) self.old.due }
         ensures ok { IfOk result (λ shown.
-            steps.after_line (texts_of names.now) (scripts_of scripts.now) self.old line.now
+            steps.after_line (texts_of names.now) (lists_of scripts.now) self.old line.now
             ≡ Ok (record { walk = self.new; shown = shown })) }
         ensures fault { IfErr result (λ cause.
-            steps.after_line (texts_of names.now) (scripts_of scripts.now) self.old line.now
+            steps.after_line (texts_of names.now) (lists_of scripts.now) self.old line.now
             ≡ Err cause) }
         ensures due { OnOk result (steps.IsDue (length scripts.now) self.new.due) }
         ensures shown { IfOk result (λ shown. IfSome shown (λ shown. shown.prefix ≤ total)) }
@@ -167,10 +168,10 @@ pub(crate) fn pursue(
     text: &mut Lines<'_>,
     walk: &mut Walk<'_>,
 ) -> Result<Pursued, OutOfMemory>
-    requires total { total ≡ total_of (scripts_of scripts.now) }
+    requires total { total ≡ total_of (lists_of scripts.now) }
     requires due { steps.IsDue (length scripts.now) walk.old.due }
     ensures pursued { IfOk result (λ pursued.
-        found_of pursued ≡ pursue_lines (texts_of names.now) (scripts_of scripts.now)
+        found_of pursued ≡ pursue_lines (texts_of names.now) (lists_of scripts.now)
         text.old.left walk.old text.old.number text.old.lines) }
     ensures prefixes { IfOk result
         (λ pursued. All (λ check. check.prefix ≤ total) pursued.checks.items) }

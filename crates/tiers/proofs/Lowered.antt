@@ -4,7 +4,8 @@ use Rattle.std.proofs.lemmas.Bool.{cases_eq}
 use Rattle.std.proofs.lemmas.List.{length-set}
 use Rattle.std.proofs.lemmas.List.FromFn.{fill_by_all}
 use Rattle.bwe_specs.specs.Reports.{numbers}
-use Rattle.wan_topology.specs.Network.{Network, Sites}
+use Rattle.wan_topology.specs.Network.{Network}
+use Rattle.wan_topology.proofs.Networks.{same-network}
 use Rattle.allocator.proofs.Put.{ne_lt}
 use Rattle.path_groups.proofs.OtherCapacities.{with_capacities}
 
@@ -41,16 +42,12 @@ lowered-more old new loads link left is within left-is = record {
   rest = λ at le. get_or-set_other new.capacities link at left 0 (λ e. absurd (omega arith)) ∙ is.rest at (omega arith);
 }
 
-network_parts : List (List ℕ) → List Sites → List ℕ → Network
-network_parts names sites capacities = record { names = names; sites = sites; capacities = capacities }
-
 pub lowered-all : (old new : Network) (loads : List ℕ) (link : ℕ) → IsLowered old new loads link → length old.capacities ≡ link
     → new ≡ with_capacities old (map (λ link. slice_index old.capacities link - slice_index loads link) (numbers (length old.capacities)))
-unfolding network_parts
 lowered-all old new loads link is all =
     let capacities : new.capacities ≡ map (λ link. slice_index old.capacities link - slice_index loads link) (numbers (length old.capacities)) =
     fill_by_all (λ link. slice_index old.capacities link - slice_index loads link) new.capacities (length old.capacities) 0 is.count (λ at lt. is.below at (omega (arith, all))) in
-    ap (λ names. network_parts names new.sites new.capacities) is.names ∙ ap₂ (network_parts old.names) is.sites capacities
+    same-network new _ is.names is.sites capacities
 
 -- each load below a link has a load more, each other is as it was
 pub record IsAdded (old new more : List ℕ) (link : ℕ) : Type 0 where

@@ -11,19 +11,16 @@ use Rattle.raw_document.specs.Reading.{each}
 use Rattle.raw_document.specs.Shape.{whole, text, pair_of, point, function, field, optional, object, list_items, list_of, is_one_of, has_only, has_all}
 use Rattle.raw_document.specs.Forms.{link_at, path_at, task_at, job_at, user_at, group_at, is_of_link, demand_at, report_at, document_at}
 use Rattle.raw_document.specs.Raw.{User}
+use Rattle.raw_document.proofs.Lists.{list_items-items_of}
 use Rattle.doc_maker.specs.Layout.{list_value, function_value, link_value, path_value, task_value, job_value, user_value, group_value, report_value, document_value}
 use Rattle.doc_maker.specs.Made.{Size, made_link, made_path_groups, made_task, made_function, made_job, made_user, made_group, made_report, tasks_of, reporter_name, made}
 use Rattle.doc_maker.proofs.accepting.Readings.{each_mapped}
-
-items_back : (items : List Data) → list_items (items_of items) ≡ items
-items_back [] = refl
-items_back (item ∷ items) = ap (λ rest. item ∷ rest) (items_back items)
 
 -- the value of a mapped list is read item by item
 list_back : {X A B : Type 0} (read : Data → Result B (List PathStep)) (value : A → Data) (item : X → A) (out : X → B)
     → ((x : X) → read (value (item x)) ≡ Ok (out x)) → (xs : List X) → list_of read (list_value value (map item xs)) ≡ Ok (map out xs)
 unfolding list_of
-list_back {X = X} read value item out reads xs = ap (each read 0) (items_back (map value (map item xs)) ∙ mapped xs) ∙ each_mapped read (λ x. value (item x)) out (λ _. Unit {0}) (λ x _. reads x) 0 xs (All-anything xs) where
+list_back {X = X} read value item out reads xs = ap (each read 0) (list_items-items_of (map value (map item xs)) ∙ mapped xs) ∙ each_mapped read (λ x. value (item x)) out (λ _. Unit {0}) (λ x _. reads x) 0 xs (All-anything xs) where
   mapped : (xs : List X) → map value (map item xs) ≡ map (λ x. value (item x)) xs
   mapped [] = refl
   mapped (x ∷ xs) = ap (λ rest. value (item x) ∷ rest) (mapped xs)

@@ -1,6 +1,6 @@
 use Rattle.std.proofs.Common.{◌≡◌, ◌<◌, get_or, length, ◌∙◌, arith}
 use Rattle.std.proofs.lemmas.List.{get_or_default}
-use Rattle.enforcer_core.specs.World.{rows_of}
+use Rattle.bwe_specs.specs.Lists.{lists_of}
 use Rattle.enforce_run.specs.declared.event.EventLine.{EventLine}
 use Rattle.enforce_run.specs.declared.event.EventLine.TheVariants.{Post}
 use Rattle.enforce_run.specs.Playing.{played_of}
@@ -22,17 +22,17 @@ loop-line-preserved g c =
       script = script_same g.M.Table.Posted.covers g.M.Maker.table_of (g.M.Maker.absorbed c.play_one.new.maker) script c.play_one.new.world.posted now known c.loop-line.invariant.plan
           c.in_ok-play_one.ensures.script;
       played = played_more g.M.Table.Posted.covers g.M.Table.Posted.limit_at g.M.Maker.table_of script known now
-          (played_of g.M.Table.Posted.covers g.M.Table.Posted.limit_at (g.M.Maker.table_of known) script (rows_of c.args.regions.items) lines) c.loop-line.answers.items c.push.new.self.items
+          (played_of g.M.Table.Posted.covers g.M.Table.Posted.limit_at (g.M.Maker.table_of known) script (lists_of c.args.regions.items) lines) c.loop-line.answers.items c.push.new.self.items
           c.loop-line.world c.play_one.new.world c.in_ok-play_one.field-0 lines i line c.loop-line.invariant.plan inside is c.loop-line.invariant.played c.in_ok-play_one.ensures.answer
           c.in_ok-play_one.ensures.world c.in_ok-push.ensures.items;
       counted = counted_more g.M.Table.Posted.covers g.M.Table.Posted.limit_at (g.M.Maker.table_of now) script (length c.args.regions.items) lines i c.loop-line.world c.play_one.new.world inside
           c.in_ok-play_one.ensures.world c.loop-line.invariant.counted;
       there = rest_there (length c.args.regions.items) lines i line inside is c.loop-line.invariant.there;
-      tasks = tasks_more g.M.Table.Posted.covers g.M.Table.Posted.limit_at (g.M.Maker.table_of now) script line c.loop-line.world c.play_one.new.world (rows_of c.args.regions.items)
+      tasks = tasks_more g.M.Table.Posted.covers g.M.Table.Posted.limit_at (g.M.Maker.table_of now) script line c.loop-line.world c.play_one.new.world (lists_of c.args.regions.items)
           c.in_ok-play_one.ensures.world c.loop-line.invariant.tasks;
     }
 
 pub returns-clause-played : goal.returns-clause-played
 returns-clause-played g c =
-    at_end g.M.Table.Posted.covers g.M.Table.Posted.limit_at g.M.Maker.table_of c.args.script.now (rows_of c.args.regions.items) (g.M.Maker.plan c.table.new.self) (g.M.Maker.plan c.args.maker)
+    at_end g.M.Table.Posted.covers g.M.Table.Posted.limit_at g.M.Maker.table_of c.args.script.now (lists_of c.args.regions.items) (g.M.Maker.plan c.table.new.self) (g.M.Maker.plan c.args.maker)
     (record { answers = c.loop-line.answers.items; world = c.loop-line.world }) c.args.lines.now c.loop-line.line-index c.table.ensures.plan (omega (arith, c.loop-line-test.false)) c.loop-line.invariant.played
