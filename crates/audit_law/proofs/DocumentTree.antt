@@ -1,7 +1,6 @@
 -- The functions of an accepted document are right, and it has few tasks.
 use Rattle.std.proofs.Common.{◌≡◌, ◌≤◌, ◌+◌, ℕ, suc, Bool, true, false, cond, List, [], ◌∷◌, length, map, nat_lt, Option, Some, None, refl}
 use Rattle.std.specs.Prelude.{option_map, position}
-use Rattle.std.specs.Option.{option_or}
 use Rattle.std.proofs.lemmas.Bool.{ltb-false}
 use Rattle.bw_function.specs.BwFunction.{points_of}
 use Rattle.bw_function.specs.Faults.{function_fault}

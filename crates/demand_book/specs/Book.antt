@@ -1,6 +1,5 @@
 -- What contracts see of a book, and when it refuses a report.
-use Rattle.std.specs.Prelude.{ℕ, ◌≡◌, ◌<◌, ◌≤◌, ◌++◌, ◌∷◌, [], List, Vec, length, map, slice_index, slice_index_or, slice_set}
-use Rattle.std.specs.declared.alloc.Global.{Global}
+use Rattle.std.specs.Prelude.{ℕ, ◌≡◌, ◌<◌, ◌≤◌, ◌++◌, ◌∷◌, [], List, length, slice_index, slice_index_or, slice_set}
 use Rattle.bwe_specs.specs.declared.report.Target.{Target}
 use Rattle.bwe_specs.specs.declared.report.Target.TheVariants.{Task, Link}
 use Rattle.bwe_specs.specs.declared.report.Report.{Report}

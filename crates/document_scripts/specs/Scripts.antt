@@ -1,6 +1,5 @@
 -- The script of a document, split by reporter.
-use Rattle.std.specs.Prelude.{ℕ, List, Vec, map}
-use Rattle.std.specs.declared.alloc.Global.{Global}
+use Rattle.std.specs.Prelude.{ℕ, List, map}
 use Rattle.bwe_specs.specs.declared.report.Report.{Report}
 use Rattle.bwe_specs.specs.Reports.{numbers, reports_of}
 

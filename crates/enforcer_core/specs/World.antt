@@ -1,9 +1,8 @@
 -- A centre that posts tables, and regions that keep to them over a network that may lose, repeat
 -- and reorder any message.
-use Rattle.std.specs.Prelude.{◌≡◌, ℕ, ◌<◌, ◌≤◌, List, [], ◌∷◌, ◌++◌, Bool, Option, Some, None, Vec, length, map, replicate, slice_index, slice_index_or, slice_set, min, max, nat_lt, if◌then◌else◌, option_map}
+use Rattle.std.specs.Prelude.{◌≡◌, ℕ, ◌<◌, ◌≤◌, List, [], ◌∷◌, ◌++◌, Bool, Option, Some, None, length, map, replicate, slice_index, slice_index_or, slice_set, min, max, nat_lt, if◌then◌else◌, option_map}
 use Rattle.std.specs.List.{All, fold}
 use Rattle.std.specs.Option.{IfSome}
-use Rattle.std.specs.declared.alloc.Global.{Global}
 use Rattle.enforcer_core.specs.declared.event.WorldEvent.{WorldEvent}
 use Rattle.enforcer_core.specs.declared.event.WorldEvent.TheVariants as event
 use Rattle.enforcer_core.specs.declared.event.WorldAnswer.{WorldAnswer}

@@ -1,6 +1,5 @@
 -- Amounts by group and place, and the loads that they put on links.
-use Rattle.std.specs.Prelude.{◌≡◌, ℕ, ◌+◌, ◌<◌, ◌≤◌, List, [], length, map, slice_index, slice_index_or, true, Vec}
-use Rattle.std.proofs.Common.{Global}
+use Rattle.std.specs.Prelude.{◌≡◌, ℕ, ◌+◌, ◌<◌, ◌≤◌, List, [], length, slice_index, slice_index_or, true}
 use Rattle.bwe_specs.specs.declared.limits.TheConstants.{MAX_TOTAL}
 use Rattle.bwe_specs.specs.Bounded.{sum_below}
 use Rattle.path_groups.specs.Plan.{IsPlan}

@@ -1,6 +1,6 @@
 //! The groups of a filling, each as it was when it last came up to its value.
 
-ghost use Rattle.std.specs.Prelude.{◌≡◌, ℕ, ◌+◌, ◌-◌, ◌<◌, ◌≤◌, ◌∷◌, ◌++◌, [], true, length, map, reverse, set, IfOk, OnOk, MatchOption, None};
+ghost use Rattle.std.specs.Prelude.{◌≡◌, ℕ, ◌+◌, ◌-◌, ◌<◌, ◌≤◌, ◌∷◌, ◌++◌, [], length, map, reverse, set, IfOk, OnOk, MatchOption, None};
 ghost use Rattle.bwe_specs.specs.Reports.{numbers};
 ghost use Rattle.bwe_specs.specs.Paths.{path_group_count, lowest_over, is_over as is_link_over};
 ghost use Rattle.bwe_specs.specs.Filling.{closed_links};

@@ -1,6 +1,5 @@
 -- The lines of the history, which have each reporter's script in its order.
-use Rattle.std.specs.Prelude.{◌≡◌, ℕ, Bool, ◌==◌, ◌&&◌, ◌+◌, ◌++◌, List, [], ◌∷◌, Vec, length, map, replicate, Option, Some, None, Result, Ok, Err, if◌then◌else◌, codes, nat_lt, slice_get, slice_index, slice_index_or, slice_set, sum_by}
-use Rattle.std.specs.declared.alloc.Global.{Global}
+use Rattle.std.specs.Prelude.{◌≡◌, ℕ, Bool, ◌==◌, ◌&&◌, ◌+◌, ◌++◌, List, [], ◌∷◌, length, replicate, Option, Some, None, Result, Ok, Err, if◌then◌else◌, codes, nat_lt, slice_get, slice_index, slice_index_or, slice_set, sum_by}
 use Rattle.std.specs.Str.{bytes_eq}
 use Rattle.bwe_specs.specs.declared.report.Target.{Target}
 use Rattle.bwe_specs.specs.declared.report.Target.TheVariants.{Task, Link}

@@ -2,13 +2,12 @@
 use Rattle.std.proofs.Common.{◌≡◌, ℕ, ◌%◌, ◌==◌, Bool, true, false, List, [], ◌∷◌, map, Some, None, Result, Ok, refl, ap, ◌∙◌}
 use Rattle.std.specs.Prelude.{codes, if◌then◌else◌}
 use Rattle.serde_json.specs.Data.{Data, string}
-use Rattle.serde_json.specs.View.{items_of}
 use Rattle.bwe_specs.specs.Reports.{numbers}
 use Rattle.doc_passes.proofs.Readings.{All-anything}
 use Rattle.raw_document.specs.declared.doc_path.PathStep.{PathStep}
 use Rattle.raw_document.specs.Words.{word}
 use Rattle.raw_document.specs.Reading.{each}
-use Rattle.raw_document.specs.Shape.{whole, text, pair_of, point, function, field, optional, object, list_items, list_of, is_one_of, has_only, has_all}
+use Rattle.raw_document.specs.Shape.{whole, text, pair_of, point, function, field, optional, object, list_of, is_one_of, has_only, has_all}
 use Rattle.raw_document.specs.Forms.{link_at, path_at, task_at, job_at, user_at, group_at, is_of_link, demand_at, report_at, document_at}
 use Rattle.raw_document.specs.Raw.{User}
 use Rattle.raw_document.proofs.Lists.{list_items-items_of}
