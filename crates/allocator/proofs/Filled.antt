@@ -18,12 +18,10 @@ use Rattle.link_sums.specs.Sums.{AreRowsOf, amount_at, total_of}
 use Rattle.mpfa_fill.specs.declared.steps.Filling.{Filling}
 use Rattle.mpfa_fill.specs.Filling.{IsFilling}
 use Rattle.allocator.specs.Lines.{HasRows, line_in, line_of_place}
+use Rattle.limit_table.proofs.Equal.{line_parts}
 
 abbrev pub place_parts : ℕ → Option ℕ → PlaceLine
 place_parts amount closed = record { amount = amount; closed = closed }
-
-abbrev pub line_parts : ℕ → ℕ → List PlaceLine → GroupLine
-line_parts share amount places = record { share = share; amount = amount; places = places }
 
 -- lists by number that agree at each number
 pub map-numbers : {X : Type 0} (d : X) (f g : ℕ → X) (n : ℕ) → ((i : ℕ) → i < n → f i ≡ g i) → map f (numbers n) ≡ map g (numbers n)

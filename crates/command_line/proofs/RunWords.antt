@@ -1,4 +1,5 @@
 -- The words after `run`: `clap` takes them as the definition does.
+use Rattle.std.proofs.Math.Bool.{or-true}
 use Rattle.std.proofs.Common.{◌≡◌, ℕ, Bool, true, false, cond, ◌&&◌, ◌||◌, List, [], ◌∷◌, ◌++◌, codes, Option, Some, None, refl, sym, ap, ap₂, subst, ◌∙◌, true≢false}
 use Rattle.std.specs.Prelude.{option_map, option_and_then}
 use Rattle.std.specs.List.{fold, list_any}
@@ -158,13 +159,9 @@ bad_stays : (name : Name) (text : Text) (given : Given) → has_bad given ≡ tr
 bad_stays readers text given bad = rw (list_any-append is_bad given.readers (text ∷ [])) (or_keeps (list_any is_bad given.readers) _ _ bad)
 bad_stays reads text given bad = rw (list_any-append is_bad given.reads (text ∷ [])) (or_keeps_second (list_any is_bad given.readers) (list_any is_bad given.reads) _ bad)
 
-or_true : (a : Bool) → (a || true) ≡ true
-or_true true = refl
-or_true false = refl
-
 bad_added : (name : Name) (text : Text) (given : Given) → is_number text ≡ false → has_bad (with_text name text given) ≡ true
-bad_added readers text given bad = rw (list_any-append is_bad given.readers (text ∷ []), bad, or_true (list_any is_bad given.readers)) refl
-bad_added reads text given bad = rw (list_any-append is_bad given.reads (text ∷ []), bad, or_true (list_any is_bad given.reads), or_true (list_any is_bad given.readers)) refl
+bad_added readers text given bad = rw (list_any-append is_bad given.readers (text ∷ []), bad, or-true (list_any is_bad given.readers)) refl
+bad_added reads text given bad = rw (list_any-append is_bad given.reads (text ∷ []), bad, or-true (list_any is_bad given.reads), or-true (list_any is_bad given.readers)) refl
 
 bad_options : (words : List Text) (given : Given) (waiting : Option Name) → has_bad given ≡ true → option_and_then run_line (options_of given waiting words) ≡ None
 unfolding options_of

@@ -27,10 +27,11 @@ same_place x y = (
   (λ e. and_from _ _ ((Decides-eqb x.amount y.amount).1 (ap (λ line. line.amount) e)) ((same_closed x.closed y.closed).1 (ap (λ line. line.closed) e))),
 )
 
-abbrev group_line : ℕ → ℕ → List PlaceLine → GroupLine
-group_line share amount places = record { share = share; amount = amount; places = places }
+-- a line of its parts
+abbrev pub line_parts : ℕ → ℕ → List PlaceLine → GroupLine
+line_parts share amount places = record { share = share; amount = amount; places = places }
 
-same_group_line : (share share' amount amount' : ℕ) (places places' : List PlaceLine) → share ≡ share' → amount ≡ amount' → places ≡ places' → group_line share amount places ≡ group_line share' amount' places'
+same_group_line : (share share' amount amount' : ℕ) (places places' : List PlaceLine) → share ≡ share' → amount ≡ amount' → places ≡ places' → line_parts share amount places ≡ line_parts share' amount' places'
 same_group_line share share' amount amount' places places' shares amounts lines = rw (shares, amounts, lines) refl
 
 -- two lines with one share and one amount are equal where their places are

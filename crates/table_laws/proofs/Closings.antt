@@ -1,6 +1,7 @@
 -- What holds at a closing of a list, and of the closings before it.
-use Rattle.std.proofs.Common.{◌≡◌, ℕ, Bool, true, false, ◌||◌, List, [], ◌∷◌, ◌++◌, Some, None, is_none, refl, ◌∙◌, ap, nat_eq, slice_index_or, eq-eqb, if◌then◌else◌}
+use Rattle.std.proofs.Common.{◌≡◌, ℕ, true, List, [], ◌∷◌, ◌++◌, Some, None, is_none, refl, ◌∙◌, ap, nat_eq, slice_index_or, eq-eqb, if◌then◌else◌}
 use Rattle.std.specs.List.{list_any}
+use Rattle.std.proofs.Math.Bool.{or-true}
 use Rattle.bwe_specs.specs.declared.network.Closing.{Closing}
 use Rattle.bwe_specs.specs.Filling.{Wan, closed_links, current_path_group_of, stop_share}
 use Rattle.bwe_specs.specs.RightClosings.{AreRight}
@@ -14,10 +15,7 @@ right-upto wan (last ∷ later) closing earlier right = right-upto wan later clo
 -- a closing's link is closed from then on
 pub closed-later : (later : List Closing) (closing : Closing) (earlier : List Closing) → list_any (nat_eq closing.link) (closed_links (later ++ closing ∷ earlier)) ≡ true
 closed-later [] closing earlier = rw (eq-eqb closing.link closing.link refl) refl
-closed-later (last ∷ later) closing earlier = rw (closed-later later closing earlier) (go (nat_eq closing.link last.link)) where
-  go : (b : Bool) → (b || true) ≡ true
-  go true = refl
-  go false = refl
+closed-later (last ∷ later) closing earlier = rw (closed-later later closing earlier) (or-true (nat_eq closing.link last.link))
 
 -- a group that a closing leaves without a path group stops at the closing's share
 pub stop-at : (wan : Wan) (later : List Closing) (closing : Closing) (earlier : List Closing) (group q until : ℕ) → current_path_group_of wan earlier group ≡ Some q

@@ -12,6 +12,7 @@ use Rattle.table_text.specs.TableText.{closing_line, link_line, closed_text, pla
 use Rattle.table_laws.specs.Printing.{AreTelling, IsNamed, IsNamedClosing, IsNamedLine, IsNamedPlace}
 use Rattle.limit_table.proofs.Followed.{same-parts}
 use Rattle.table_laws.proofs.Reading.{in_word, IsWord, word-read, number-read, nest5, nest8, nest10, walk, walk-is, walk-plain, walk-mark, walk-read}
+use Rattle.limit_table.proofs.Equal.{line_parts}
 
 -- a text that begins with this byte, or has it as its second
 abbrev first_is : ℕ → List ℕ → Bool
@@ -115,9 +116,6 @@ module _ (names : NameTexts) (telling : AreTelling names) where
   group_at at line =
       codes "group " ++ entry_at names.groups at ++ codes " share " ++ decimal line.share ++ codes " amount " ++ decimal line.amount ++ codes "\n"
       ++ flat_map (place_line names line.places) (numbers (length line.places))
-
-  abbrev line_parts : ℕ → ℕ → List PlaceLine → GroupLine
-  line_parts share amount places = record { share = share; amount = amount; places = places }
 
   places-are : (places : List PlaceLine) → flat_map (place_line names places) (numbers (length places)) ≡ walk place_at 0 places
   places-are places = walk-is place_at (record { amount = 0; closed = None }) places

@@ -3,7 +3,7 @@
 ghost use Rattle.std.specs.Prelude.{◌≡◌, ◌++◌, ◌<◌, IfOk, OnOk, flat_map, length, map, string_bytes};
 ghost use Rattle.bwe_specs.specs.Reports.{numbers};
 ghost use Rattle.doc_names.specs.NameTexts.{texts_of};
-ghost use Rattle.tiers.specs.Fillings.{lists_in};
+ghost use Rattle.bwe_specs.specs.Lists.{lists_of};
 ghost use Rattle.tier_text.specs.TierText.{tier_lines, tier_text_of};
 
 use bwe_specs::{Closing, OutOfMemory};
@@ -32,8 +32,8 @@ fn push_tiers(text: &mut String, names: &Names, tiers: &[Vec<Closing>]) -> Resul
     ensures { OnOk result
         (string_bytes text.new
         ≡ string_bytes text.old
-        ++ flat_map (tier_lines (texts_of names.now) (lists_in tiers.now))
-        (numbers (length (lists_in tiers.now)))) }
+        ++ flat_map (tier_lines (texts_of names.now) (lists_of tiers.now))
+        (numbers (length (lists_of tiers.now)))) }
 {
     for tier in 0..tiers.len() {
         push_tier(text, names, tiers, tier)?;
@@ -50,7 +50,7 @@ fn push_tier(
     requires tier { tier < length tiers.now }
     ensures { OnOk result
         (string_bytes text.new
-        ≡ string_bytes text.old ++ tier_lines (texts_of names.now) (lists_in tiers.now) tier) }
+        ≡ string_bytes text.old ++ tier_lines (texts_of names.now) (lists_of tiers.now) tier) }
 {
     end_with_number(text, "tier ", tier as u64)?;
     push_closings(text, names, &tiers[tier])

@@ -37,9 +37,6 @@ pub record Fillings : Type 0 where
   pub shares : List (List ℕ)
   pub loads : List ℕ
 
-abbrev pub lists_in : {X : Type 0} → List (Vec X Global) → List (List X)
-lists_in lists = map (λ list. list.items) lists
-
 abbrev pub all_rows_in : List (Vec (Vec ℕ Global) Global) → List (List (List ℕ))
 all_rows_in lists = map (λ rows. lists_of rows.items) lists
 

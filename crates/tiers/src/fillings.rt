@@ -36,14 +36,15 @@ pub(crate) struct Fillings {
 }
 
 impl Model for Fillings {
-    ghost use Rattle.tiers.specs.Fillings.{Fillings as FillingsView, all_rows_in, lists_in};
+    ghost use Rattle.bwe_specs.specs.Lists.{lists_of};
+    ghost use Rattle.tiers.specs.Fillings.{Fillings as FillingsView, all_rows_in};
 
     ghost Value = { FillingsView };
 
     ghost view = { λ fillings. record {
-      closings = lists_in fillings.closings.items;
+      closings = lists_of fillings.closings.items;
       amounts = all_rows_in fillings.amounts.items;
-      shares = lists_in fillings.shares.items;
+      shares = lists_of fillings.shares.items;
       loads = fillings.loads.items;
     } };
 }

@@ -22,13 +22,13 @@ pub struct TierTable {
 impl Model for TierTable {
     ghost use Rattle.tiers.specs.Tiered.{Tiered};
     ghost use Rattle.tiers.specs.Tables.{IsTierTable};
-    ghost use Rattle.tiers.specs.Fillings.{lists_in};
+    ghost use Rattle.bwe_specs.specs.Lists.{lists_of};
 
     ghost Value = { Tiered };
 
     ghost view = { λ table. record {
       prefix = table.prefix;
-      tiers = lists_in table.tiers.items;
+      tiers = lists_of table.tiers.items;
       limits = table.limits.items;
       groups = table.groups.items;
       loads = table.loads.items;
@@ -36,7 +36,7 @@ impl Model for TierTable {
 
     ghost invariant = { λ table. IsTierTable (record {
       prefix = table.prefix;
-      tiers = lists_in table.tiers.items;
+      tiers = lists_of table.tiers.items;
       limits = table.limits.items;
       groups = table.groups.items;
       loads = table.loads.items;

@@ -1,5 +1,6 @@
 use Rattle.std.proofs.Common.{◌∙◌, ap, sym, arith}
-use Rattle.tiers.specs.Fillings.{Fillings, lists_in, wan_by}
+use Rattle.bwe_specs.specs.Lists.{lists_of}
+use Rattle.tiers.specs.Fillings.{Fillings, wan_by}
 use Rattle.tiers.proofs.Step.{step-never, step-bound}
 use Rattle.tiers.proofs.Made.{own-has_line, made-count, made-within}
 use Rattle.tiers.proofs.Complete.{whole-is_table, whole-table, whole-feasible, whole-asked, whole-shared, whole-unwasted, whole-in_any_order}
@@ -35,7 +36,7 @@ pub invariant_of-result : goal.invariant_of-result
 invariant_of-result c =
     whole-is_table c.args.tree.now c.args.topology c.args.plan.now c.args.tiers.now c.requires.groups c.what_holds.ensures.values
     c.in_ok-fillings.fillings c.in_ok-fillings.ensures c.requires.one_each
-    (lists_in c.fillings.inside.closings.items) (ap (λ (fillings : Fillings). fillings.closings) c.fillings.view_is)
+    (lists_of c.fillings.inside.closings.items) (ap (λ (fillings : Fillings). fillings.closings) c.fillings.view_is)
     c.fillings.inside.loads.items (ap (λ (fillings : Fillings). fillings.loads) c.fillings.view_is)
     c.in_ok-groups.groups.items c.in_ok-groups.ensures c.in_ok-limits.limits.items (rw (c.deref.ensures.value) at c.in_ok-limits.ensures)
     c.args.prefix c.what_holds.ensures.tree c.what_holds-2.ensures c.what_holds-3.ensures
@@ -44,7 +45,7 @@ pub returns-clause-table : goal.returns-clause-table
 returns-clause-table c =
     whole-table c.args.tree.now c.args.topology c.args.plan.now c.args.tiers.now c.requires.groups c.what_holds.ensures.values
     c.in_ok-fillings.fillings c.in_ok-fillings.ensures c.requires.one_each
-    (lists_in c.fillings.inside.closings.items) (ap (λ (fillings : Fillings). fillings.closings) c.fillings.view_is)
+    (lists_of c.fillings.inside.closings.items) (ap (λ (fillings : Fillings). fillings.closings) c.fillings.view_is)
     c.fillings.inside.loads.items (ap (λ (fillings : Fillings). fillings.loads) c.fillings.view_is)
     c.in_ok-groups.groups.items c.in_ok-groups.ensures c.in_ok-limits.limits.items (rw (c.deref.ensures.value) at c.in_ok-limits.ensures)
     c.args.prefix
@@ -53,7 +54,7 @@ pub returns-clause-feasible : goal.returns-clause-feasible
 returns-clause-feasible c =
     whole-feasible c.args.tree.now c.args.topology c.args.plan.now c.args.tiers.now c.requires.groups c.what_holds.ensures.values
     c.in_ok-fillings.fillings c.in_ok-fillings.ensures c.requires.one_each
-    (lists_in c.fillings.inside.closings.items) (ap (λ (fillings : Fillings). fillings.closings) c.fillings.view_is)
+    (lists_of c.fillings.inside.closings.items) (ap (λ (fillings : Fillings). fillings.closings) c.fillings.view_is)
     c.fillings.inside.loads.items (ap (λ (fillings : Fillings). fillings.loads) c.fillings.view_is)
     c.in_ok-groups.groups.items c.in_ok-groups.ensures c.in_ok-limits.limits.items (rw (c.deref.ensures.value) at c.in_ok-limits.ensures)
 
@@ -61,7 +62,7 @@ pub returns-clause-shared : goal.returns-clause-shared
 returns-clause-shared c =
     whole-shared c.args.tree.now c.args.topology c.args.plan.now c.args.tiers.now c.requires.groups c.what_holds.ensures.values
     c.in_ok-fillings.fillings c.in_ok-fillings.ensures c.requires.one_each
-    (lists_in c.fillings.inside.closings.items) (ap (λ (fillings : Fillings). fillings.closings) c.fillings.view_is)
+    (lists_of c.fillings.inside.closings.items) (ap (λ (fillings : Fillings). fillings.closings) c.fillings.view_is)
     c.fillings.inside.loads.items (ap (λ (fillings : Fillings). fillings.loads) c.fillings.view_is)
     c.in_ok-groups.groups.items c.in_ok-groups.ensures c.in_ok-limits.limits.items (rw (c.deref.ensures.value) at c.in_ok-limits.ensures)
     c.args.prefix
@@ -70,7 +71,7 @@ pub returns-clause-unwasted : goal.returns-clause-unwasted
 returns-clause-unwasted c =
     whole-unwasted c.args.tree.now c.args.topology c.args.plan.now c.args.tiers.now c.requires.groups c.what_holds.ensures.values
     c.in_ok-fillings.fillings c.in_ok-fillings.ensures c.requires.one_each
-    (lists_in c.fillings.inside.closings.items) (ap (λ (fillings : Fillings). fillings.closings) c.fillings.view_is)
+    (lists_of c.fillings.inside.closings.items) (ap (λ (fillings : Fillings). fillings.closings) c.fillings.view_is)
     c.fillings.inside.loads.items (ap (λ (fillings : Fillings). fillings.loads) c.fillings.view_is)
     c.in_ok-groups.groups.items c.in_ok-groups.ensures c.in_ok-limits.limits.items (rw (c.deref.ensures.value) at c.in_ok-limits.ensures)
     c.args.prefix
@@ -79,7 +80,7 @@ pub returns-clause-asked : goal.returns-clause-asked
 returns-clause-asked c =
     whole-asked c.args.tree.now c.args.topology c.args.plan.now c.args.tiers.now c.requires.groups c.what_holds.ensures.values
     c.in_ok-fillings.fillings c.in_ok-fillings.ensures c.requires.one_each
-    (lists_in c.fillings.inside.closings.items) (ap (λ (fillings : Fillings). fillings.closings) c.fillings.view_is)
+    (lists_of c.fillings.inside.closings.items) (ap (λ (fillings : Fillings). fillings.closings) c.fillings.view_is)
     c.fillings.inside.loads.items (ap (λ (fillings : Fillings). fillings.loads) c.fillings.view_is)
     c.in_ok-groups.groups.items c.in_ok-groups.ensures c.in_ok-limits.limits.items (rw (c.deref.ensures.value) at c.in_ok-limits.ensures)
     c.args.prefix c.what_holds.ensures.tree
@@ -88,7 +89,7 @@ pub returns-clause-in_any_order : goal.returns-clause-in_any_order
 returns-clause-in_any_order c =
     whole-in_any_order c.args.tree.now c.args.topology c.args.plan.now c.args.tiers.now c.requires.groups c.what_holds.ensures.values
     c.in_ok-fillings.fillings c.in_ok-fillings.ensures c.requires.one_each
-    (lists_in c.fillings.inside.closings.items) (ap (λ (fillings : Fillings). fillings.closings) c.fillings.view_is)
+    (lists_of c.fillings.inside.closings.items) (ap (λ (fillings : Fillings). fillings.closings) c.fillings.view_is)
     c.fillings.inside.loads.items (ap (λ (fillings : Fillings). fillings.loads) c.fillings.view_is)
     c.in_ok-groups.groups.items c.in_ok-groups.ensures c.in_ok-limits.limits.items (rw (c.deref.ensures.value) at c.in_ok-limits.ensures)
     c.args.prefix c.what_holds.ensures.tree
