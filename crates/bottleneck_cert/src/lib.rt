@@ -250,7 +250,8 @@ fn share_cause<V: GroupValues, L: Ledger>(
         (is_over_at (wan_in V.meaning front.now) (closings_in front.now) (closing.share + 1)
         closing.link)
         (over_at (wan_in V.meaning front.now) (closings_in front.now) (closing.share + 1)))) }
-    ensures ticks { steps.new ≤ steps.old + (2 * length (wan_in V.meaning front.now).capacities + 1) }
+    ensures ticks { steps.new
+        ≤ steps.old + (2 * length (wan_in V.meaning front.now).capacities + 1) }
 {
     if let Some(link) = front.first_over(alloc, closing.share, steps)? {
         return Ok(Some(Cause::OverBefore { link }));

@@ -170,9 +170,11 @@ fn tell(
 ) -> Result<(), AllocError>
     requires target { IsInRange (length task_rows.old.items) (length link_rows.old.items) target }
     ensures tasks { OnOk result
-        (lists_of task_rows.new.items ≡ task_rows_after target entry (lists_of task_rows.old.items)) }
+        (lists_of task_rows.new.items
+        ≡ task_rows_after target entry (lists_of task_rows.old.items)) }
     ensures links { OnOk result
-        (lists_of link_rows.new.items ≡ link_rows_after target entry (lists_of link_rows.old.items)) }
+        (lists_of link_rows.new.items
+        ≡ link_rows_after target entry (lists_of link_rows.old.items)) }
     ensures refused_tasks { OnErr result
         (lists_of task_rows.new.items ≡ lists_of task_rows.old.items) }
     ensures refused_links { OnErr result
