@@ -270,19 +270,18 @@ impl<'a, V: GroupValues> Growth<'a, V> {
         term.amount + self.values.value(term.group, share) - term.value
     }
 
-    /// The filling, once no link is over at the top.
+    /// The filling, once all groups have come up to the top and no link is over there.
     pub fn into_filling(self, alloc: Global, top: u64) -> Result<Filling, OutOfMemory>
         requires growth { IsGrowth V.meaning self }
         requires top { top ≡ (wan_in V.meaning self).top }
+        requires up { added_in self ≡ amounts_at (wan_in V.meaning self) (closings_in self) top }
         requires fits { over_at (wan_in V.meaning self) (closings_in self) top ≡ None }
         ensures { IfOk result (IsFilling (wan_in V.meaning self.entry)) }
     {
-        let mut growth = self;
-        growth.bring_all_up(top);
-        let amounts = amounts_of(alloc, growth.plan, &growth.sums)?;
-        let shares = stop_shares(alloc, &growth.standings, top)?;
+        let amounts = amounts_of(alloc, self.plan, &self.sums)?;
+        let shares = stop_shares(alloc, &self.standings, top)?;
         Ok(Filling {
-            closings: growth.closings,
+            closings: self.closings,
             amounts,
             shares,
         })
