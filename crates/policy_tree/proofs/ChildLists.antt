@@ -7,7 +7,8 @@ use Rattle.std.proofs.lemmas.List.Sums.{sum_by-cons}
 use Rattle.policy_tree.specs.States.{JobState, UserState, ClusterState, job_tasks, user_tasks, cluster_tasks}
 use Rattle.policy_tree.specs.Numbering.{numbered, numbered_job, numbered_user, numbered_cluster, numbered_clusters}
 use Rattle.policy_tree.specs.Walk.{Node, OfJob, job_nodes, user_nodes, cluster_nodes, walk}
-use Rattle.policy_tree.specs.Children.{numbers_from, child_numbers, child_lists, lists_of, job_size, user_size, cluster_size, nodes_of_job, nodes_of_user, nodes_of_cluster, all_nodes}
+use Rattle.bwe_specs.specs.Lists.{lists_of}
+use Rattle.policy_tree.specs.Children.{numbers_from, child_numbers, child_lists, job_size, user_size, cluster_size, nodes_of_job, nodes_of_user, nodes_of_cluster, all_nodes}
 
 numbers-append : {X : Type 0} (size : X → ℕ) (first : ℕ) (xs : List X) (x : X) → numbers_from first (map size (xs ++ x ∷ [])) ≡ numbers_from first (map size xs) ++ (first + sum_by size xs) ∷ []
 unfolding numbers_from
@@ -43,7 +44,7 @@ unfolding child_lists
 length-lists first [] = refl
 length-lists first (node ∷ nodes) = ap suc (length-lists (first + 1) nodes)
 
-pub length-lists_of : (children : Vec (Vec ℕ Global) Global) → length (lists_of children) ≡ length children.items
+pub length-lists_of : (children : Vec (Vec ℕ Global) Global) → length (lists_of children.items) ≡ length children.items
 length-lists_of children = length-map children.items (λ list. list.items)
 
 -- the lists of one item more
@@ -154,10 +155,10 @@ range-push first (suc count) =
     ap (range_with_len first) more ∙ ap (λ rest. first ∷ rest) (range-push (first + 1) count) ∙ ap (λ n. first ∷ (range_with_len (first + 1) count ++ n ∷ [])) e
 
 -- what is kept for a node
-pub length-kept : (children : Vec (Vec ℕ Global) Global) (nodes : List Node) → lists_of children ≡ child_lists 0 nodes → length children.items ≡ length nodes
+pub length-kept : (children : Vec (Vec ℕ Global) Global) (nodes : List Node) → lists_of children.items ≡ child_lists 0 nodes → length children.items ≡ length nodes
 length-kept children nodes kept = sym (length-lists_of children) ∙ ap (λ lists. length lists) kept ∙ length-lists 0 nodes
 
-pub kept-children : (children : Vec (Vec ℕ Global) Global) (nodes : List Node) (node : ℕ) (d : Node) (list : Vec ℕ Global) → lists_of children ≡ child_lists 0 nodes → node < length nodes
+pub kept-children : (children : Vec (Vec ℕ Global) Global) (nodes : List Node) (node : ℕ) (d : Node) (list : Vec ℕ Global) → lists_of children.items ≡ child_lists 0 nodes → node < length nodes
     → list ≡ get_or children.items node list → list.items ≡ child_numbers node (get_or nodes node d)
 kept-children children nodes node d list kept lt read =
     let size = length-kept children nodes kept in

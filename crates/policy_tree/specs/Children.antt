@@ -1,6 +1,5 @@
 -- The numbers of the children of each node.
-use Rattle.std.specs.Prelude.{ℕ, ◌+◌, List, [], ◌∷◌, ◌++◌, length, map, sum_by, Vec}
-use Rattle.std.specs.Global.{Global}
+use Rattle.std.specs.Prelude.{ℕ, ◌+◌, List, [], ◌∷◌, ◌++◌, length, map, sum_by}
 use Rattle.policy_tree.specs.States.{JobState, UserState, ClusterState}
 use Rattle.policy_tree.specs.Numbering.{numbered_job, numbered_user, numbered_cluster}
 use Rattle.policy_tree.specs.Trees.{job_numbers}
@@ -23,10 +22,6 @@ child_numbers node (OfJob job) = job_numbers job
 unfoldable pub child_lists : ℕ → List Node → List (List ℕ)
 child_lists first [] = []
 child_lists first (node ∷ nodes) = child_numbers first node ∷ child_lists (first + 1) nodes
-
--- the lists that are kept
-abbrev pub lists_of : Vec (Vec ℕ Global) Global → List (List ℕ)
-lists_of children = map (λ list. list.items) children.items
 
 -- how many nodes a node is with all under it
 abbrev pub job_size : JobState → ℕ

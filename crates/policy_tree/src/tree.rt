@@ -37,13 +37,13 @@ impl Model for PolicyTree {
 
     ghost Value = { Tree };
 
-    ghost use Rattle.policy_tree.specs.Children.{lists_of};
+    ghost use Rattle.bwe_specs.specs.Lists.{lists_of};
     ghost use Rattle.policy_tree.specs.Kept.{IsKeptTree};
 
     ghost view = { λ tree. tree_of tree.top tree.clusters.items };
 
     ghost invariant = { λ tree. IsKeptTree
-        tree.top tree.clusters.items tree.homes.items tree.firsts.items (lists_of tree.children) };
+        tree.top tree.clusters.items tree.homes.items tree.firsts.items (lists_of tree.children.items) };
 }
 
 impl PolicyTree {

@@ -2,7 +2,8 @@
 
 ghost use Rattle.std.specs.Prelude.{◌≡◌, ℕ, ◌+◌, ◌-◌, ◌^◌, ◌<◌, ◌≤◌, ◌++◌, List, length, map, flat_map, sum_by, IfOk, OnOk};
 ghost use Rattle.std.specs.List.{range_with_len};
-ghost use Rattle.policy_tree.specs.Children.{numbers_from, child_lists, lists_of, all_nodes, job_size, user_size, cluster_size, nodes_of_job, nodes_of_user, nodes_of_cluster};
+ghost use Rattle.bwe_specs.specs.Lists.{lists_of};
+ghost use Rattle.policy_tree.specs.Children.{numbers_from, child_lists, all_nodes, job_size, user_size, cluster_size, nodes_of_job, nodes_of_user, nodes_of_cluster};
 ghost use Rattle.policy_tree.specs.States.{job_tasks, user_tasks, cluster_tasks};
 ghost use Rattle.policy_tree.specs.Numbering.{numbered_clusters};
 ghost use Rattle.policy_tree.specs.Walk.{Node, walk};
@@ -45,7 +46,7 @@ pub(crate) trait Walked {
         ensures next { IfOk result (λ next. next ≡ task + tasks self.now) }
         ensures count { OnOk result (length children.new.items
             ≡ length children.old.items + size self.now) }
-        ensures lists { OnOk result (lists_of children.new ≡ lists_of children.old
+        ensures lists { OnOk result (lists_of children.new.items ≡ lists_of children.old.items
             ++ child_lists (length children.old.items) (nodes self.now task)) };
 
     /// The kind of the one at a place, or how far the place lies past them.
@@ -183,7 +184,7 @@ pub(crate) fn children_of(
     requires nodes { length (walk (numbered_clusters clusters.now)) < 2 ^ 32 }
     requires tasks { sum_by cluster_tasks clusters.now ≤ MAX_TASKS }
     ensures { IfOk result (λ children.
-        lists_of children ≡ child_lists 0 (walk (numbered_clusters clusters.now))) }
+        lists_of children.items ≡ child_lists 0 (walk (numbered_clusters clusters.now))) }
 {
     let mut children = Vec::new(alloc);
     push_all_children(alloc, clusters, &mut children, 0)?;
@@ -242,7 +243,7 @@ pub(crate) fn push_all_children<N: Walked>(
     ensures next { IfOk result (λ next. next ≡ task + sum_by N.tasks nodes.now) }
     ensures count { OnOk result (length children.new.items
         ≡ length children.old.items + sum_by N.size nodes.now) }
-    ensures lists { OnOk result (lists_of children.new ≡ lists_of children.old
+    ensures lists { OnOk result (lists_of children.new.items ≡ lists_of children.old.items
         ++ child_lists (length children.old.items) (all_nodes N.tasks N.nodes task nodes.now)) }
 {
     let mut next = task;

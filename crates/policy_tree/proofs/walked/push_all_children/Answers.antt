@@ -1,7 +1,7 @@
 use Rattle.std.proofs.Common.{length, sym, ap, arith}
 use Rattle.std.proofs.lemmas.List.{take_all}
 use Rattle.std.proofs.lemmas.List.Sums.{sum_by_more, sum_by_more_le}
-use Rattle.policy_tree.specs.Children.{lists_of}
+use Rattle.bwe_specs.specs.Lists.{lists_of}
 use Rattle.policy_tree.proofs.ChildLists.{length-lists_of, lists-more, lists-none}
 use Rattle.policy_tree.proofs.walked.push_all_children.Goals as goal
 
@@ -9,7 +9,7 @@ pub loop-node-init : goal.loop-node-init
 loop-node-init g c = record {
   next = omega arith;
   count = omega arith;
-  lists = lists-none g.N.Walked.tasks g.N.Walked.nodes c.args.task (length c.args.children.now.items) (lists_of c.args.children.now);
+  lists = lists-none g.N.Walked.tasks g.N.Walked.nodes c.args.task (length c.args.children.now.items) (lists_of c.args.children.now.items);
 }
 
 pub loop-node-preserved : goal.loop-node-preserved
@@ -25,7 +25,7 @@ loop-node-preserved g c =
     record {
       next = omega (arith, v.next, c.in_ok-next.ensures.next, more_tasks, same_tasks);
       count = omega (arith, v.count, c.in_ok-next.ensures.count, more_nodes, same_nodes);
-      lists = lists-more g.N.Walked.tasks g.N.Walked.nodes c.args.task nodes place node (lists_of c.args.children.now) (lists_of c.loop-node.children) (lists_of c.push_children.new.children)
+      lists = lists-more g.N.Walked.tasks g.N.Walked.nodes c.args.task nodes place node (lists_of c.args.children.now.items) (lists_of c.loop-node.children.items) (lists_of c.push_children.new.children.items)
           (length c.args.children.now.items) c.loop-node.next (length c.loop-node.children.items)
           c.loop-node-test.true c.node-item.is (sym (length-lists_of c.args.children.now)) (sym (length-lists_of c.loop-node.children)) v.next v.lists c.in_ok-next.ensures.lists;
     }

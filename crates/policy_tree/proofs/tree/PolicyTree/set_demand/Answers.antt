@@ -5,7 +5,7 @@ use Rattle.policy_tree.specs.States.{ClusterState, job_tasks}
 use Rattle.policy_tree.specs.Changes.{job_at, user_at, cluster_at, cluster_with}
 use Rattle.policy_tree.specs.Trees.{Tree, tree_of, asking}
 use Rattle.policy_tree.specs.Kept.{IsKeptTree}
-use Rattle.policy_tree.specs.Children.{lists_of}
+use Rattle.bwe_specs.specs.Lists.{lists_of}
 use Rattle.policy_tree.proofs.Homes.{IsAt, demands-with}
 use Rattle.policy_tree.proofs.TreeFacts.{home-known, home-is, kept-with, numbered-with}
 use Rattle.policy_tree.proofs.tree.PolicyTree.set_demand.Goals as goal
@@ -44,7 +44,7 @@ invariant_of-self c =
     let clusters = c.self.inside.clusters.items in
     let place = c.index-home.result.now.cluster in
     let same : set clusters place c.set.new.self ≡ clusters = ap (set clusters place) (c.in_err-set.ensures.refused ∙ read (goal.at.invariant_of-self c).After-index_mut at.cluster) ∙ set-get_or clusters place _ in
-    subst (λ (states : List ClusterState). IsKeptTree c.self.inside.top states c.self.inside.homes.items c.self.inside.firsts.items (lists_of c.self.inside.children)) (sym same) c.self.invariant
+    subst (λ (states : List ClusterState). IsKeptTree c.self.inside.top states c.self.inside.homes.items c.self.inside.firsts.items (lists_of c.self.inside.children.items)) (sym same) c.self.invariant
 
 pub returns-in_err-set-clause-refused : goal.returns-in_err-set-clause-refused
 returns-in_err-set-clause-refused c =
@@ -60,8 +60,8 @@ invariant_of-self-2 c =
     let home = c.index-home.result.now in
     let changed : c.set.new.self ≡ cluster_with (cluster_at c.self.inside.clusters.items home.cluster) home.user home.job home.task c.args.demand =
     c.in_ok-set.ensures.ok ∙ ap (λ (cluster : ClusterState). cluster_with cluster home.user home.job home.task c.args.demand) (read (goal.at.invariant_of-self-2 c).After-index_mut at.cluster) in
-    subst (λ (cluster : ClusterState). IsKeptTree c.self.inside.top (set c.self.inside.clusters.items home.cluster cluster) c.self.inside.homes.items c.self.inside.firsts.items (lists_of c.self.inside.children)) (sym changed)
-    (kept-with c.self.inside.top c.self.inside.clusters.items c.self.inside.homes.items c.self.inside.firsts.items (lists_of c.self.inside.children) c.args.task home c.args.demand c.self.invariant at c.requires.demand)
+    subst (λ (cluster : ClusterState). IsKeptTree c.self.inside.top (set c.self.inside.clusters.items home.cluster cluster) c.self.inside.homes.items c.self.inside.firsts.items (lists_of c.self.inside.children.items)) (sym changed)
+    (kept-with c.self.inside.top c.self.inside.clusters.items c.self.inside.homes.items c.self.inside.firsts.items (lists_of c.self.inside.children.items) c.args.task home c.args.demand c.self.invariant at c.requires.demand)
 
 pub returns-clause-ok : goal.returns-clause-ok
 returns-clause-ok c =

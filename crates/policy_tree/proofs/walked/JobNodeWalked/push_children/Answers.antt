@@ -2,7 +2,7 @@ use Rattle.std.proofs.Common.{◌≡◌, ◌+◌, ◌-◌, ◌∷◌, [], length
 use Rattle.std.specs.List.{range_with_len}
 use Rattle.std.proofs.lemmas.List.{map-append}
 use Rattle.policy_tree.specs.States.{job_tasks}
-use Rattle.policy_tree.specs.Children.{lists_of}
+use Rattle.bwe_specs.specs.Lists.{lists_of}
 use Rattle.policy_tree.proofs.ChildLists.{job-lists}
 use Rattle.policy_tree.proofs.TreeFacts.{job-numbers}
 use Rattle.policy_tree.proofs.walked.JobNodeWalked.push_children.Goals as goal
@@ -11,6 +11,6 @@ pub returns-clause-lists : goal.returns-clause-lists
 returns-clause-lists c =
     let own = c.in_ok-numbers.numbers.items in
     let count : c.args.task + c.tasks.result - c.args.task ≡ job_tasks c.args.self.now = omega (arith, c.tasks.ensures) in
-    job-lists (length c.args.children.now.items) c.args.task c.args.self.now (lists_of c.args.children.now) (lists_of c.push.new.self) own
+    job-lists (length c.args.children.now.items) c.args.task c.args.self.now (lists_of c.args.children.now.items) (lists_of c.push.new.self.items) own
     (c.in_ok-numbers.ensures ∙ ap (range_with_len c.args.task) count ∙ sym (job-numbers c.args.task c.args.self.now))
     (ap (map (λ list. list.items)) c.in_ok-push.ensures.items ∙ map-append (λ list. list.items) c.args.children.now.items (c.in_ok-numbers.numbers ∷ []))
