@@ -20,8 +20,8 @@
 //!
 //! Some bodies meet every clause and are wrong: a `read` that enters no published copy, a `round`
 //! or a `settle` that posts nothing, a solve under the log lock, a call that always answers want of
-//! memory. Each was tried by hand, and a test of `board_cases` refuses it; its page names which. A
-//! `close` that frees nothing is refused by nothing: no clause and no test counts memory. The
+//! memory. Each was tried by hand, and a test of `service_cases` refuses it; its page names which.
+//! A `close` that frees nothing is refused by nothing: no clause and no test counts memory. The
 //! program opens one board and then ends.
 //!
 //! One lock round everything, which `read` takes too, cannot be written: a lock is taken by a

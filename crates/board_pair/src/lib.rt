@@ -20,7 +20,7 @@
 //! own table. A log is freed with the last that shares it. Nothing is known here of who adds to the
 //! log, of makers or of threads. Not promised: that a reader sees what nobody told it. A `read`
 //! that enters no published copy, or stops entering one after some reads, meets every clause: tests
-//! of `board_cases` refuse it.
+//! of `service_cases` refuse it.
 #![tactic(auto)]
 
 mod ack;

@@ -12,7 +12,7 @@
 //!
 //! Some bodies meet every clause and are wrong: a reporter that keeps its acknowledgement or makes
 //! no settle, a reader that learns none before a read, a call that the gate is not told of. Each
-//! was tried by hand, and the test `a_held_reader_is_told_what_was_settled` of `board_cases`
+//! was tried by hand, and the test `a_held_reader_is_told_what_was_settled` of `service_cases`
 //! refuses it.
 #![tactic(auto)]
 

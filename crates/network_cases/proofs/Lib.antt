@@ -1,2 +1,3 @@
 pub mod SlopesAre
 pub mod InRange
+pub mod TestTrees

@@ -1,9 +1,12 @@
-//! Networks on which the filling by steps, both solvers and the check of closings are run.
+//! Functions, searches, trees, what is handed down, and networks, as tests, for what no clause of
+//! the crates from `mono_search` to `bottleneck_cert` can say: that calls succeed, how many looks a
+//! hint saves, and how often the solver by jumps tests. The numbers are those of the worked cases.
 //!
-//! No other crate stands on this one, and no clause says more than that a `Case` is one that can be
-//! filled. The tests show what no clause says: that the calls succeed, and how often the solver by
-//! jumps tests. A made network follows from one number, so that each run makes the same. What one
-//! run of the program shows is in `cases/`.
+//! The filling by steps, both solvers and the check of closings are run on the same networks. A
+//! made network follows from one number, so that each run makes the same. Of a `Case` no clause
+//! says more than that it can be filled. What one run of the program shows is in `cases/`.
+//!
+//! Nothing stands on this crate. It is one of its own, since a crate with tests is proved twice.
 #![tactic(auto)]
 
 mod case;

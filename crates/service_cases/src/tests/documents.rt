@@ -23,3 +23,7 @@ pub const EMPTY: &str =
 /// That document as the first of two parts, of which the second is a line feed.
 pub const EMPTY_IN_TWO_PARTS: &str =
     "71\n{\"version\":1,\"top\":1,\"links\":[],\"groups\":[],\"reporters\":[],\"script\":[]}\n";
+
+/// Each member that a document may have.
+pub const WHOLE: &str =
+    "{\"version\":3,\"top\":100,\"links\":[{\"name\":\"l\\u0030\",\"from\":\"a\",\"to\":\"b\",\"capacity\":7,\"owner\":\"r0\"}],\"groups\":[{\"users\":[{\"name\":\"u\",\"jobs\":[{\"name\":\"j\",\"task\":[[0,0],[1,5]],\"tasks\":[{\"name\":\"t\",\"reporter\":\"r0\",\"weight\":2}]}]}],\"name\":\"g\",\"from\":\"a\",\"to\":\"b\",\"paths\":[[{\"weight\":1,\"links\":[\"l0\"]}]]}],\"reporters\":[\"r0\"],\"script\":[{\"reporter\":\"r0\",\"task\":\"t\",\"demand\":4},{\"capacity\":6,\"link\":\"l0\",\"reporter\":\"r0\"}]}";

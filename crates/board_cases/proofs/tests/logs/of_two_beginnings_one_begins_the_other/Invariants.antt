@@ -1,6 +1,0 @@
-use Rattle.board_log.specs.History.{no_table}
-use Rattle.board_cases.proofs.tests.logs.of_two_beginnings_one_begins_the_other.Given as goal
-
--- the history that was just opened
-abbrev pub ghosts-compared : goal.ghosts-compared
-ghosts-compared g a = record { book = a.opened.seen.book; table = no_table }

@@ -1,0 +1,7 @@
+use Rattle.std.proofs.Common.{◌≡◌}
+use Rattle.demand_book.specs.Small.{small_table}
+use Rattle.service_cases.proofs.tests.beside.meet.Given as goal
+
+-- the tables of two tasks, for two reporters and one link
+abbrev pub ghosts-on_profile : goal.ghosts-on_profile
+ghosts-on_profile g a = record { belongs = λ reports table. table ≡ small_table 2 reports; reporters = 2; tasks = 2; links = 1 }
