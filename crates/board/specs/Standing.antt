@@ -20,7 +20,7 @@ pub record Standing : Type 0 where
 -- a beginning of it
 pub record IsStanding {T : Type 0} (covers : T → ℕ) (reporters tasks links : ℕ)
     (log whole : List Report) (roll : Rolled) (desk : Desk (Posting T) (Posting T))
-    (pending laid : ℕ) : Type 0 where
+    (pending : ℕ) : Type 0 where
   pub whole_so : whole ≡ log
   pub rolled : roll ≡ record { log = log; members = reporters }
   pub room : length log ≤ MAX_REPORTS
@@ -28,7 +28,6 @@ pub record IsStanding {T : Type 0} (covers : T → ℕ) (reporters tasks links :
   pub last_covers : covers (last_of desk).table ≡ pending
   pub posted_first : covers desk.shown.table ≤ pending
   pub pending_within : pending ≤ length log
-  pub laid_within : laid ≤ length log
 
 -- a number was not lowered, and not raised above `most`
 abbrev pub IsRaised : ℕ → ℕ → ℕ → Type 0

@@ -15,7 +15,7 @@ use crate::refusal::ReportError;
 use crate::reporter::ReporterPass;
 use crate::steps::LogState;
 use board_log::{Bases, Beginning};
-use board_pair::{Ack, Profile};
+use board_pair::{Ack, Newest, NewestAck, Profile};
 use board_workshop::Workshop;
 use bwe_specs::{MAX_REPORTS, OutOfMemory, Report};
 use demand_book::Maker;
@@ -30,14 +30,26 @@ pub struct Board<M: Maker, N: Profile<M::Table>, B: Bases> {
     // It is taken before the log lock, and never inside it.
     shop: Mutex<Workshop<M, N, B>>,
     state: Mutex<LogState<M, N, B>>,
+    // It is taken while no other lock is.
+    newest: NewestAck<B>,
 }
 
 impl<M: Maker, N: Profile<M::Table>, B: Bases> Board<M, N, B> {
-    pub(crate) fn new(shop: Workshop<M, N, B>, state: LogState<M, N, B>) -> Board<M, N, B> {
+    pub(crate) fn new(
+        shop: Workshop<M, N, B>,
+        state: LogState<M, N, B>,
+        newest: Newest<B>,
+    ) -> Board<M, N, B> {
         Board {
             shop: Mutex::new(shop),
             state: Mutex::new(state),
+            newest: Mutex::new(newest),
         }
+    }
+
+    /// The place where acknowledgements are left for readers. There is one of a board.
+    pub fn newest(&self) -> &NewestAck<B> {
+        &self.newest
     }
 
     /// Adds the reports of a pass at the end of the log, and answers the place of the first.
@@ -147,8 +159,13 @@ impl<M: Maker, N: Profile<M::Table>, B: Bases> Board<M, N, B> {
 
     /// Ends the board, whose writer can't be dropped. It waits for readers to leave.
     pub fn close<R: Wait>(self, rt: &R) {
-        let Board { shop, state } = self;
+        let Board {
+            shop,
+            state,
+            newest,
+        } = self;
         drop(shop);
+        drop(newest);
         state.into_inner().close(rt);
     }
 
@@ -204,11 +221,7 @@ fn solve_and_post<M: Maker, N: Profile<M::Table>, B: Bases, R: Wait>(
 {
     let mut shop = shop.lock(rt);
     let shop = &mut *shop;
-    let ack = solve_in(rt, alloc, shop, state)?;
-    if !known.begins(ack.known()) {
-        return Err(OutOfMemory);
-    }
-    Ok(ack)
+    solve_in(rt, alloc, shop, state, known)
 }
 
 // The same, once the maker's lock is taken. The log lock is free while the table is made.
@@ -217,8 +230,11 @@ fn solve_in<M: Maker, N: Profile<M::Table>, B: Bases, R: Wait>(
     alloc: Global,
     shop: &mut Workshop<M, N, B>,
     state: &Mutex<LogState<M, N, B>>,
-) -> Result<Ack<B>, OutOfMemory> {
-    let shown = state.lock(rt).show(shop);
+    known: &Beginning<B>,
+) -> Result<Ack<B>, OutOfMemory>
+    ensures known { IfOk result (λ ack. IsPrefix known.now ack) }
+{
+    let shown = state.lock(rt).show_past(shop, known);
     shown?;
     let table = shop.solve(alloc)?;
     state.lock(rt).post_made(rt, alloc, shop, table)

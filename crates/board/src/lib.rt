@@ -39,7 +39,7 @@ pub mod steps;
 pub use allocator::AllocatorPass;
 pub use board::Board;
 pub use board_log::Bases;
-pub use board_pair::{Ack, FinalAck, Profile, ReaderPass, View};
+pub use board_pair::{Ack, FinalAck, Left, Newest, NewestAck, Profile, ReaderPass, View};
 pub use ended::{Ended, FinishRefused};
 pub use open::Opened;
 pub use refusal::ReportError;

@@ -4,17 +4,17 @@ ghost use Rattle.std.specs.List.{All};
 ghost use Rattle.bwe_specs.specs.declared.report.Report.{Report};
 ghost use Rattle.board.specs.Reporting.{AreFresh, fresh_pass};
 ghost use Rattle.board_pair.specs.Reading.{IsNewReader};
-ghost use Rattle.board_log.specs.Plan.{AreOfOnePlan, NamesTables};
+ghost use Rattle.board_log.specs.Plan.{NamesTables};
 
 use crate::allocator::AllocatorPass;
 use crate::board::Board;
 use crate::reporter::ReporterPass;
 use crate::steps::LogState;
-use board_log::{Bases, Beginning, OpenedLog, OpenedRoll, Roll, WholeLog};
-use board_pair::{Ack, News, Pair, Poster, Profile, ReaderPass, seat_all};
+use board_log::{Bases, Beginning, DeskRight, OpenedLog, OpenedRoll, Roll, WholeLog};
+use board_pair::{Ack, Desk, Newest, Profile, ReaderPass, open_desk};
 use board_workshop::Workshop;
 use bwe_specs::{MAX_READERS, MAX_REPORTERS, OutOfMemory};
-use demand_book::{Maker, Posted};
+use demand_book::Maker;
 use std::alloc::Global;
 use std::marker::{Model, PhantomData};
 use std::sync::Wait;
@@ -83,6 +83,12 @@ impl<M: Maker, N: Profile<M::Table>> Opened<M, N> {
     }
 }
 
+type OpenedDesk<M, N, B> = (
+    Desk<<M as Maker>::Table, N, B>,
+    Vec<ReaderPass<<M as Maker>::Table, N, B>>,
+    Newest<B>,
+);
+
 type Passes<M, N, B> = (
     Board<M, N, B>,
     Vec<ReporterPass<B>>,
@@ -117,28 +123,29 @@ impl<M: Maker, N: Profile<M::Table>> Opened<M, N> {
             roll,
             of: _,
         } = self;
-        let whole = log.named::<B>();
+        let (whole, right) = log.named::<B>();
         let mut roll = roll.named::<B>();
         let passes = enroll_all(alloc, reporters, &whole, &mut roll)?;
-        let (poster, seats) = open_desk(rt, alloc, readers, &whole.first(0), &mut maker)?;
+        let known = whole.first(0);
+        let (poster, seats, newest) = open_with_table(
+            rt, alloc, readers, right, &known, &mut maker,
+        )?;
         let allocator = AllocatorPass::new(Ack::of(&poster));
         let shop = Workshop::empty(alloc, maker, whole.first(0));
         let state = LogState::empty(alloc, whole, roll, poster);
-        Ok((Board::new(shop, state), passes, seats, allocator))
+        Ok((Board::new(shop, state, newest), passes, seats, allocator))
     }
 }
 
-type Desk<T, N, B> = Poster<Pair<T, N, B>, News<T, N, B>>;
-
-// The poster of the empty log and of the table that the maker makes of it, with a seat for each
-// reader.
-fn open_desk<M: Maker, N: Profile<M::Table>, B: Bases, R: Wait>(
+// The desk of the empty log and of the table that the maker makes of it.
+fn open_with_table<M: Maker, N: Profile<M::Table>, B: Bases, R: Wait>(
     rt: &R,
     alloc: Global,
     readers: u32,
+    right: DeskRight<B>,
     known: &Beginning<B>,
     maker: &mut M,
-) -> Result<(Desk<M::Table, N, B>, Vec<ReaderPass<M::Table, N, B>>), OutOfMemory>
+) -> Result<OpenedDesk<M, N, B>, OutOfMemory>
     requires readers { 1 ≤ readers }
     requires known { known.now ≡ [] }
     requires absorbed { M.absorbed maker.old [] }
@@ -152,33 +159,7 @@ fn open_desk<M: Maker, N: Profile<M::Table>, B: Bases, R: Wait>(
     ensures new { IfOk result (λ desk. All (IsNewReader M.Table.covers N.belongs) desk.1.items) }
 {
     let table = maker.table(alloc)?;
-    let poster = open_poster(alloc, readers, known, &table)?;
-    match seat_all(alloc, readers, known, &table, &poster) {
-        Ok(seats) => Ok((poster, seats)),
-        Err(error) => {
-            poster.take(rt);
-            Err(error)
-        }
-    }
-}
-
-fn open_poster<T: Posted, N: Profile<T>, B: Bases>(
-    alloc: Global,
-    readers: u32,
-    known: &Beginning<B>,
-    table: &T,
-) -> Result<Desk<T, N, B>, OutOfMemory>
-    requires readers { 1 ≤ readers }
-    requires known { known.now ≡ [] }
-    requires covers { T.covers table.now ≡ 0 }
-    requires belongs { N.belongs [] table.now }
-    requires one_plan { AreOfOnePlan T.frame T.tasks_of N.belongs N.tasks }
-    ensures shown { IfOk result (λ poster. T.covers poster.shown.table ≡ 0) }
-    ensures waiting { IfOk result (λ poster. poster.waiting ≡ []) }
-{
-    let first: Pair<T, N, B> = Pair::empty(alloc, known.copy(), table)?;
-    let second = Pair::empty(alloc, known.copy(), table)?;
-    Poster::new(alloc, first, second, readers as usize)
+    open_desk(rt, alloc, readers, right, known, &table)
 }
 
 // A pass for each number.

@@ -16,15 +16,13 @@ use crate::ended::{Ended, FinishRefused};
 use crate::refusal::ReportError;
 use crate::reporter::ReporterPass;
 use board_log::{Bases, Beginning, Roll, WholeLog};
-use board_pair::{Ack, FinalAck, News, Pair, Poster, Profile};
+use board_pair::{Ack, Desk, FinalAck, News, Profile};
 use board_workshop::Workshop;
 use bwe_specs::{MAX_REPORTS, OutOfMemory, Report};
 use demand_book::{Maker, Posted};
 use std::alloc::Global;
 use std::marker::Model;
 use std::sync::Wait;
-
-type Desk<T, N, B> = Poster<Pair<T, N, B>, News<T, N, B>>;
 
 /// The log, what adds to it, and what posts its tables. Contracts see the log, the posted number
 /// and the pending number.
@@ -37,8 +35,6 @@ pub struct LogState<M: Maker, N: Profile<M::Table>, B: Bases> {
     roll: Roll<B>,
     poster: Desk<M::Table, N, B>,
     pending: u64,
-    // how many reports of the log are published or wait to be
-    laid: u64,
 }
 
 impl<M: Maker, N: Profile<M::Table>, B: Bases> Model for LogState<M, N, B> {
@@ -54,7 +50,7 @@ impl<M: Maker, N: Profile<M::Table>, B: Bases> Model for LogState<M, N, B> {
     } };
 
     ghost invariant = { λ state. IsStanding M.Table.covers N.reporters N.tasks N.links
-        state.log.items state.whole state.roll state.poster state.pending state.laid };
+        state.log.items state.whole state.roll state.poster state.pending };
 }
 
 /// Makes the table the posted one, unless a later one is posted or waits. It may wait for readers
@@ -82,9 +78,7 @@ pub fn post<M: Maker, N: Profile<M::Table>, B: Bases, R: Wait>(
         (max state.old.pending (M.Table.covers table))) }
 {
     state.publish(rt)?;
-    state.lay(alloc, table)?;
-    let prefix = state.publish_laid(rt)?;
-    Ok(prefix)
+    state.post_next(rt, alloc, table)
 }
 
 impl<M: Maker, N: Profile<M::Table>, B: Bases> LogState<M, N, B> {
@@ -107,7 +101,6 @@ impl<M: Maker, N: Profile<M::Table>, B: Bases> LogState<M, N, B> {
             roll,
             poster,
             pending: 0,
-            laid: 0,
         }
     }
 
@@ -178,11 +171,18 @@ impl<M: Maker, N: Profile<M::Table>, B: Bases> LogState<M, N, B> {
         ensures prefix { IfOk result (λ ack. length ack ≡ self.now.posted) }
         ensures known { IfOk result (λ ack. IsPrefix known.now ack) }
     {
-        let ack = Ack::of(&self.poster);
+        let ack = self.posted_ack();
         if !known.begins(ack.known()) {
             return Err(OutOfMemory);
         }
         Ok(ack)
+    }
+
+    // The ack of what is posted.
+    fn posted_ack(&self) -> Ack<B>
+        ensures prefix { length result ≡ self.now.posted }
+    {
+        Ack::of(&self.poster)
     }
 
     /// Whether the log has reports that the posted table doesn't cover.
@@ -200,6 +200,21 @@ impl<M: Maker, N: Profile<M::Table>, B: Bases> LogState<M, N, B> {
         let log = &self.log;
         let whole = self.whole.first(log.len() as u64);
         shop.look(whole, log.as_slice())
+    }
+
+    /// The same, where the log begins with what is known, so that the workshop sees that too.
+    pub(crate) fn show_past(
+        &self,
+        shop: &mut Workshop<M, N, B>,
+        known: &Beginning<B>,
+    ) -> Result<(), OutOfMemory>
+        ensures seen { OnOk result (IsPrefix known.now shop.new) }
+    {
+        let whole = self.whole.first(self.log.len() as u64);
+        if !known.begins(&whole) {
+            return Err(OutOfMemory);
+        }
+        self.show(shop)
     }
 
     /// Posts the table of all that the workshop has seen, and gives the ack of what is then posted.
@@ -222,7 +237,11 @@ impl<M: Maker, N: Profile<M::Table>, B: Bases> LogState<M, N, B> {
             return Err(OutOfMemory);
         }
         post(rt, alloc, self, table)?;
-        self.ack(shop.seen())
+        let ack = self.posted_ack();
+        if !shop.seen().begins(ack.known()) {
+            unreachable!()
+        }
+        Ok(ack)
     }
 
     // Whether the log begins with all that the workshop has seen.
@@ -295,7 +314,6 @@ impl<M: Maker, N: Profile<M::Table>, B: Bases> LogState<M, N, B> {
             roll,
             poster,
             pending: _,
-            laid: _,
         } = self;
         drop(log);
         drop(whole);
@@ -339,8 +357,33 @@ impl<M: Maker, N: Profile<M::Table>, B: Bases> LogState<M, N, B> {
         Ok(self.pending)
     }
 
+    // Makes the table the posted one, unless a later one is posted. No other waits, so this is a
+    // post of its own.
+    fn post_next<R: Wait>(
+        &mut self,
+        rt: &R,
+        alloc: Global,
+        table: M::Table,
+    ) -> Result<u64, OutOfMemory>
+        requires none_waits { self.old.posted ≡ self.old.pending }
+        requires covers { M.Table.covers table ≤ length self.old.log }
+        requires belongs { N.belongs (take (M.Table.covers table) self.old.log) table }
+        ensures log { self.new.log ≡ self.old.log }
+        ensures answer { IfOk result (λ prefix. prefix ≡ max self.old.pending
+            (M.Table.covers table)) }
+        ensures posted { IfOk result (λ prefix. self.new.posted ≡ prefix) }
+        ensures none_waits { IfOk result (λ prefix. self.new.pending ≡ prefix) }
+        ensures refused { OnErr result (self.new.posted ≡ self.old.posted) }
+        ensures waits { OnErr result (IsRaised self.old.pending self.new.pending
+            (max self.old.pending (M.Table.covers table))) }
+    {
+        self.lay(alloc, table)?;
+        let prefix = self.publish_laid(rt)?;
+        Ok(prefix)
+    }
+
     // Lays a table beside the log as it stands, to be published next, unless a later one is posted
-    // or waits. Only what was not laid before is copied.
+    // or waits.
     fn lay(&mut self, alloc: Global, table: M::Table) -> Result<(), OutOfMemory>
         requires covers { M.Table.covers table ≤ length self.old.log }
         requires belongs { N.belongs (take (M.Table.covers table) self.old.log) table }
@@ -357,20 +400,18 @@ impl<M: Maker, N: Profile<M::Table>, B: Bases> LogState<M, N, B> {
         let news = self.news_of(alloc, table)?;
         let_wait(&mut self.poster, news)?;
         self.pending = pending;
-        self.laid = self.log.len() as u64;
         Ok(())
     }
 
-    // What a post of the table brings: the reports that were not laid before, and the table.
+    // What a post of the table brings: a copy of the log, and the table.
     fn news_of(&self, alloc: Global, table: M::Table) -> Result<News<M::Table, N, B>, OutOfMemory>
         requires covers { M.Table.covers table ≤ length self.now.log }
         requires belongs { N.belongs (take (M.Table.covers table) self.now.log) table }
         ensures news { IfOk result (λ news. news ≡ record { log = self.now.log; table = table }) }
     {
-        let from = self.laid;
-        let more = Vec::from_slice(alloc, &self.log[from as usize..])?;
+        let log = Vec::from_slice(alloc, self.log.as_slice())?;
         let whole = self.whole.first(self.log.len() as u64);
-        Ok(News::new(alloc, from, more, table, whole))
+        News::new(alloc, log, table, whole)
     }
 
     // Posts the table of the whole log, ends that, and gives the ack of it and both.

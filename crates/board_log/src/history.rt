@@ -6,7 +6,7 @@ ghost use Rattle.board_log.specs.History.{word_of, GoOn};
 
 use crate::bases::Bases;
 use bwe_specs::Report;
-use logbook::{Gain, Offer, Plain, Play, Rule, Seen, Start, Word};
+use logbook::{Gain, Offer, Pen, Plain, Play, Rule, Seen, Start, Word};
 use std::collections::LinkedList;
 use std::marker::{Model, PhantomData};
 
@@ -76,35 +76,54 @@ impl Plain<(), Piece, u64> for MarkEnd {
 #[derive(Drop)]
 pub struct OpenedLog {
     word: Word<Piece, u64, PieceCount>,
+    second: Pen,
     seen: Seen<Piece, u64, PieceCount>,
     pub ghost empty: { seen.log ≡ [] },
     pub ghost counted: { word ≡ word_of seen.book },
+    pub ghost spare: { second.book ≡ seen.book },
 }
 
 impl OpenedLog {
     /// Opens a log.
     pub fn new() -> OpenedLog {
-        let (seen, mut first, _second) = Seen::open(Start::alone(), 0, 0);
+        let (seen, mut first, second) = Seen::open(Start::alone(), 0, 0);
         OpenedLog {
             word: Word::tracked(0, &mut first),
+            second,
             seen,
         }
     }
 
-    /// The log under a name.
-    pub fn named<B: Bases>(self) -> WholeLog<B>
+    /// The log under a name, with the one right to open a desk under that name.
+    pub fn named<B: Bases>(self) -> (WholeLog<B>, DeskRight<B>)
         requires name { self.seen.book ≡ B.book }
-        ensures log { result ≡ [] }
+        ensures log { result.0 ≡ [] }
     {
-        let OpenedLog { word, seen } = self;
-        WholeLog {
+        let OpenedLog { word, second, seen } = self;
+        let whole = WholeLog {
             word,
             pieces: 0,
             has_ended: false,
             seen,
             of: PhantomData,
-        }
+        };
+        let right = DeskRight {
+            pen: second,
+            of: PhantomData,
+        };
+        (whole, right)
     }
+}
+
+/// The right to open the desk of a log, where its tables are posted. It has no bytes.
+///
+/// `OpenedLog::named` alone gives one, of a log that it names, and it cannot be copied. So under
+/// one name there is one desk.
+#[derive(Drop)]
+pub struct DeskRight<B: Bases> {
+    pen: Pen,
+    of: PhantomData<B>,
+    ghost named: { pen.book ≡ B.book },
 }
 
 /// The whole log, for who adds to it. Contracts see it as its reports.

@@ -1,5 +1,5 @@
 -- What the published pair keeps.
-use Rattle.std.specs.Prelude.{ℕ, ◌≡◌, ◌≤◌, List, length, take, drop}
+use Rattle.std.specs.Prelude.{ℕ, ◌≡◌, ◌≤◌, List, length, take}
 use Rattle.std.specs.List.{All}
 use Rattle.bwe_specs.specs.declared.report.Report.{Report}
 use Rattle.demand_book.specs.Fit.{IsFit}
@@ -17,13 +17,10 @@ pub record IsPair {T F : Type 0} (covers : T → ℕ) (frame : T → F) (tasks_o
   pub allowed : All (IsAllowed reporters (IsFit tasks links)) log
   pub one_plan : AreOfOnePlan frame tasks_of belongs tasks
 
--- the reports are what the known log has from a place on, and the table belongs to its first
--- reports
+-- the log is the one that is known, and the table belongs to its first reports
 pub record IsNews {T : Type 0} (covers : T → ℕ) (belongs : List Report → T → Type 0)
-    (reporters tasks links : ℕ)
-    (from : ℕ) (more known : List Report) (table : T) : Type 0 where
-  pub from_within : from ≤ length known
-  pub more_so : more ≡ drop from known
+    (reporters tasks links : ℕ) (log known : List Report) (table : T) : Type 0 where
+  pub known_so : log ≡ known
   pub within : covers table ≤ length known
   pub belongs_so : belongs (take (covers table) known) table
   pub allowed : All (IsAllowed reporters (IsFit tasks links)) known

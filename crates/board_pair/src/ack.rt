@@ -3,11 +3,11 @@
 ghost use Rattle.std.specs.Prelude.{◌≡◌, length, take};
 ghost use mathlib.Core.List.{IsPrefix};
 
-use crate::pair::{News, Pair};
-use crate::poster::Poster;
+use crate::poster::Desk;
 use board_log::{Bases, Beginning, EndedLog, Profile};
 use demand_book::Posted;
 use std::marker::Model;
+use std::sync::Mutex;
 
 /// An acknowledgement: the first reports of the log, all of which a posted table covers. Contracts
 /// see it as those reports.
@@ -30,7 +30,7 @@ impl<B: Bases> Model for Ack<B> {
 
 impl<B: Bases> Ack<B> {
     /// The ack of what is posted: the reports that the table covers which a poster shows.
-    pub fn of<T: Posted, N: Profile<T>>(poster: &Poster<Pair<T, N, B>, News<T, N, B>>) -> Ack<B>
+    pub fn of<T: Posted, N: Profile<T>>(poster: &Desk<T, N, B>) -> Ack<B>
         ensures reports { result ≡ take (T.covers poster.now.shown.table) poster.now.shown.log }
         ensures covers { length result ≡ T.covers poster.now.shown.table }
     {
@@ -52,6 +52,85 @@ impl<B: Bases> Ack<B> {
         ensures known { result.now ≡ self.now }
     {
         &self.known
+    }
+}
+
+/// What is left for readers: the newest acknowledgement. Contracts see it as its reports.
+///
+/// There is always one: at first that of what was posted when the desk was opened. `Desk::open`
+/// alone makes this, one for a desk, and `leave` alone changes it, to a later one.
+#[derive(Drop)]
+pub struct Newest<B: Bases> {
+    ack: Ack<B>,
+}
+
+impl<B: Bases> Model for Newest<B> {
+    ghost use Rattle.std.specs.Prelude.{List};
+    ghost use Rattle.bwe_specs.specs.declared.report.Report.{Report};
+
+    ghost Value = { List Report };
+
+    ghost view = { λ newest. newest.ack };
+}
+
+/// The place where the newest acknowledgement is left, which actors share.
+pub type NewestAck<B> = Mutex<Newest<B>>;
+
+/// An acknowledgement that was left: `Newest::leave` alone makes one. Contracts see it as the
+/// reports that it holds.
+#[derive(Drop)]
+pub struct Left<B: Bases> {
+    known: Beginning<B>,
+}
+
+impl<B: Bases> Model for Left<B> {
+    ghost use Rattle.std.specs.Prelude.{List};
+    ghost use Rattle.bwe_specs.specs.declared.report.Report.{Report};
+
+    ghost Value = { List Report };
+
+    ghost view = { λ left. left.known };
+}
+
+impl<B: Bases> Newest<B> {
+    // What is left when a desk is opened.
+    pub(crate) fn new(ack: Ack<B>) -> Newest<B>
+        ensures ack { result ≡ ack }
+    {
+        Newest { ack }
+    }
+
+    /// Leaves an acknowledgement, where no later one was left.
+    #[tactic(auto, using(board_log::proofs::Prefixes::prefix_self))]
+    pub fn leave(&mut self, ack: Ack<B>) -> Left<B>
+        ensures left { result ≡ ack }
+        // It holds this one from now on, and all that was left before.
+        ensures holds { IsPrefix ack self.new }
+        ensures kept { IsPrefix self.old self.new }
+    {
+        let left = Left {
+            known: ack.known.copy(),
+        };
+        if !ack.known.begins(&self.ack.known) {
+            self.ack = ack;
+        }
+        left
+    }
+
+    /// The newest acknowledgement.
+    pub fn ack(&self) -> &Ack<B>
+        ensures ack { result.now ≡ self.now }
+    {
+        &self.ack
+    }
+}
+
+impl<B: Bases> Left<B> {
+    /// How many reports the acknowledgement holds.
+    pub fn prefix(&self) -> u64
+        ensures prefix { result ≡ length self.now }
+    {
+        self.known.len()
     }
 }
 

@@ -28,10 +28,12 @@ mod pair;
 mod poster;
 mod reader;
 mod seats;
+mod visits;
 
-pub use ack::{Ack, FinalAck};
+pub use ack::{Ack, FinalAck, Left, Newest, NewestAck};
 pub use board_log::Profile;
 pub use pair::{News, Pair, Posting};
-pub use poster::Poster;
+pub use poster::{Desk, Poster};
 pub use reader::{ReaderPass, View};
-pub use seats::seat_all;
+pub use seats::open_desk;
+pub use visits::Visits;

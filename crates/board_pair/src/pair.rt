@@ -1,7 +1,7 @@
 //! The published pair: a log, and the table of some of its first reports.
-ghost use Rattle.std.specs.Prelude.{◌≡◌, ◌≤◌, ◌++◌, [], length, take, drop, IfOk, OnOk, OnErr};
+ghost use Rattle.std.specs.Prelude.{◌≡◌, ◌<◌, ◌≤◌, [], length, take, max, IfOk, OnOk, OnErr};
 ghost use Rattle.std.specs.Arc.{arc_value};
-ghost use Rattle.std.specs.Bool.{OnTrue};
+ghost use Rattle.std.specs.Bool.{OnTrue, OnFalse};
 ghost use Rattle.std.specs.List.{All};
 ghost use mathlib.Core.List.{IsPrefix};
 ghost use Rattle.demand_book.specs.Fit.{IsFit};
@@ -48,19 +48,19 @@ impl<T: Posted, N: Profile<T>, B: Bases> Model for Pair<T, N, B> {
         N.links pair.known (arc_value pair.log).items pair.table };
 }
 
-/// What a post brings: the reports from a place on, and the table. Contracts see the pair that it
-/// makes.
+/// What a post brings: a log, and the table of some of its first reports. Contracts see the pair
+/// that it makes.
 #[derive(Drop)]
 pub struct News<T: Posted, N: Profile<T>, B: Bases> {
     alloc: Global,
-    from: u64,
-    more: Vec<Report>,
+    log: Arc<Vec<Report>>,
     table: T,
     known: Beginning<B>,
     of: PhantomData<N>,
 }
 
 impl<T: Posted, N: Profile<T>, B: Bases> Model for News<T, N, B> {
+    ghost use Rattle.std.specs.Arc.{arc_value};
     ghost use Rattle.board_pair.specs.declared.pair.Posting.{Posting};
     ghost use Rattle.board_pair.specs.Pair.{IsNews};
 
@@ -68,36 +68,35 @@ impl<T: Posted, N: Profile<T>, B: Bases> Model for News<T, N, B> {
 
     ghost view = { λ news. record { log = news.known; table = news.table } };
 
-    ghost invariant = { λ news. IsNews T.covers N.belongs N.reporters N.tasks N.links news.from
-        news.more.items news.known news.table };
+    ghost invariant = { λ news. IsNews T.covers N.belongs N.reporters N.tasks N.links
+        (arc_value news.log).items news.known news.table };
 }
 
 impl<T: Posted, N: Profile<T>, B: Bases> News<T, N, B> {
-    /// The reports that the known log has from a place on, and the table of some of its first ones.
+    /// The known log, which the published copies come to share, and the table of some of its first
+    /// reports.
     ///
-    /// `alloc` is what the copies take memory from. It takes none itself.
+    /// `alloc` is what the copies' tables take memory from.
     pub fn new(
         alloc: Global,
-        from: u64,
-        more: Vec<Report>,
+        log: Vec<Report>,
         table: T,
         known: Beginning<B>,
-    ) -> News<T, N, B>
-        requires from { from ≤ length known }
-        requires more { more.items ≡ drop from known }
+    ) -> Result<News<T, N, B>, OutOfMemory>
+        requires log { log.items ≡ known }
         requires covers { T.covers table ≤ length known }
         requires belongs { N.belongs (take (T.covers table) known) table }
         requires allowed { All (IsAllowed N.reporters (IsFit N.tasks N.links)) known }
-        ensures pair { result ≡ record { log = known; table = table } }
+        ensures pair { IfOk result (λ news. news ≡ record { log = known; table = table }) }
     {
-        News {
+        let log = Arc::new(alloc, log)?;
+        Ok(News {
             alloc,
-            from,
-            more,
+            log,
             table,
             known,
             of: PhantomData,
-        }
+        })
     }
 }
 
@@ -114,7 +113,7 @@ impl<T: Posted, N: Profile<T>, B: Bases> Pair<T, N, B> {
         requires one_plan { AreOfOnePlan T.frame T.tasks_of N.belongs N.tasks }
         ensures pair { IfOk result (λ pair. pair ≡ record { log = []; table = table.now }) }
     {
-        let log = joined(alloc, &[], &[])?;
+        let log = Arc::new(alloc, Vec::new(alloc))?;
         let copy = table.copy(alloc)?;
         Ok(Pair {
             log,
@@ -141,87 +140,67 @@ impl<T: Posted, N: Profile<T>, B: Bases> Pair<T, N, B> {
         self.known.first(self.table.prefix())
     }
 
-    // Takes the log to all that is known of it here, and the table to that one by their change.
-    // `more` is what the known log has from the place `from` on, where this log ends.
-    fn follow(
-        &mut self,
-        alloc: Global,
-        from: u64,
-        more: &[Report],
-        known: &Beginning<B>,
-        table: &T,
-    ) -> Result<(), OutOfMemory>
-        requires from { from ≤ length known.now }
-        requires more { more.now ≡ drop from known.now }
-        requires covers { T.covers table.now ≤ length known.now }
-        requires belongs { N.belongs (take (T.covers table.now) known.now) table.now }
-        requires allowed { All (IsAllowed N.reporters (IsFit N.tasks N.links)) known.now }
-        ensures ok { OnOk result (self.new ≡ record { log = known.now; table = table.now }) }
-        ensures refused { OnErr result (self.new ≡ self.old) }
-        ensures log { IsPrefix self.old.log self.new.log }
-    {
-        if self.log.len() as u64 != from || !self.known.begins(known) {
-            return Err(OutOfMemory);
-        }
-        let log = joined(alloc, self.log.as_slice(), more)?;
-        self.take_over(alloc, log, known, table)
-    }
-
-    // Takes a log that begins with this one, and takes the table to that one by their change.
+    // Takes a log, and takes the table to that of its first reports by their change.
     fn take_over(
         &mut self,
         alloc: Global,
-        log: Arc<Vec<Report>>,
+        log: &Arc<Vec<Report>>,
         known: &Beginning<B>,
         table: &T,
     ) -> Result<(), OutOfMemory>
-        requires known { (arc_value log).items ≡ known.now }
-        requires longer { IsPrefix self.old.log known.now }
+        requires known { (arc_value log.now).items ≡ known.now }
         requires covers { T.covers table.now ≤ length known.now }
         requires belongs { N.belongs (take (T.covers table.now) known.now) table.now }
         requires allowed { All (IsAllowed N.reporters (IsFit N.tasks N.links)) known.now }
         ensures ok { OnOk result (self.new ≡ record { log = known.now; table = table.now }) }
         ensures refused { OnErr result (self.new ≡ self.old) }
-        ensures log { IsPrefix self.old.log self.new.log }
     {
+        let log = Arc::try_clone(log)?;
         bring_to(alloc, &mut self.table, table)?;
         self.log = log;
         self.known = known.copy();
         Ok(())
     }
 
-    // Takes over a later pair, and shares its log. One that is not later is refused.
+    // Takes over the table of another pair, which covers no less, and shares its log. Where that
+    // log is the shorter one it keeps its own, which begins with it.
+    #[tactic(auto, using(board_log::proofs::Prefixes::prefix_self, board_log::proofs::Prefixes::prefix_takes, board_log::proofs::Prefixes::prefix_length))]
     fn catch_up(&mut self, alloc: Global, later: &Pair<T, N, B>) -> Result<(), OutOfMemory>
-        ensures ok { OnOk result (self.new ≡ later.now) }
+        requires later { T.covers self.old.table ≤ T.covers later.now.table }
+        ensures table { OnOk result (self.new.table ≡ later.now.table) }
+        ensures seen { OnOk result (IsPrefix later.now.log self.new.log) }
         ensures refused { OnErr result (self.new ≡ self.old) }
         ensures log { IsPrefix self.old.log self.new.log }
         ensures floor { T.covers self.old.table ≤ T.covers self.new.table }
     {
-        if later.table.prefix() < self.table.prefix() || !self.known.begins(&later.known) {
-            return Err(OutOfMemory);
+        if self.known.begins(&later.known) {
+            return self.take_over(alloc, &later.log, &later.known, &later.table);
         }
-        let log = Arc::try_clone(&later.log)?;
-        self.take_over(alloc, log, &later.known, &later.table)
+        bring_to(alloc, &mut self.table, &later.table)
     }
 
-    /// Takes over the published pair where something was published since. Where memory is wanting
-    /// it stays as it is.
+    /// Takes over the published pair where something was published since, and says whether it then
+    /// covers all that is published. Where memory is wanting it stays as it is.
     ///
     /// Each publish raises what the table covers, so where nothing was published it costs one
     /// comparison.
-    pub(crate) fn refresh(&mut self, alloc: Global, published: &Pair<T, N, B>)
+    pub(crate) fn refresh(&mut self, alloc: Global, published: &Pair<T, N, B>) -> bool
+        ensures fresh { OnTrue result (T.covers self.new.table ≡ max (T.covers self.old.table)
+            (T.covers published.now.table)) }
         ensures log { IsPrefix self.old.log self.new.log }
         ensures floor { T.covers self.old.table ≤ T.covers self.new.table }
     {
-        if published.table.prefix() > self.table.prefix() {
-            let _ = self.catch_up(alloc, published);
+        if published.table.prefix() <= self.table.prefix() {
+            return true;
         }
+        self.catch_up(alloc, published).is_ok()
     }
 
     /// Whether the log begins with the ack's, and the table covers all of that.
     pub(crate) fn covers(&self, ack: &Ack<B>) -> bool
         ensures log { OnTrue result (IsPrefix ack.now self.now.log) }
         ensures covers { OnTrue result (length ack.now ≤ T.covers self.now.table) }
+        ensures behind { OnFalse result (T.covers self.now.table < length ack.now) }
     {
         ack.prefix() <= self.table.prefix() && ack.known().begins(&self.known)
     }
@@ -233,15 +212,18 @@ impl<T: Posted, N: Profile<T>, B: Bases> Pair<T, N, B> {
         end.holds(&self.known);
     }
 
-    /// Takes over a later pair that covers the ack. Another pair is refused.
+    /// Takes over a pair that covers the ack, as this one does not. Another pair is refused.
+    #[tactic(auto, using(board_log::proofs::Prefixes::prefix_trans))]
     pub(crate) fn catch_up_to(
         &mut self,
         alloc: Global,
         later: &Pair<T, N, B>,
         ack: &Ack<B>,
     ) -> Result<(), OutOfMemory>
+        requires behind { T.covers self.old.table < length ack.now }
         ensures told { OnOk result (IsPrefix ack.now self.new.log) }
         ensures covers { OnOk result (length ack.now ≤ T.covers self.new.table) }
+        ensures fresh { OnOk result (T.covers later.now.table ≤ T.covers self.new.table) }
         ensures log { IsPrefix self.old.log self.new.log }
         ensures floor { T.covers self.old.table ≤ T.covers self.new.table }
         ensures refused { OnErr result (self.new ≡ self.old) }
@@ -265,8 +247,7 @@ impl<T: Posted, N: Profile<T>, B: Bases> Absorb<News<T, N, B>> for Pair<T, N, B>
         news: &News<T, N, B>,
         _other: &Pair<T, N, B>,
     ) -> Result<(), AllocError> {
-        let more = news.more.as_slice();
-        match self.follow(news.alloc, news.from, more, &news.known, &news.table) {
+        match self.take_over(news.alloc, &news.log, &news.known, &news.table) {
             Ok(()) => Ok(()),
             Err(_) => Err(AllocError),
         }
@@ -281,16 +262,4 @@ fn bring_to<T: Posted>(alloc: Global, table: &mut T, later: &T) -> Result<(), Ou
 {
     let change = table.change_to(alloc, later)?;
     table.apply(alloc, &change)
-}
-
-// The reports of both, one after the other, to be shared.
-fn joined(alloc: Global, first: &[Report], more: &[Report]) -> Result<Arc<Vec<Report>>, AllocError>
-    ensures items { IfOk result (λ log. (arc_value log).items ≡ first.now ++ more.now) }
-{
-    let room = first.len().saturating_add(more.len());
-    let mut log = Vec::with_capacity(alloc, room)?;
-    log.extend_from_slice(first)?;
-    log.extend_from_slice(more)?;
-    let shared = Arc::new(alloc, log)?;
-    Ok(shared)
 }

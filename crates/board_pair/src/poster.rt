@@ -1,27 +1,35 @@
 //! The writer of the published value, in a type that stands in a field.
-ghost use Rattle.std.specs.Prelude.{◌≡◌, ◌^◌, ◌<◌, ◌≤◌, ◌++◌, ◌∷◌, ◌↔◌, [], length, fold, IsTrue, IfOk, OnOk, OnErr};
+ghost use Rattle.std.specs.Prelude.{◌≡◌, ◌^◌, ◌<◌, ◌≤◌, ◌++◌, ◌∷◌, ◌↔◌, [], length, drop, fold, MatchResult, IsTrue, IfOk, OnOk, OnErr};
+ghost use Rattle.left_right.specs.Sides.{view};
 
+use crate::pair::{News, Pair};
+use crate::visits::{Publishes, Visited, Visits};
+use board_log::{Bases, DeskRight};
 use bwe_specs::OutOfMemory;
 use core::mem::replace_with;
-use crossbeam_utils::rule::Unruled;
 use left_right::Absorb;
 use left_right::reader::Reader;
 use left_right::writer::Writer;
-use std::alloc::Global;
+use std::alloc::{AllocError, Global};
 use std::marker::Model;
 use std::mem::ManuallyDrop;
 use std::sync::Wait;
 
+/// Where a board's tables are posted.
+pub type Desk<T, N, B> = Poster<Pair<T, N, B>, News<T, N, B>, B>;
+
 /// The writer of two published copies. Contracts see the value that readers take, and what waits to
 /// be published.
 ///
+/// It keeps the one right to open a desk under the name `B`, so under that name there is no other.
 /// End it by `take`, which waits for the readers. Its drop leaves the memory, since to free it it
 /// would have to wait.
-pub struct Poster<P: Absorb<O> + Drop, O: Drop> {
-    writer: Writer<P, O, (), Unruled>,
+pub struct Poster<P: Absorb<O> + Drop, O: Drop, B: Bases> {
+    writer: Writer<P, O, Visits, Visited>,
+    right: DeskRight<B>,
 }
 
-impl<P: Absorb<O> + Drop, O: Drop> Model for Poster<P, O> {
+impl<P: Absorb<O> + Drop, O: Drop, B: Bases> Model for Poster<P, O, B> {
     ghost use Rattle.std.specs.Prelude.{drop};
     ghost use Rattle.board_pair.specs.Desk.{Desk};
 
@@ -34,14 +42,15 @@ impl<P: Absorb<O> + Drop, O: Drop> Model for Poster<P, O> {
     } };
 }
 
-impl<P: Absorb<O> + Drop, O: Drop> Poster<P, O> {
+impl<P: Absorb<O> + Drop, O: Drop, B: Bases> Poster<P, O, B> {
     /// Two copies of one value, and places for so many readers.
     pub fn new(
         alloc: Global,
         first: P,
         second: P,
         readers: usize,
-    ) -> Result<Poster<P, O>, OutOfMemory>
+        right: DeskRight<B>,
+    ) -> Result<Poster<P, O, B>, OutOfMemory>
         requires readers { (0 < readers) × (readers < 2 ^ 32) }
         requires alike { P.state first ≡ P.state second }
         ensures shown { IfOk result (λ poster. poster.shown ≡ first) }
@@ -49,11 +58,14 @@ impl<P: Absorb<O> + Drop, O: Drop> Poster<P, O> {
     {
         Ok(Poster {
             writer: Writer::new(alloc, first, second, readers)?,
+            right,
         })
     }
 
     // A reader's place, refused where all are taken.
-    pub(crate) fn reader(&self) -> Result<Reader<P, (), Unruled>, OutOfMemory> {
+    pub(crate) fn reader(&self) -> Result<Reader<P, Visits, Visited>, OutOfMemory>
+        ensures visits { IfOk result (λ reader. view reader.place ≡ record { count = 0; covers = 0 }) }
+    {
         let writer = &self.writer;
         let reader = writer.factory().reader()?;
         Ok(reader)
@@ -84,22 +96,37 @@ impl<P: Absorb<O> + Drop, O: Drop> Poster<P, O> {
         ensures waiting { OnOk result (self.new.waiting ≡ []) }
         ensures refused { OnErr result (self.new ≡ self.old) }
     {
-        replace_with(&mut self.writer, rt, |writer, rt| {
-            writer.publish_as::<Unruled, R>(rt)
-        })?;
+        replace_with(&mut self.writer, rt, |writer, rt| { published(writer, rt) })?;
         Ok(())
     }
 
     /// Ends the writer. It waits for readers to leave.
     pub fn take<R: Wait>(self, rt: &R) {
-        let Poster { writer } = self;
+        let Poster { writer, right } = self;
+        drop(right);
         drop(writer.take(rt));
     }
 }
 
-impl<P: Absorb<O> + Drop, O: Drop> Drop for Poster<P, O> {
+impl<P: Absorb<O> + Drop, O: Drop, B: Bases> Drop for Poster<P, O, B> {
     fn drop(self) {
-        let Self { writer } = self;
+        let Self { writer, right } = self;
+        drop(right);
         let _left = unsafe { ManuallyDrop::new_unchecked(writer) };
     }
+}
+
+// Publishes what waits.
+fn published<P: Absorb<O> + Drop, O: Drop, R: Wait>(
+    writer: Writer<P, O, Visits, Visited>,
+    rt: &R,
+) -> (Writer<P, O, Visits, Visited>, Result<(), AllocError>)
+    ensures values { MatchResult result.1
+        (λ _. (P.state result.0.desk.shown.value ≡ fold P.applied
+        (P.state writer.desk.shown.value) (drop writer.behind writer.log.items))
+        × (drop result.0.behind result.0.log.items ≡ []))
+        (λ _. (result.0.desk.shown.value ≡ writer.desk.shown.value)
+        × (drop result.0.behind result.0.log.items ≡ drop writer.behind writer.log.items)) }
+{
+    writer.publish_as::<Publishes, R>(rt)
 }

@@ -1,21 +1,24 @@
 //! Readers of the published pair. None of their calls waits or takes a lock.
-ghost use Rattle.std.specs.Prelude.{◌≡◌, ◌+◌, ◌-◌, ◌^◌, ◌<◌, ◌≤◌, ◌↔◌, length, take, min, slice_get, IfSome, IsNone, OnOk, OnErr};
+ghost use Rattle.std.specs.Prelude.{◌≡◌, ◌+◌, ◌-◌, ◌^◌, ◌<◌, ◌≤◌, ◌↔◌, length, take, max, min, slice_get, IfSome, IsNone, OnOk, OnErr};
 ghost use Rattle.std.specs.List.{All};
 ghost use mathlib.Core.List.{IsPrefix};
 ghost use Rattle.demand_book.specs.Fit.{IsFit};
 ghost use Rattle.board_core.specs.Core.{IsAllowed};
+ghost use Rattle.std.specs.Bool.{OnTrue};
+ghost use Rattle.left_right.specs.Sides.{view};
+ghost use Rattle.board_pair.specs.Reading.{IsReadStep, no_visits};
 
 use crate::ack::{Ack, FinalAck};
 use crate::pair::Pair;
+use crate::visits::{Enters, Visited, Visits};
 use board_log::{Bases, Profile};
 use bwe_specs::{OutOfMemory, Report};
-use crossbeam_utils::rule::Unruled;
 use demand_book::Posted;
 use left_right::reader::Reader;
 use std::alloc::Global;
 use std::marker::Model;
 
-type Home<T, N, B> = Reader<Pair<T, N, B>, (), Unruled>;
+type Home<T, N, B> = Reader<Pair<T, N, B>, Visits, Visited>;
 
 /// A reader's pass: a log that it shares with the published copy that it took it from, a table of
 /// its own of the log's first reports, and how often it has read.
@@ -27,11 +30,14 @@ pub struct ReaderPass<T: Posted, N: Profile<T>, B: Bases> {
     home: Option<Home<T, N, B>>,
     copy: Pair<T, N, B>,
     reads: u64,
+    fresh: u64,
+    learnt: u64,
 }
 
 impl<T: Posted, N: Profile<T>, B: Bases> Model for ReaderPass<T, N, B> {
     ghost use Rattle.std.specs.Prelude.{IsSome};
-    ghost use Rattle.board_pair.specs.Reading.{Reading};
+    ghost use Rattle.left_right.specs.Sides.{view as seat_view};
+    ghost use Rattle.board_pair.specs.Reading.{Reading, visits_in};
 
     ghost Value = { Reading T };
 
@@ -39,6 +45,9 @@ impl<T: Posted, N: Profile<T>, B: Bases> Model for ReaderPass<T, N, B> {
       log = pass.copy.log;
       table = pass.copy.table;
       reads = pass.reads;
+      fresh = pass.fresh;
+      learnt = pass.learnt;
+      visits = visits_in (λ home. seat_view home.place) pass.home;
     } };
 
     ghost invariant = { λ pass. IsSome pass.home };
@@ -59,18 +68,24 @@ impl<T: Posted, N: Profile<T>, B: Bases> ReaderPass<T, N, B> {
     ghost use denote.Follow.{follows_so};
     ghost use Rattle.demand_book.specs.Fit.{IsFit};
     ghost use Rattle.board_core.specs.Core.{IsAllowed};
+    ghost use Rattle.left_right.specs.Sides.{view};
+    ghost use Rattle.board_pair.specs.Reading.{IsReadStep, no_visits};
     ghost use Rattle.board_pair.specs.contracts.reader.ReaderPass.{the_row};
 
     // A pass that has read nothing yet.
     pub(crate) fn new(home: Home<T, N, B>, copy: Pair<T, N, B>) -> ReaderPass<T, N, B>
+        requires home { view home.place ≡ no_visits }
         ensures log { result.log ≡ copy.log }
         ensures table { result.table ≡ copy.table }
-        ensures reads { result.reads ≡ 0 }
+        ensures none { (result.reads ≡ 0) × (result.fresh ≡ 0) × (result.learnt ≡ 0) }
+        ensures visits { result.visits ≡ no_visits }
     {
         ReaderPass {
             home: Some(home),
             copy,
             reads: 0,
+            fresh: 0,
+            learnt: 0,
         }
     }
 
@@ -90,6 +105,21 @@ impl<T: Posted, N: Profile<T>, B: Bases> ReaderPass<T, N, B> {
         self.reads
     }
 
+    /// How many of its reads showed all that was posted when they were made. Others had no memory
+    /// for what was newer, or the board was closed. It stays at the last value once it is there.
+    pub fn fresh(&self) -> u64
+        ensures fresh { result ≡ self.now.fresh }
+    {
+        self.fresh
+    }
+
+    /// How often it was told of an acknowledgement. It stays at the last value once it is there.
+    pub fn learnt(&self) -> u64
+        ensures learnt { result ≡ self.now.learnt }
+    {
+        self.learnt
+    }
+
     /// Enters a published copy, brings the pass up to date by what was published since, and shows
     /// what it then has.
     ///
@@ -104,7 +134,9 @@ impl<T: Posted, N: Profile<T>, B: Bases> ReaderPass<T, N, B> {
             N.Profile B.Bases) (the_row T.row N.row B.row T.Frame.row T.Change.row T.Posted
             N.Profile B.Bases) self.entry.ghost_name none (λ _ _. ⊤)
             (λ pass. (pass.log ≡ result.copy.now.log) × (pass.table ≡ result.copy.now.table)
-            × (pass.reads ≡ min (self.old.reads + 1) (2 ^ 64 - 1)))) }
+            × (pass.reads ≡ min (self.old.reads + 1) (2 ^ 64 - 1))
+            × (pass.learnt ≡ self.old.learnt)
+            × IsReadStep (T.covers self.old.table) (T.covers pass.table) self.old pass)) }
         // Of the headline (docs/DEFINITIONS.md): "a reader's prefixes never fall" ..
         ensures log { IsPrefix self.old.log result.copy.now.log }
         ensures floor { T.covers self.old.table ≤ T.covers result.copy.now.table }
@@ -123,23 +155,53 @@ impl<T: Posted, N: Profile<T>, B: Bases> ReaderPass<T, N, B> {
     /// where that is needed.
     ///
     /// It costs as `read` does, and nothing where the pass covers the ack already. After a refusal
-    /// the pass is as it was.
+    /// the pass has the log and the table that it had, and is told of nothing.
     pub fn learn(&mut self, alloc: Global, ack: &Ack<B>) -> Result<(), OutOfMemory>
         // "That prefix holds all that the reader was told is acknowledged."
         ensures told { OnOk result (IsPrefix ack.now self.new.log) }
         ensures covers { OnOk result (length ack.now ≤ T.covers self.new.table) }
         ensures log { IsPrefix self.old.log self.new.log }
         ensures floor { T.covers self.old.table ≤ T.covers self.new.table }
-        ensures refused { OnErr result (self.new ≡ self.old) }
-        ensures reads { self.new.reads ≡ self.old.reads }
+        ensures learnt { OnOk result (self.new.learnt ≡ min (self.old.learnt + 1) (2 ^ 64 - 1)) }
+        ensures copy { OnErr result ((self.new.log ≡ self.old.log)
+            × (self.new.table ≡ self.old.table) × (self.new.learnt ≡ self.old.learnt)) }
+        ensures reads { (self.new.reads ≡ self.old.reads) × (self.new.fresh ≡ self.old.fresh) }
     {
         if self.copy.covers(ack) {
+            self.count_told();
             return Ok(());
         }
+        self.catch_up(alloc, ack)?;
+        self.count_told();
+        Ok(())
+    }
+
+    // Counts an acknowledgement of which it was told.
+    fn count_told(&mut self)
+        ensures told { self.new ≡ record self.old {
+          learnt = min (self.old.learnt + 1)
+              (2 ^ 64 - 1);
+        } }
+    {
+        self.learnt = self.learnt.saturating_add(1);
+    }
+
+    // Enters a published copy, and takes over what covers the ack.
+    fn catch_up(&mut self, alloc: Global, ack: &Ack<B>) -> Result<(), OutOfMemory>
+        requires behind { T.covers self.old.table < length ack.now }
+        ensures told { OnOk result (IsPrefix ack.now self.new.log) }
+        ensures covers { OnOk result (length ack.now ≤ T.covers self.new.table) }
+        ensures log { IsPrefix self.old.log self.new.log }
+        ensures floor { T.covers self.old.table ≤ T.covers self.new.table }
+        ensures copy { OnErr result ((self.new.log ≡ self.old.log)
+            × (self.new.table ≡ self.old.table)) }
+        ensures counts { (self.new.reads ≡ self.old.reads) × (self.new.fresh ≡ self.old.fresh)
+            × (self.new.learnt ≡ self.old.learnt) }
+    {
         let Some(reader) = self.home.take() else {
             unreachable!()
         };
-        let (reader, learnt) = match reader.enter_as::<Unruled>() {
+        let (reader, learnt) = match reader.enter_as::<Enters>() {
             Ok(reading) => {
                 let learnt = self.copy.catch_up_to(alloc, reading.get(), ack);
                 (reading.leave(), learnt)
@@ -155,12 +217,18 @@ impl<T: Posted, N: Profile<T>, B: Bases> ReaderPass<T, N, B> {
         ensures log { IsPrefix self.old.log self.new.log }
         ensures floor { T.covers self.old.table ≤ T.covers self.new.table }
         ensures reads { self.new.reads ≡ min (self.old.reads + 1) (2 ^ 64 - 1) }
+        ensures learnt { self.new.learnt ≡ self.old.learnt }
+        ensures step { IsReadStep (T.covers self.old.table) (T.covers self.new.table) self.old self.new }
     {
         let Some(reader) = self.home.take() else {
             unreachable!()
         };
-        self.home = Some(enter_and_leave(alloc, reader, &mut self.copy));
+        let (reader, is_fresh) = enter_and_leave(alloc, reader, &mut self.copy);
+        self.home = Some(reader);
         self.reads = self.reads.saturating_add(1);
+        if is_fresh {
+            self.fresh = self.fresh.saturating_add(1);
+        }
     }
 
     // What it has.
@@ -177,21 +245,25 @@ impl<T: Posted, N: Profile<T>, B: Bases> ReaderPass<T, N, B> {
     }
 }
 
-// Enters a published copy and takes it over where it is newer.
+// Enters a published copy, takes it over where it is newer, and says whether the own copy then
+// covers all that is published.
 fn enter_and_leave<T: Posted, N: Profile<T>, B: Bases>(
     alloc: Global,
     reader: Home<T, N, B>,
     copy: &mut Pair<T, N, B>,
-) -> Home<T, N, B>
+) -> (Home<T, N, B>, bool)
     ensures log { IsPrefix copy.old.log copy.new.log }
     ensures floor { T.covers copy.old.table ≤ T.covers copy.new.table }
+    ensures visits { OnTrue result.1 ((view result.0.place).count ≡ (view reader.place).count + 1) }
+    ensures fresh { OnTrue result.1 (T.covers copy.new.table ≡ max (T.covers copy.old.table)
+        (view result.0.place).covers) }
 {
-    match reader.enter_as::<Unruled>() {
+    match reader.enter_as::<Enters>() {
         Ok(reading) => {
-            copy.refresh(alloc, reading.get());
-            reading.leave()
+            let is_fresh = copy.refresh(alloc, reading.get());
+            (reading.leave(), is_fresh)
         }
-        Err(reader) => reader,
+        Err(reader) => (reader, false),
     }
 }
 

@@ -1,26 +1,84 @@
-//! How the readers of a published pair are seated.
-ghost use Rattle.std.specs.Prelude.{◌≡◌, [], length, IfOk};
+//! How a desk is opened and its readers are seated.
+ghost use Rattle.std.specs.Prelude.{◌≡◌, ◌≤◌, [], length, IfOk};
 ghost use Rattle.std.specs.List.{All};
 ghost use Rattle.board_log.specs.Plan.{AreOfOnePlan};
 ghost use Rattle.board_pair.specs.Reading.{IsNewReader};
 
-use crate::pair::{News, Pair};
-use crate::poster::Poster;
+use crate::ack::{Ack, Newest};
+use crate::pair::Pair;
+use crate::poster::{Desk, Poster};
 use crate::reader::ReaderPass;
-use board_log::{Bases, Beginning, Profile};
+use board_log::{Bases, Beginning, DeskRight, Profile};
 use bwe_specs::OutOfMemory;
 use demand_book::Posted;
 use std::alloc::Global;
+use std::sync::Wait;
 
-/// So many readers, each with a copy of its own of the empty log and its table.
+/// Opens a desk: the published copies of the empty log and its table, a seat for each reader, with a
+/// copy of its own, and the place where the newest acknowledgement is left.
 ///
-/// It is refused where the poster was made for fewer.
-pub fn seat_all<T: Posted, N: Profile<T>, B: Bases>(
+/// It takes the one right to do so. So each acknowledgement under the name `B` is of what is posted
+/// here, where each reader of that name is seated.
+pub fn open_desk<T: Posted, N: Profile<T>, B: Bases, R: Wait>(
+    rt: &R,
+    alloc: Global,
+    readers: u32,
+    right: DeskRight<B>,
+    known: &Beginning<B>,
+    table: &T,
+) -> Result<(Desk<T, N, B>, Vec<ReaderPass<T, N, B>>, Newest<B>), OutOfMemory>
+    requires readers { 1 ≤ readers }
+    requires known { known.now ≡ [] }
+    requires covers { T.covers table.now ≡ 0 }
+    requires belongs { N.belongs [] table.now }
+    requires one_plan { AreOfOnePlan T.frame T.tasks_of N.belongs N.tasks }
+    ensures shown { IfOk result (λ desk. T.covers desk.0.shown.table ≡ 0) }
+    ensures waiting { IfOk result (λ desk. desk.0.waiting ≡ []) }
+    ensures count { IfOk result (λ desk. length desk.1.items ≡ readers) }
+    ensures new { IfOk result (λ desk. All (IsNewReader T.covers N.belongs) desk.1.items) }
+    ensures left { IfOk result (λ desk. desk.2 ≡ []) }
+{
+    let poster = open_poster(alloc, readers, right, known, table)?;
+    match seat_all(alloc, readers, known, table, &poster) {
+        Ok(seats) => {
+            let newest = Newest::new(Ack::of(&poster));
+            Ok((poster, seats, newest))
+        }
+        Err(error) => {
+            poster.take(rt);
+            Err(error)
+        }
+    }
+}
+
+fn open_poster<T: Posted, N: Profile<T>, B: Bases>(
+    alloc: Global,
+    readers: u32,
+    right: DeskRight<B>,
+    known: &Beginning<B>,
+    table: &T,
+) -> Result<Desk<T, N, B>, OutOfMemory>
+    requires readers { 1 ≤ readers }
+    requires known { known.now ≡ [] }
+    requires covers { T.covers table.now ≡ 0 }
+    requires belongs { N.belongs [] table.now }
+    requires one_plan { AreOfOnePlan T.frame T.tasks_of N.belongs N.tasks }
+    ensures shown { IfOk result (λ poster. T.covers poster.shown.table ≡ 0) }
+    ensures log { IfOk result (λ poster. poster.shown.log ≡ []) }
+    ensures waiting { IfOk result (λ poster. poster.waiting ≡ []) }
+{
+    let first: Pair<T, N, B> = Pair::empty(alloc, known.copy(), table)?;
+    let second = Pair::empty(alloc, known.copy(), table)?;
+    Poster::new(alloc, first, second, readers as usize, right)
+}
+
+// So many readers, each with a copy of its own of the empty log and its table.
+fn seat_all<T: Posted, N: Profile<T>, B: Bases>(
     alloc: Global,
     readers: u32,
     known: &Beginning<B>,
     table: &T,
-    poster: &Poster<Pair<T, N, B>, News<T, N, B>>,
+    poster: &Desk<T, N, B>,
 ) -> Result<Vec<ReaderPass<T, N, B>>, OutOfMemory>
     requires known { known.now ≡ [] }
     requires covers { T.covers table.now ≡ 0 }
@@ -41,7 +99,7 @@ fn seat<T: Posted, N: Profile<T>, B: Bases>(
     alloc: Global,
     known: &Beginning<B>,
     table: &T,
-    poster: &Poster<Pair<T, N, B>, News<T, N, B>>,
+    poster: &Desk<T, N, B>,
 ) -> Result<ReaderPass<T, N, B>, OutOfMemory>
     requires known { known.now ≡ [] }
     requires covers { T.covers table.now ≡ 0 }

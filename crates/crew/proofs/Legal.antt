@@ -37,7 +37,7 @@ all_ready reporters tasks links scripts passes count seats fresh are = record {
 }
 
 -- an item of a list that is long enough
-some_of : {X : Type 0} (xs : List X) (n : ℕ) → n < length xs → X
+pub some_of : {X : Type 0} (xs : List X) (n : ℕ) → n < length xs → X
 some_of [] n lt = absurd (omega arith)
 some_of (x ∷ xs) n lt = x
 

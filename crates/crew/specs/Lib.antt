@@ -1,2 +1,3 @@
 pub mod Reporters
 pub mod Allocators
+pub mod Shown

@@ -8,6 +8,8 @@ ghost use Rattle.crew_log.specs.LegalCrewLog.{IsClosed, IsLegalCrewLog};
 ghost use Rattle.crew_log.specs.Scripts.{AreOfReporters, reports_in};
 ghost use Rattle.crew.specs.Reporters.{IsReady, AreReady, HasReported, HaveReported};
 ghost use Rattle.crew.specs.Allocators.{HasMade};
+ghost use Rattle.crew.specs.Shown.{HaveShown, LogIsShown};
+ghost use Rattle.crew_readers.specs.Gates.{AreShown};
 ghost use Rattle.crew_readers.specs.Readers.{HasLines, HaveLines, HaveEnded};
 
 use at_once::all_at_once;
@@ -15,10 +17,10 @@ use board::{AllocatorPass, Bases, Board, Profile, ReaderPass, ReportError, Repor
 use bwe_specs::{MAX_READS, MAX_REPORTS, OutOfMemory, Report};
 use crew_actors::{Gate, make_rounds, report_and_settle};
 use crew_log::{CrewLog, ReadLine};
-use crew_readers::{NewestAck, end_all, read_lines};
+use crew_readers::{end_all, read_lines};
 use demand_book::{Maker, Posted};
 use std::alloc::Global;
-use std::sync::{Mutex, Wait};
+use std::sync::Wait;
 use std::thread::Threads;
 
 /// Runs the actors of a board that was just opened, each in a thread of its own, and answers the
@@ -68,6 +70,8 @@ where
     // What each reader's pass has seen, its floor, and how often it has read.
     ensures passes { IfOk result (λ log. HaveEnded M.Table.covers reads log.history.items
         log.readers.items readers.new) }
+    // The gate was shown each line of each reader, as its read of that number.
+    ensures shown { IfOk result (λ log. LogIsShown G.begins G.shows log.readers.items) }
 {
     let mut reporters = reporters;
     let answers = run_actors(
@@ -133,11 +137,11 @@ where
         answers.reported.items reporters.new) }
     ensures read { IfOk result (λ answers. HaveLines M.Table.covers N.belongs M.Table.total_of reads
         answers.read.items readers.new) }
+    ensures shown { IfOk result (λ answers. HaveShown G.begins G.shows answers.read.items) }
     ensures rounds { OnOk result (HasMade (reads + 1) allocator.old allocator.new) }
     ensures readers { length readers.new ≡ length readers.old }
 {
-    let newest: NewestAck<B> = Mutex::new(None);
-    let newest = &newest;
+    let newest = board.newest();
     let report = |number: usize, pass: &mut ReporterPass<B>| -> Result<(), ReportError>
         requires { (number < length scripts.now)
             × ((script : _) → IsReady N.reporters N.tasks N.links
@@ -145,15 +149,11 @@ where
         ensures { (script : _) → HasReported (slice_index_or scripts.entry.now number script).items
             pass.old result pass.new }
     {
-        report_and_settle(
-            rt,
-            alloc,
-            board,
-            newest,
-            gate,
-            scripts[number].as_slice(),
-            pass,
-        )
+        let script = scripts[number].as_slice();
+        match report_and_settle(rt, alloc, board, gate, script, pass) {
+            Ok(_left) => Ok(()),
+            Err(error) => Err(error),
+        }
     };
     let read = |number: usize, pass: &mut ReaderPass<M::Table, N, B>| -> Result<
         Vec<ReadLine>,
@@ -162,7 +162,7 @@ where
         requires { (number < 2 ^ 32) × (reads ≤ MAX_READS) × IsNewReader M.Table.covers N.belongs
             pass.old }
         ensures { IfOk result (λ read. HasLines M.Table.covers N.belongs M.Table.total_of reads
-            read.items pass.new) }
+            read.items pass.new × AreShown G.begins G.shows number read.items) }
     { read_lines(rt, alloc, newest, gate, number as u32, reads, pass) };
     let rounds = |_: usize, pass: &mut AllocatorPass<B>| -> Result<(), OutOfMemory>
         requires { reads ≤ MAX_READS }

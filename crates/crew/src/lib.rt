@@ -10,10 +10,9 @@
 //! an actor runs after another. Nothing is promised of waiting, of the order of actors that told
 //! each other nothing, or that any two ran at once.
 //!
-//! Some bodies meet every clause and are wrong: a reporter that keeps its acknowledgement or makes
-//! no settle, a reader that learns none before a read, a call that the gate is not told of. Each
-//! was tried by hand, and the test `a_held_reader_is_told_what_was_settled` of `service_cases`
-//! refuses it.
+//! Each line of the log is what the run's own gate was shown, as that read of that reader. No clause
+//! has the order of a reader's looks and reads, nor that the gate is told of each report and round:
+//! the test `a_held_reader_is_told_what_was_settled` of `service_cases` refuses bodies without.
 #![tactic(auto)]
 
 mod driving;

@@ -3,6 +3,7 @@ ghost use Rattle.std.specs.Prelude.{◌≡◌, ◌≤◌, [], length, IfOk};
 ghost use Rattle.board.specs.Plan.{NamesTables};
 ghost use Rattle.crew_log.specs.LegalCrewLog.{IsClosed, IsLegalCrewLog};
 ghost use Rattle.crew_log.specs.Scripts.{AreOfReporters, reports_in};
+ghost use Rattle.crew.specs.Shown.{LogIsShown};
 
 use crate::driving::drive;
 use board::{Bases, Opened, Profile};
@@ -47,6 +48,8 @@ where
         (λ reports table. table ≡ M.table_of (M.plan maker) reports) M.Table.total_of
         (M.plan_tasks (M.plan maker)) (M.plan_links (M.plan maker)) scripts.now readers reads) }
     ensures closed { IfOk result IsClosed }
+    // The gate was shown each line of each reader, as its read of that number.
+    ensures shown { IfOk result (λ log. LogIsShown G.begins G.shows log.readers.items) }
 {
     run_profiled::<M, Brand, G, R>(rt, alloc, maker, scripts, readers, reads, gate)
 }
@@ -85,6 +88,7 @@ where
     ensures legal { IfOk result (IsLegalCrewLog N.belongs M.Table.total_of N.tasks N.links
         scripts.now readers reads) }
     ensures closed { IfOk result IsClosed }
+    ensures shown { IfOk result (λ log. LogIsShown G.begins G.shows log.readers.items) }
 {
     let reporters = scripts.len() as u32;
     let opened: Opened<M, N> = Opened::new(rt, alloc, maker, reporters, readers)?;
@@ -121,6 +125,7 @@ where
     ensures legal { IfOk result (IsLegalCrewLog N.belongs M.Table.total_of N.tasks N.links
         scripts.now opened.readers reads) }
     ensures closed { IfOk result IsClosed }
+    ensures shown { IfOk result (λ log. LogIsShown G.begins G.shows log.readers.items) }
 {
     let (board, reporters, mut readers, mut allocator) = opened.named::<B, R>(rt, alloc)?;
     let log = drive(

@@ -1,22 +1,21 @@
 //! What a reporter does.
-ghost use Rattle.std.specs.Prelude.{◌≡◌, ◌≤◌, ◌<◌, ◌++◌, ◌∷◌, [], length, IfSome, IfErr, OnOk, OnErr};
+ghost use Rattle.std.specs.Prelude.{◌≡◌, ◌≤◌, ◌<◌, ◌++◌, ◌∷◌, [], None, Some, length, drop, IfOk, IfErr, OnOk, OnErr};
 ghost use Rattle.std.specs.List.{All};
-ghost use mathlib.Core.List.{IsPrefix};
-ghost use Rattle.board_log.specs.Laws.{without_places};
+ghost use Rattle.board_log.specs.Laws.{StandIn, without_places};
 ghost use Rattle.board_log.specs.Roll.{IsBy};
 ghost use Rattle.board_core.specs.Core.{IsAllowed};
 ghost use Rattle.demand_book.specs.Fit.{IsFit};
 ghost use Rattle.board.specs.Refusals.{IsRefusalAt};
 ghost use Rattle.crew_actors.specs.Reporters.{IsCutShort};
 
-use board::{Ack, Bases, Board, Profile, ReportError, ReporterPass};
+use board::{Bases, Board, Left, Profile, ReportError, ReporterPass};
 use bwe_specs::{OutOfMemory, Report};
-use crew_readers::{Actor, Gate, NewestAck};
+use crew_readers::{Actor, Gate};
 use demand_book::Maker;
 use std::alloc::Global;
 use std::sync::Wait;
 
-// Reports one entry of a script.
+// Reports one entry of a script, and answers its place.
 fn report_one<M: Maker, N: Profile<M::Table>, B: Bases, G: Gate, R: Wait>(
     rt: &R,
     alloc: Global,
@@ -25,7 +24,7 @@ fn report_one<M: Maker, N: Profile<M::Table>, B: Bases, G: Gate, R: Wait>(
     call: u64,
     report: Report,
     pass: &mut ReporterPass<B>,
-) -> Result<(), ReportError>
+) -> Result<u64, ReportError>
     requires by { report.reporter ≡ pass.old.number }
     requires allowed { IsAllowed N.reporters (IsFit N.tasks N.links) report }
     ensures number { pass.new.number ≡ pass.old.number }
@@ -33,15 +32,26 @@ fn report_one<M: Maker, N: Profile<M::Table>, B: Bases, G: Gate, R: Wait>(
         ∷ []) }
     ensures kept { OnErr result (pass.new.own ≡ pass.old.own) }
     ensures refused { IfErr result (IsRefusalAt pass.new.seen 1) }
+    // The gate was told of the call, and of the place where the report then stands.
+    ensures begun { G.begins (Actor.Reporter pass.old.number) call }
+    ensures answered { IfOk result (λ first. (drop first pass.new.seen ≡ report ∷ [])
+        × G.answers (Actor.Reporter pass.old.number) call (Some first)) }
+    ensures unanswered { OnErr result (G.answers (Actor.Reporter pass.old.number) call None) }
 {
     let actor = Actor::Reporter {
         number: pass.number(),
     };
     gate.before(actor, call);
-    let placed = board.report(rt, alloc, pass, &[report]);
-    gate.after(actor, call);
-    placed?;
-    Ok(())
+    match board.report(rt, alloc, pass, &[report]) {
+        Ok(first) => {
+            gate.after(actor, call, Some(first));
+            Ok(first)
+        }
+        Err(error) => {
+            gate.after(actor, call, None);
+            Err(error)
+        }
+    }
 }
 
 // Reports each entry of a script, one after another.
@@ -67,51 +77,33 @@ fn report_script<M: Maker, N: Profile<M::Table>, B: Bases, G: Gate, R: Wait>(
     Ok(())
 }
 
-// The later of two acks, which holds both.
-#[tactic(auto, using(board_log::proofs::Prefixes::prefix_self))]
-fn later_of<B: Bases>(left: Option<Ack<B>>, ack: Ack<B>) -> Ack<B>
-    ensures new { IsPrefix ack result }
-    ensures left { IfSome left (λ before. IsPrefix before result) }
-{
-    let Some(before) = left else {
-        return ack;
-    };
-    if ack.known().begins(before.known()) {
-        return before;
-    }
-    ack
-}
-
 // Settles, and leaves the acknowledgement for the readers, where no later one was left.
 fn settle_and_leave<M: Maker, N: Profile<M::Table>, B: Bases, R: Wait>(
     rt: &R,
     alloc: Global,
     board: &Board<M, N, B>,
-    newest: &NewestAck<B>,
     pass: &mut ReporterPass<B>,
-) -> Result<(), OutOfMemory>
+) -> Result<Left<B>, OutOfMemory>
     ensures pass { pass.new ≡ pass.old }
+    ensures own { IfOk result (λ left. StandIn left pass.old.own) }
 {
     let ack = board.settle(rt, alloc, pass)?;
-    let mut left = newest.lock(rt);
-    let before = left.take();
-    *left = Some(later_of(before, ack));
-    Ok(())
+    let newest = board.newest();
+    Ok(newest.lock(rt).leave(ack))
 }
 
 /// Reports each entry of a script by a call of its own, and settles. The acknowledgement is left
-/// for the readers before the settle is answered.
+/// for the readers before the settle is answered, and each of the script's reports stands in it.
 ///
 /// A call that is refused ends it.
 pub fn report_and_settle<M: Maker, N: Profile<M::Table>, B: Bases, G: Gate, R: Wait>(
     rt: &R,
     alloc: Global,
     board: &Board<M, N, B>,
-    newest: &NewestAck<B>,
     gate: &G,
     script: &[Report],
     pass: &mut ReporterPass<B>,
-) -> Result<(), ReportError>
+) -> Result<Left<B>, ReportError>
     requires by { All (IsBy pass.old.number) script.now }
     requires allowed { All (IsAllowed N.reporters (IsFit N.tasks N.links)) script.now }
     requires fresh { pass.old.own ≡ [] }
@@ -119,6 +111,11 @@ pub fn report_and_settle<M: Maker, N: Profile<M::Table>, B: Bases, G: Gate, R: W
     ensures own { OnOk result (without_places pass.new.own ≡ script.now) }
     ensures sent { length pass.new.own ≤ length script.now }
     ensures refused { IfErr result (IsCutShort script.now pass.new) }
+    // What it left holds each of its reports, and the gate was told how many reports that holds.
+    ensures left { IfOk result (λ left. StandIn left pass.new.own) }
+    ensures begun { OnOk result (G.begins (Actor.Reporter pass.old.number) (length script.now)) }
+    ensures answered { IfOk result (λ left. G.answers (Actor.Reporter pass.old.number)
+        (length script.now) (Some (length left))) }
 {
     report_script(rt, alloc, board, gate, script, pass)?;
     let actor = Actor::Reporter {
@@ -126,8 +123,14 @@ pub fn report_and_settle<M: Maker, N: Profile<M::Table>, B: Bases, G: Gate, R: W
     };
     let call = script.len() as u64;
     gate.before(actor, call);
-    let settled = settle_and_leave(rt, alloc, board, newest, pass);
-    gate.after(actor, call);
-    settled?;
-    Ok(())
+    match settle_and_leave(rt, alloc, board, pass) {
+        Ok(left) => {
+            gate.after(actor, call, Some(left.prefix()));
+            Ok(left)
+        }
+        Err(error) => {
+            gate.after(actor, call, None);
+            Err(ReportError::from(error))
+        }
+    }
 }

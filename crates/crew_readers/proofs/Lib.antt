@@ -1,3 +1,4 @@
 pub mod Lines
 pub mod Readers
 pub mod Placing
+pub mod Showing

@@ -4,6 +4,7 @@ ghost use Rattle.std.specs.List.{All};
 ghost use Rattle.board_core.specs.Core.{IsAllowed};
 ghost use Rattle.demand_book.specs.Fit.{IsFit};
 ghost use Rattle.crew_log.specs.LegalCrewLog.{IsReaderOf};
+ghost use Rattle.crew_readers.specs.Gates.{EndsAreShown};
 ghost use Rattle.crew_readers.specs.Readers.{HaveLines, HaveEnded};
 
 use crate::actor::Gate;
@@ -36,6 +37,9 @@ pub fn end_all<T: Posted, N: Profile<T>, B: Bases, G: Gate>(
         readers.items) }
     ensures passes { IfOk result (λ readers. HaveEnded T.covers reads end.now readers.items
         passes.new) }
+    // Each log has the lines of its reader, and the gate was shown its last line as its last read.
+    ensures shown { IfOk result (λ readers. EndsAreShown G.begins G.shows reads lines.items
+        readers.items) }
     ensures count { length passes.new ≡ length passes.old }
 {
     let mut lines = lines;

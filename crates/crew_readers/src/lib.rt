@@ -13,5 +13,6 @@ mod ending;
 mod reading;
 
 pub use actor::{Actor, Gate, OpenGate};
+pub use board_pair::NewestAck;
 pub use ending::end_all;
-pub use reading::{NewestAck, read_lines, read_to_the_end};
+pub use reading::{read_lines, read_to_the_end};

@@ -1,24 +1,22 @@
 //! What a reader does.
-ghost use Rattle.std.specs.Prelude.{◌≡◌, ◌+◌, ◌-◌, ◌^◌, ◌<◌, ◌≤◌, ◌++◌, [], length, drop, min, IfOk, IfSome, OnOk};
+ghost use Rattle.std.specs.Prelude.{◌≡◌, ◌+◌, ◌-◌, ◌^◌, ◌<◌, ◌≤◌, ◌++◌, [], length, drop, min, IfOk, OnOk};
 ghost use Rattle.std.specs.List.{All};
 ghost use mathlib.Core.List.{IsPrefix};
 ghost use Rattle.board_core.specs.Core.{IsAllowed};
 ghost use Rattle.demand_book.specs.Fit.{IsFit};
 ghost use Rattle.crew_log.specs.Lines.{IsLineOf, NeverGoBack};
+ghost use Rattle.crew_readers.specs.Gates.{IsShown, AreShown};
 ghost use Rattle.crew_readers.specs.Reads.{HasRead};
 ghost use Rattle.crew_log.specs.LegalCrewLog.{IsReaderOf};
 
 use crate::actor::{Actor, Gate};
 use board_log::Bases;
-use board_pair::{Ack, FinalAck, Profile, ReaderPass, View};
+use board_pair::{FinalAck, NewestAck, Profile, ReaderPass, View};
 use bwe_specs::{OutOfMemory, Report};
 use crew_log::{ReadLine, ReaderLog};
 use demand_book::Posted;
 use std::alloc::Global;
-use std::sync::{Mutex, Wait};
-
-/// Where the reporters leave the newest acknowledgement.
-pub type NewestAck<B> = Mutex<Option<Ack<B>>>;
+use std::sync::Wait;
 
 // One read, and its line.
 fn read_line<T: Posted, N: Profile<T>, B: Bases, G: Gate>(
@@ -34,6 +32,8 @@ fn read_line<T: Posted, N: Profile<T>, B: Bases, G: Gate>(
     ensures line { IsLineOf N.belongs T.total_of pass.new.log result }
     ensures log { IsPrefix pass.old.log pass.new.log }
     ensures reads { pass.new.reads ≡ min (pass.old.reads + 1) (2 ^ 64 - 1) }
+    ensures told { pass.new.learnt ≡ pass.old.learnt }
+    ensures shown { IsShown G.begins G.shows reader call result }
 {
     let floor = pass.floor();
     gate.before(Actor::Reader { number: reader }, call);
@@ -75,6 +75,7 @@ fn read_last<T: Posted, N: Profile<T>, B: Bases, G: Gate>(
         pass.new.log) }
     ensures log { IsPrefix pass.old.log pass.new.log }
     ensures reads { pass.new.reads ≡ min (pass.old.reads + 1) (2 ^ 64 - 1) }
+    ensures shown { IfOk result (λ last. IsShown G.begins G.shows reader call last.line) }
 {
     let floor = pass.floor();
     gate.before(Actor::Reader { number: reader }, call);
@@ -116,40 +117,24 @@ fn entries_from<T: Posted, N: Profile<T>, B: Bases>(
     Ok(entries)
 }
 
-// Learns what was left, if anything was.
-fn learn_left<T: Posted, N: Profile<T>, B: Bases>(
-    alloc: Global,
-    left: &Option<Ack<B>>,
-    pass: &mut ReaderPass<T, N, B>,
-) -> Result<(), OutOfMemory>
-    ensures learnt { OnOk result (IfSome left.now (λ ack. length ack ≤ T.covers pass.new.table)) }
-    ensures log { IsPrefix pass.old.log pass.new.log }
-    ensures floor { T.covers pass.old.table ≤ T.covers pass.new.table }
-    ensures reads { pass.new.reads ≡ pass.old.reads }
-{
-    match left {
-        Some(ack) => pass.learn(alloc, ack),
-        None => Ok(()),
-    }
-}
-
-// Learns the newest acknowledgement, if there is one.
+// Learns the newest acknowledgement.
 fn learn_newest<T: Posted, N: Profile<T>, B: Bases, R: Wait>(
     rt: &R,
     alloc: Global,
     newest: &NewestAck<B>,
     pass: &mut ReaderPass<T, N, B>,
 ) -> Result<(), OutOfMemory>
+    ensures told { OnOk result (pass.new.learnt ≡ min (pass.old.learnt + 1) (2 ^ 64 - 1)) }
     ensures log { IsPrefix pass.old.log pass.new.log }
     ensures floor { T.covers pass.old.table ≤ T.covers pass.new.table }
     ensures reads { pass.new.reads ≡ pass.old.reads }
 {
     let left = newest.lock(rt);
-    learn_left(alloc, &left, pass)
+    pass.learn(alloc, left.ack())
 }
 
-/// Reads so often, and learns the newest acknowledgement before each read, if there is one. It
-/// waits for the place where that is left.
+/// Reads so often, and learns the newest acknowledgement before each read. It waits for the place
+/// where that is left.
 pub fn read_lines<T: Posted, N: Profile<T>, B: Bases, G: Gate, R: Wait>(
     rt: &R,
     alloc: Global,
@@ -160,9 +145,14 @@ pub fn read_lines<T: Posted, N: Profile<T>, B: Bases, G: Gate, R: Wait>(
     pass: &mut ReaderPass<T, N, B>,
 ) -> Result<Vec<ReadLine>, OutOfMemory>
     requires reads { pass.old.reads + reads < 2 ^ 64 }
-    ensures { IfOk result (λ lines.
+    ensures read { IfOk result (λ lines.
         HasRead T.covers N.belongs T.total_of reads pass.old lines.items pass.new) }
+    // It was told of an acknowledgement for each read, and the gate was shown each line.
+    ensures told { OnOk result (pass.new.learnt ≡ min (pass.old.learnt + reads) (2 ^ 64 - 1)) }
+    ensures shown { IfOk result (λ lines. AreShown G.begins G.shows reader lines.items) }
 {
+    // 64 bits count what the pass was told.
+    let _ = pass.learnt();
     let mut lines = Vec::new(alloc);
     for call in 0..reads {
         learn_newest(rt, alloc, newest, pass)?;
@@ -192,6 +182,9 @@ pub fn read_to_the_end<T: Posted, N: Profile<T>, B: Bases, G: Gate>(
     ensures closed { IfOk result (λ reader. reader.length ≡ length end.now) }
     ensures floor { IfOk result (λ reader. T.covers pass.new.table ≡ reader.last.prefix) }
     ensures reads { OnOk result (pass.new.reads ≡ min (pass.old.reads + 1) (2 ^ 64 - 1)) }
+    ensures kept { IfOk result (λ reader. reader.reads ≡ reads) }
+    ensures shown { IfOk result (λ ended. IsShown G.begins G.shows reader (length reads.items)
+        ended.last) }
 {
     pass.learn(alloc, end.ack())?;
     let call = reads.len() as u64;

@@ -18,18 +18,17 @@
 //! Some bodies meet every clause and are wrong. Each was tried by hand, and a test refuses it:
 //! - a `read` that enters no published copy and shows what the last `learn` brought:
 //!   `a_told_reader_and_an_untold_one_see_the_report`, by its second reader;
-//! - a `read` that stops entering one after three reads, a `round` that posts nothing and answers
-//!   what is posted, and news laid from the log's beginning again, which no copy can follow:
-//!   `an_untold_reader_sees_the_table_of_each_round`;
+//! - a `read` that stops entering one after three reads, and a `round` that posts nothing and answers
+//!   what is posted: `an_untold_reader_sees_the_table_of_each_round`;
 //! - a `settle` that posts nothing, and any call that always answers want of memory: the test of
 //!   the told reader, which makes each call;
 //! - a solve under the log lock: `a_report_is_answered_while_a_table_is_made`, whose turns run out;
-//! - a reporter that keeps its acknowledgement, a reader that learns none before a read, and a
-//!   settle that is not made, whose reader is told nothing then:
-//!   `a_held_reader_is_told_what_was_settled`;
-//! - a reporter that leaves its acknowledgement only where none was left, and a reader that learns
-//!   none after its second read: `a_reader_is_told_of_the_later_settle`;
-//! - a call that the gate is not told of: the calls that the same test counts.
+//! - a report or a round that the gate is not told of: the calls that
+//!   `a_held_reader_is_told_what_was_settled` counts.
+//!
+//! No clause has the order of a reader's looks and reads. By the floors of their expected lines that
+//! test, and with two readers and two reporters `both_readers_are_told_of_the_later_settle`, have
+//! each look before its read.
 //!
 //! A helper answers whether all went as it has to, or compares for itself: the fewer values that
 //! own memory are alive where a function can be left, the cheaper is its proof.

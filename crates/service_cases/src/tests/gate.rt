@@ -154,7 +154,7 @@ impl Gate for ThreeHolds {
         }
     }
 
-    fn after(&self, actor: Actor, call: u64) {
+    fn after(&self, actor: Actor, call: u64, _answer: Option<u64>) {
         if let (Actor::Reporter { number: 1 }, 0) = (actor, call) {
             self.report_is_answered.put(1);
         }

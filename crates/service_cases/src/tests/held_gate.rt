@@ -104,7 +104,7 @@ impl Gate for ToldGate {
         }
     }
 
-    fn after(&self, actor: Actor, _call: u64) {
+    fn after(&self, actor: Actor, _call: u64, _answer: Option<u64>) {
         count(&self.calls_of(actor).answered);
     }
 
@@ -121,16 +121,17 @@ impl Gate for ToldGate {
     }
 }
 
-/// A gate for two reporters of one report each, and one reader.
+/// A gate for two reporters of one report each, and two readers.
 ///
-/// Each reporter's report, call 0, waits for a read: that of reporter 0 until the first was shown,
-/// that of reporter 1 until the second was. Behind each of the two the reader is held until that
-/// reporter's settle, call 1, was answered.
+/// Each reporter's report, call 0, waits for a read of both readers: that of reporter 0 until the
+/// first reads were shown, that of reporter 1 until the second ones were. Behind each of the two
+/// both readers are held until that reporter's settle, call 1, was answered.
 #[derive(Drop)]
 pub struct TurnsGate {
     first: AtomicU64,
     second: AtomicU64,
     reader: AtomicU64,
+    other_reader: AtomicU64,
     missed: AtomicU64,
 }
 
@@ -140,6 +141,7 @@ impl TurnsGate {
             first: AtomicU64::new(0),
             second: AtomicU64::new(0),
             reader: AtomicU64::new(0),
+            other_reader: AtomicU64::new(0),
             missed: AtomicU64::new(0),
         }
     }
@@ -153,15 +155,13 @@ impl TurnsGate {
 impl Gate for TurnsGate {
     fn before(&self, actor: Actor, call: u64) {
         if let (Actor::Reporter { number }, 0) = (actor, call) {
-            hold(
-                &self.reader,
-                u64::from(number).saturating_add(1),
-                &self.missed,
-            );
+            let reads = u64::from(number).saturating_add(1);
+            hold(&self.reader, reads, &self.missed);
+            hold(&self.other_reader, reads, &self.missed);
         }
     }
 
-    fn after(&self, actor: Actor, _call: u64) {
+    fn after(&self, actor: Actor, _call: u64, _answer: Option<u64>) {
         match actor {
             Actor::Reporter { number: 0 } => count(&self.first),
             Actor::Reporter { .. } => count(&self.second),
@@ -171,11 +171,14 @@ impl Gate for TurnsGate {
 
     fn shown<T: Posted, N: Profile<T>, B: Bases>(
         &self,
-        _reader: u32,
+        reader: u32,
         call: u64,
         _view: &View<'_, T, N, B>,
     ) {
-        count(&self.reader);
+        match reader {
+            0 => count(&self.reader),
+            _ => count(&self.other_reader),
+        }
         match call {
             0 => hold(&self.first, 2, &self.missed),
             1 => hold(&self.second, 2, &self.missed),

@@ -1,7 +1,7 @@
 //! The log and its roll.
 ghost use Rattle.std.specs.Prelude.{◌≡◌};
 
-use board_log::{Bases, OpenedLog, OpenedRoll, Roll, WholeLog};
+use board_log::{Bases, DeskRight, OpenedLog, OpenedRoll, Roll, WholeLog};
 use bwe_specs::{Report, Target};
 use std::alloc::Global;
 use std::marker::Brand;
@@ -16,7 +16,7 @@ fn of_two_beginnings_one_begins_the_other(rt: HostRuntime) -> Result<(), Fail> {
 fn compared<B: Bases, R: Abort>(rt: &R, alloc: Global, opened: OpenedLog) -> Result<(), Fail>
     requires name { opened.seen.book ≡ B.book }
 {
-    let mut log: WholeLog<B> = opened.named();
+    let (mut log, _right): (WholeLog<B>, DeskRight<B>) = opened.named();
     let none = log.first(0);
     let piece = vec![in alloc; report_by(0), report_by(1)]?;
     assert!(rt; log.append(&piece).is_ok());

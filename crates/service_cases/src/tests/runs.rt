@@ -71,11 +71,11 @@ fn is_told(log: &CrewLog<SmallTable>) -> bool {
     (log.readers.len(), log.history.len()) == (1, 2)
 }
 
-// Two reporters of a demand each, and one reader of three reads, in turns: the second reporter
-// begins once the reader was shown what the first one had settled. So the third line has the floor
-// of the later acknowledgement.
+// Two reporters of a demand each, and two readers of three reads, in turns: the second reporter
+// begins once both readers were shown what the first one had settled. So each third line has the
+// floor of the later acknowledgement.
 #[test]
-fn a_reader_is_told_of_the_later_settle(rt: HostRuntime) -> Result<(), Fail> {
+fn both_readers_are_told_of_the_later_settle(rt: HostRuntime) -> Result<(), Fail> {
     let alloc = rt.alloc();
     let scripts = [
         vec![in alloc; demand_by(0, 80)]?,
@@ -83,13 +83,13 @@ fn a_reader_is_told_of_the_later_settle(rt: HostRuntime) -> Result<(), Fail> {
     ];
     for _ in 0..RUNS {
         let gate = TurnsGate::new();
-        let log = run_crew(&rt, alloc, SmallMaker::new(2, 1), &scripts, 1, 3, &gate)?;
+        let log = run_crew(&rt, alloc, SmallMaker::new(2, 1), &scripts, 2, 3, &gate)?;
         assert!(rt; gate.missed() == 0 && is_told_in_turns(&log));
     }
     Ok(())
 }
 
-// Whether the one reader was shown nothing, then the first demand, then both.
+// Whether each of the two readers was shown nothing, then the first demand, then both.
 fn is_told_in_turns(log: &CrewLog<SmallTable>) -> bool {
     for reader in &log.readers {
         let lines = [line_of(0, 0), line_of(1, 80), line_of(2, 120)];
@@ -97,7 +97,7 @@ fn is_told_in_turns(log: &CrewLog<SmallTable>) -> bool {
             return false;
         }
     }
-    log.readers.len() == 1
+    log.readers.len() == 2
 }
 
 // The line of a read that showed what its reader had been told of.

@@ -52,6 +52,10 @@ pub fn tell<N: Profile<SmallTable>, B: Bases, R: Wait + Abort>(
         (one.reads(), one.floor(), board.round(rt, alloc, allocator)),
         (2, 1, Ok(1))
     );
+    assert_eq!(rt;
+        (one.fresh(), one.learnt(), other.fresh(), other.learnt()),
+        (2, 1, 2, 0)
+    );
 }
 
 // How many reports the acknowledgement of a settle holds, and whether the pass and the reader learn

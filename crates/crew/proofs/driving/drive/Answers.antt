@@ -11,6 +11,9 @@ use Rattle.board.specs.declared.refusal.ReportError.{ReportError}
 use Rattle.board.specs.declared.refusal.ReportError.TheVariants.{OutOfMemory}
 use Rattle.crew.specs.Reporters.{AreReady, HaveReported, sent_by}
 use Rattle.crew.proofs.Legal.{all_ready, in_order, never_full, is_legal}
+use Rattle.board_core.specs.Core.{IsAllowed}
+use Rattle.demand_book.specs.Fit.{IsFit}
+use Rattle.crew.proofs.Showing.{log_shown}
 use Rattle.crew.proofs.driving.drive.Goals as goal
 
 pub run_actors-requires-clause-ready : goal.run_actors-requires-clause-ready
@@ -65,3 +68,12 @@ returns-clause-legal g c =
 pub returns-clause-closed : goal.returns-clause-closed
 returns-clause-closed g c =
     subst (λ (history : List Report). All (λ (reader : ReaderLog). reader.length ≡ length history) c.in_ok-readers.readers.items) (sym c.in-Ok.ensures.history) c.in_ok-readers.ensures.closed
+
+pub returns-clause-shown : goal.returns-clause-shown
+returns-clause-shown g c =
+    let history = c.in-Ok.ended.ack in
+    let count : length c.in_ok-answers.answers.read.items ≡ length c.in_ok-readers.readers.items =
+    omega (arith, c.in_ok-answers.ensures.read.count, c.in_ok-readers.ensures.passes.count, c.end_all.ensures.count) in
+    log_shown g.N.Profile.belongs g.M.Table.Posted.total_of (IsAllowed g.N.Profile.reporters (IsFit g.N.Profile.tasks g.N.Profile.links)) history
+    g.G.Gate.begins g.G.Gate.shows c.args.reads c.in_ok-answers.answers.read.items c.in_ok-readers.readers.items
+    count c.in_ok-readers.ensures.readers c.in_ok-answers.ensures.shown c.in_ok-readers.ensures.shown

@@ -3,6 +3,8 @@ use Rattle.std.proofs.lemmas.Result.{IfOk-at_ok}
 use Rattle.board.specs.Reporting.{Reporting}
 use Rattle.crew.specs.Reporters.{IsReady}
 use Rattle.crew.proofs.Answering.{reported_at, lines_at, made_at}
+use Rattle.crew.proofs.Legal.{some_of}
+use Rattle.crew.proofs.Showing.{left_of, right_of, shown_at}
 use Rattle.crew.proofs.driving.run_actors.Goals as goal
 
 pub all_at_once-reported-requires-clause-first : goal.all_at_once-reported-requires-clause-first
@@ -34,8 +36,16 @@ returns-clause-read g c =
       each = λ number read pass lt.
           let one = calls.each number pass read pass (omega (arith, lt, calls.count)) in
           lines_at g.M.Table.Posted.covers g.N.Profile.belongs g.M.Table.Posted.total_of c.args.reads (get_or c.in_ok-read.read.items number read)
-          one.after_call.now (get_or c.all_at_once-reported.new.others number pass) one.left one.call;
+          one.after_call.now (get_or c.all_at_once-reported.new.others number pass) one.left (left_of _ _ (get_or c.in_ok-read.read.items number read) one.call);
     }
+
+pub returns-clause-shown : goal.returns-clause-shown
+returns-clause-shown g c =
+    let calls = IfOk-at_ok _ c.in_ok-read.was c.all_at_once-reported.ensures.second in
+    λ number read lt.
+    let pass = some_of c.args.readers.now number (omega (arith, lt, calls.answered)) in
+    let one = calls.each number pass read pass (omega (arith, lt, calls.answered)) in
+    shown_at g.G.Gate.begins g.G.Gate.shows number (get_or c.in_ok-read.read.items number read) (right_of _ _ (get_or c.in_ok-read.read.items number read) one.call)
 
 pub returns-clause-rounds : goal.returns-clause-rounds
 returns-clause-rounds g c =

@@ -2,7 +2,7 @@ use Rattle.std.proofs.Common.{◌≡◌, ℕ, ◌+◌, ◌<◌, ◌++◌, ◌∷
 use Rattle.std.specs.Prelude.{IfOk}
 use Rattle.std.specs.List.{All}
 use Rattle.std.specs.declared.alloc.Global.{Global}
-use Rattle.std.proofs.lemmas.List.{length-set, length_push}
+use Rattle.std.proofs.lemmas.List.{length-set, length_push, get_or_default}
 use Rattle.std.proofs.lemmas.List.Elements.{All-push}
 use Rattle.bwe_specs.specs.declared.memory.OutOfMemory.{OutOfMemory}
 use Rattle.board_pair.specs.Reading.{Reading}
@@ -12,6 +12,8 @@ use Rattle.crew_log.specs.declared.log.ReadLine.{ReadLine}
 use Rattle.crew_log.specs.declared.log.ReaderLog.{ReaderLog}
 use Rattle.crew_log.specs.LegalCrewLog.{IsReaderOf}
 use Rattle.crew_readers.specs.Readers.{HasLines, HasEnded}
+use Rattle.crew_readers.specs.Gates.{IsShown, EndsAreShown}
+use Rattle.crew_readers.proofs.Showing.{ends_more}
 use Rattle.crew_readers.proofs.Placing.{pairs_more, left_beyond}
 use Rattle.crew_readers.proofs.ending.end_all.Goals as goal
 
@@ -90,6 +92,10 @@ loop-number-preserved g c =
     let IsOf : ℕ → ReaderLog → Type 0 = λ reads. IsReaderOf g.N.Profile.belongs g.T.Posted.total_of (IsAllowed g.N.Profile.reporters (IsFit g.N.Profile.tasks g.N.Profile.links)) reads c.args.end.now in
     let IsWhole : ReaderLog → Type 0 = λ ended. ended.length ≡ length c.args.end.now in
     let is : IsOf c.args.reads reader = subst (λ (reads : ℕ). IsOf reads reader) has.count says.reader in
+    let own : (other : Result (Vec ReadLine Global) OutOfMemory) → get_or c.args.lines.items n other ≡ Ok reader.reads =
+    λ other. get_or_default c.args.lines.items n other taken (omega (arith, c.requires.lines.count)) ∙ got ∙ ap Ok (sym says.kept) in
+    let shown : IsShown g.G.Gate.begins g.G.Gate.shows n c.args.reads reader.last =
+    subst (λ (call : ℕ). IsShown g.G.Gate.begins g.G.Gate.shows n call reader.last) has.count says.shown in
     let last : Ends reader after = record { log = says.log; floor = says.floor; reads_so = omega (arith, says.reads, has.reads_so, c.requires.few_reads) } in
     record {
       lines_count = length-set lines n c.replace.new.dest ∙ kept.lines_count;
@@ -99,6 +105,8 @@ loop-number-preserved g c =
       passes_left = left_beyond passes c.args.passes.now n after kept.passes_left;
       readers = subst (All (IsOf c.args.reads)) (sym items) (All-push (IsOf c.args.reads) readers reader kept.readers is);
       closed = subst (All IsWhole) (sym items) (All-push IsWhole readers reader kept.closed says.closed);
+      shown = subst (EndsAreShown g.G.Gate.begins g.G.Gate.shows c.args.reads c.args.lines.items) (sym items)
+          (ends_more g.G.Gate.begins g.G.Gate.shows c.args.reads n c.args.lines.items readers reader kept.readers_count own shown kept.shown);
       ended = subst (λ (xs : List ReaderLog). (place : ℕ) (a : ReaderLog) (b : Reading g.row.T.Denot) → place < n + 1 → Ends (get_or xs place a) (get_or (set passes n after) place b)) (sym items)
           (pairs_more Ends readers passes n reader after kept.readers_count within kept.ended last);
     }

@@ -7,6 +7,8 @@ use Rattle.crew_log.specs.declared.log.ReadLine.{ReadLine}
 use Rattle.crew_log.specs.Lines.{IsLineOf, NeverGoBack}
 use Rattle.crew_readers.proofs.Lines.{all_longer, line_more}
 use Rattle.board_log.proofs.Prefixes.{prefix_trans}
+use Rattle.crew_readers.specs.Gates.{AreShown}
+use Rattle.crew_readers.proofs.Showing.{shown_more}
 use Rattle.crew_readers.proofs.reading.read_lines.Goals as goal
 
 pub loop-call-preserved : goal.loop-call-preserved
@@ -31,5 +33,7 @@ loop-call-preserved g c =
       count = ap (λ (xs : List ReadLine). length xs) (sym items) ∙ length_push lines line ∙ ap (λ (n : ℕ). n + 1) kept.count;
       lines = subst (All P) items more;
       never_back = subst (λ (xs : List ReadLine). NeverGoBack (covers c.args.pass.now.table) xs (covers now.table)) items rises;
+      told = omega (arith, c.read_line.ensures.told, c.in_ok-learn_newest.ensures.told, kept.told);
+      shown = subst (AreShown g.G.Gate.begins g.G.Gate.shows c.args.reader) items (shown_more g.G.Gate.begins g.G.Gate.shows c.args.reader c.loop-call.call lines line kept.count kept.shown c.read_line.ensures.shown);
       reads = omega (arith, c.read_line.ensures.reads, c.learn_newest.ensures.reads, kept.reads, c.requires.reads, c.loop-call-test.true);
     }

@@ -1,9 +1,10 @@
-use Rattle.std.proofs.Common.{◌≡◌, ◌++◌, List, length, drop, sym, ◌∙◌, ap, subst, arith}
+use Rattle.std.proofs.Common.{◌≡◌, ◌++◌, ℕ, refl, List, length, drop, sym, ◌∙◌, ap, subst, arith}
 use mathlib.Core.List.{IsPrefix}
 use Rattle.board_core.specs.Core.{IsAllowed}
 use Rattle.demand_book.specs.Fit.{IsFit}
 use Rattle.bwe_specs.specs.declared.report.Report.{Report}
 use Rattle.crew_log.specs.declared.log.ReaderLog.{ReaderLog}
+use Rattle.crew_readers.specs.Gates.{IsShown}
 use Rattle.crew_readers.proofs.Lines.{prefix_both}
 use Rattle.crew_readers.proofs.Readers.{is_reader, beyond_of}
 use Rattle.crew_readers.proofs.reading.read_to_the_end.Goals as goal
@@ -29,4 +30,6 @@ returns g c =
       closed = says.length ∙ prefix_both history log begins says.within;
       floor = sym says.prefix;
       reads = omega (arith, says.reads, c.learn.ensures.reads);
+      kept = refl;
+      shown = subst (λ (call : ℕ). IsShown g.G.Gate.begins g.G.Gate.shows c.args.reader call read.line) (omega (arith, c.len-call.ensures, c.args.reads.ok.0)) says.shown;
     }
