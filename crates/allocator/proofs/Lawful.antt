@@ -18,10 +18,11 @@ use Rattle.table_laws.proofs.Asked.{no-more-than-asked}
 use Rattle.table_laws.proofs.Shared.{shared-alike}
 use Rattle.table_laws.proofs.Walks.{numbered}
 use Rattle.table_laws.proofs.Wasted.{without-waste}
+use Rattle.max_min.proofs.MaxMin.{max-min}
 use Rattle.allocator.specs.FrameLaws.{length-cluster_limits}
 use Rattle.allocator.specs.Reported.{Reported}
 use Rattle.allocator.specs.Allocators.{IsFitted, plan_by, table_by}
-use Rattle.allocator.specs.Laws.{IsNoMoreThanAsked, IsConserved, IsShared, IsFeasible, IsHeldBack, IsUnwasted, amount_in}
+use Rattle.allocator.specs.Laws.{IsNoMoreThanAsked, IsConserved, IsShared, IsFeasible, IsHeldBack, IsUnwasted, IsFair, amount_in}
 use Rattle.allocator.specs.Tables.{wan_by}
 use Rattle.allocator.proofs.Filled.{amount-at_most, amounts-of_lines}
 use Rattle.allocator.proofs.Made.{never, bound}
@@ -86,3 +87,6 @@ module _ (reported : Reported) (groups : List PathGroups) (fitted : IsFitted rep
   table-unwasted =
       let closings : reverse (table_by reported groups).closings ≡ (filling wan).closings = reverse-reverse (filling wan).closings in
       rw (closings) (without-waste wan (never reported groups fitted values) values.starts)
+
+  pub table-fair : IsFair wan (table_by reported groups)
+  table-fair each = max-min wan (never reported groups fitted values) values.starts each

@@ -1,4 +1,5 @@
 pub mod First
+pub mod FirstOfLinks
 pub mod After
 pub mod Rows
 pub mod Filled

@@ -11,6 +11,7 @@ use Rattle.table_laws.specs.Tasks.{AreAskedFor}
 use Rattle.table_laws.specs.Tables.{IsSharedAlike, IsWithoutWaste}
 use Rattle.table_laws.specs.Order.{IsInAnyOrder}
 use Rattle.table_laws.specs.Printing.{IsToldByItsText}
+use Rattle.max_min.specs.MaxMin.{HasOnePathGroupEach, IsMaxMin}
 use Rattle.allocator.specs.Reported.{Reported}
 use Rattle.allocator.specs.Allocators.{plan_by}
 
@@ -52,6 +53,11 @@ IsShared wan table = IsSharedAlike wan table.groups (reverse table.closings)
 -- grew over it would have put there with the next whole share
 abbrev pub IsUnwasted : Wan → Table → Type 0
 IsUnwasted wan table = IsWithoutWaste wan table.groups table.loads (reverse table.closings)
+
+-- Max-min law: where each group has one path group, whoever has a higher share in another assignment
+-- has it at the cost of another group over the link that stopped it, which has no more there
+abbrev pub IsFair : Wan → Table → Type 0
+IsFair wan table = HasOnePathGroupEach wan.groups → IsMaxMin wan table.groups
 
 -- Nobody's place matters: the table of every plan that has the groups in another order, with their
 -- tasks, is this one in that order

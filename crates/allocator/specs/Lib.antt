@@ -1,4 +1,5 @@
 pub mod Lines
+pub mod FirstOfLinks
 pub mod Reported
 pub mod Values
 pub mod Frames

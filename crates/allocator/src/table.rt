@@ -1,13 +1,13 @@
 //! A table of what now stands.
 
-ghost use Rattle.std.specs.Prelude.{◌≡◌, ℕ, ◌<◌, ◌≤◌, length, map, flat_map, zip, slice_index, IfOk};
+ghost use Rattle.std.specs.Prelude.{◌≡◌, ℕ, ◌+◌, ◌*◌, ◌<◌, ◌≤◌, length, map, flat_map, zip, slice_index, IfOk};
 ghost use Rattle.bwe_specs.specs.Reports.{numbers};
 ghost use Rattle.bwe_specs.specs.Tree.{cluster_limits};
-ghost use Rattle.bwe_specs.specs.Values.{AreValues};
-ghost use Rattle.policy_tree.specs.Trees.{demand_in, value_in, IsTree};
+ghost use Rattle.policy_tree.specs.Trees.{demand_in, value_in};
 ghost use Rattle.mpfa_fill.specs.Filling.{IsFilling};
+ghost use Rattle.link_front.specs.Moves.{links_over_all};
 ghost use Rattle.allocator.specs.Allocators.{IsFitted, table_by};
-ghost use Rattle.allocator.specs.Laws.{IsNoMoreThanAsked, IsConserved, IsShared, IsFeasible, IsHeldBack, IsTold, IsUnwasted, IsTheSameInAnyOrder};
+ghost use Rattle.allocator.specs.Laws.{IsNoMoreThanAsked, IsConserved, IsShared, IsFeasible, IsHeldBack, IsTold, IsUnwasted, IsFair, IsTheSameInAnyOrder};
 ghost use Rattle.allocator.specs.Tables.{wan_by};
 
 use crate::line::group_lines;
@@ -16,15 +16,18 @@ use crate::reported::Reported;
 use crate::values::TreeValues;
 use bwe_specs::OutOfMemory;
 use limit_table::{GroupLine, LimitTable};
-use link_solver::solve_by_links;
+use link_solver::solve_by_looks;
+use mono_search::Steps;
 use mpfa_fill::Filling;
 use path_groups::PathPlan;
 use policy_tree::PolicyTree;
 use push_down::all_limits;
 use std::alloc::Global;
+use std::marker::Brand;
+use std::sync::ledger::{Blank, Ledger};
 
 /// The table under the demands and capacities that now stand: the allocation ("Allocation",
-/// docs/DEFINITIONS.md), for which eight laws hold ("Laws" and "Laws of a table" there).
+/// docs/DEFINITIONS.md), for which nine laws hold ("Laws" and "Laws of a table" there).
 pub fn make_table(
     alloc: Global,
     reported: &Reported,
@@ -55,6 +58,10 @@ pub fn make_table(
     // one share more
     ensures unwasted { IfOk result (IsUnwasted (wan_by reported.now plan.now)) }
 
+    // Max-min law: where each group has one path group, whoever has a higher share in another
+    // assignment has it at the cost of another group over the link that stopped it here
+    ensures fair { IfOk result (IsFair (wan_by reported.now plan.now)) }
+
     // Nobody's place matters: the table of the plan with its groups in another order is this one in
     // that order
     ensures in_any_order { IfOk result (IsTheSameInAnyOrder reported.now plan.now) }
@@ -64,7 +71,43 @@ pub fn make_table(
     ensures told { IfOk result (IsTold reported.now) }
 {
     reported.what_holds();
-    let filling = filling_of(alloc, reported, plan)?;
+    let _tree = reported.tree();
+    counted_table::<Brand>(alloc, reported, plan, Blank::new(1))
+}
+
+// The same on a counter of its own.
+fn counted_table<L: Ledger>(
+    alloc: Global,
+    reported: &Reported,
+    plan: &PathPlan,
+    blank: Blank,
+) -> Result<LimitTable, OutOfMemory>
+    requires fitted { IsFitted reported.now plan.now }
+    requires name { blank.name ≡ L.name }
+    requires parts { blank.parts ≡ L.parts }
+    requires some { 0 < L.parts }
+    ensures { IfOk result (λ table. table ≡ table_by reported.now plan.now) }
+{
+    let mut steps: Steps<L> = Steps::new(blank);
+    make_table_by_looks(alloc, reported, plan, &mut steps)
+}
+
+/// The same table, with each look at a link counted: a look asks for the load of one link at one
+/// share (`solve_by_looks` of `link_solver`).
+pub fn make_table_by_looks<L: Ledger>(
+    alloc: Global,
+    reported: &Reported,
+    plan: &PathPlan,
+    steps: &mut Steps<L>,
+) -> Result<LimitTable, OutOfMemory>
+    requires { IsFitted reported.now plan.now }
+    ensures table { IfOk result (λ table. table ≡ table_by reported.now plan.now) }
+
+    // Also where memory is wanting.
+    ensures looks { let links = length reported.now.network.capacities in
+        steps.new ≤ steps.old + 31 * (links + 2 * links_over_all links plan.now) }
+{
+    let filling = filling_of(alloc, reported, plan, steps)?;
     table_of_filling(alloc, reported, plan, filling)
 }
 
@@ -93,17 +136,21 @@ fn table_of_filling(
 }
 
 // The filling under what now stands.
-fn filling_of(alloc: Global, reported: &Reported, plan: &PathPlan) -> Result<Filling, OutOfMemory>
+fn filling_of<L: Ledger>(
+    alloc: Global,
+    reported: &Reported,
+    plan: &PathPlan,
+    steps: &mut Steps<L>,
+) -> Result<Filling, OutOfMemory>
     requires { IsFitted reported.now plan.now }
-    ensures tree { IsTree reported.now.tree }
-    ensures values { AreValues (length reported.now.tree.clusters) reported.now.tree.top
-        (value_in reported.now.tree) }
     ensures filling { IfOk result (IsFilling (wan_by reported.now plan.now)) }
+    ensures looks { let links = length reported.now.network.capacities in
+        steps.new ≤ steps.old + 31 * (links + 2 * links_over_all links plan.now) }
 {
     let values = TreeValues {
         tree: reported.tree(),
     };
-    solve_by_links(alloc, &values, reported.topology(), plan)
+    solve_by_looks(alloc, &values, reported.topology(), plan, steps)
 }
 
 /// Each task's limit, where the groups have the amounts of these lines. All are kilobits per

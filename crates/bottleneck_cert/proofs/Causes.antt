@@ -1,17 +1,19 @@
 -- Each cause that the code finds is that of the definitions.
-use Rattle.std.proofs.Common.{◌≡◌, ◌↔◌, ℕ, suc, ◌+◌, ◌<◌, ◌≤◌, Bool, true, false, List, ◌∷◌, length, reverse, drop, Option, Some, None, refl, sym, ◌∙◌, ap, nat_eq, nat_lt, nat_le, ◌==◌, drop-cons, drop_of_length-le, add-one, slice_index_or}
+use Rattle.std.proofs.Common.{◌≡◌, ◌↔◌, ℕ, suc, ◌+◌, ◌<◌, ◌≤◌, Bool, true, false, List, [], ◌∷◌, append-nil, subst, length, reverse, drop, Some, None, sym, ◌∙◌, ap, ap₂, nat_eq, nat_lt, nat_le, ◌==◌, drop-cons, drop_of_length-le, add-one, slice_index_or}
 use Rattle.bwe_specs.specs.declared.network.Closing.{Closing}
 use Rattle.bwe_specs.specs.declared.network.Cause.{Cause}
 use Rattle.bwe_specs.specs.declared.network.Cause.TheVariants.{NoSuchLink, Reclosed, ShareFalls, ShareAtTop, OverBefore}
 use Rattle.bwe_specs.specs.declared.network.Verdict.{Verdict}
 use Rattle.bwe_specs.specs.declared.network.Verdict.TheVariants.{Right, Wrong}
 use Rattle.std.specs.List.{list_any}
+use Rattle.bwe_specs.specs.Paths.{is_over, lowest_over}
 use Rattle.bwe_specs.specs.Filling.{Wan, closed_links, filling}
-use Rattle.bwe_specs.specs.RightClosings.{last_share, over_at, cause_after, share_cause, next_cause, top_verdict, verdict_or, verdict_after, verdict}
+use Rattle.bwe_specs.specs.RightClosings.{last_share, amounts_at, over_at, cause_after, share_cause, next_cause, top_verdict, verdict_or, verdict_after, verdict, AreRightToTop}
 use Rattle.bwe_specs.specs.Values.{NeverFalls}
-use Rattle.bwe_specs.proofs.Verdicts.{verdict-right_iff}
-use Rattle.path_groups.proofs.Paths.{any_map}
+use Rattle.bwe_specs.proofs.Verdicts.{verdict-right_iff, right-verdict, verdict-right}
+use Rattle.bwe_specs.proofs.Bounds.{none-lowest, some-lowest}
 use Rattle.mpfa_fill.specs.LastFit.{is_over_at}
+use Rattle.path_groups.proofs.Paths.{any_map}
 use Rattle.mpfa_fill.proofs.Places.{any-reverse}
 
 -- a link was closed where one of the closings names it, in whatever order they stand
@@ -21,14 +23,12 @@ closed-found items earlier link found order is =
     ap (λ cs. list_any (nat_eq link) (closed_links cs)) (sym order)
     ∙ any_map (nat_eq link) (λ closing. closing.link) (reverse items) ∙ any-reverse (λ closing. nat_eq link closing.link) items ∙ sym is
 
--- where a link is over at the share itself, that is the cause, and else the next share decides
-pub share-over : (over : Option ℕ) (link : ℕ) (next : Option Cause) → over ≡ Some link → Some (OverBefore link) ≡ share_cause over next
-unfolding share_cause
-share-over over link next e = rw e refl
-
-pub share-fits : (over : Option ℕ) (next : Option Cause) → over ≡ None → next ≡ share_cause over next
-unfolding share_cause
-share-fits over next e = rw e refl
+-- whether a link is over, at equal moments
+pub named-along : (wan wan' : Wan) (closings closings' : List Closing) (share share' link : ℕ) → wan ≡ wan' → closings ≡ closings' → share ≡ share'
+    → is_over wan.groups wan.capacities (amounts_at wan closings share) link ≡ is_over wan'.groups wan'.capacities (amounts_at wan' closings' share') link
+named-along wan wan' closings closings' share share' link e f h =
+    ap (λ (w : Wan). is_over w.groups w.capacities (amounts_at w closings share) link) e
+    ∙ ap₂ (λ cs s. is_over wan'.groups wan'.capacities (amounts_at wan' cs s) link) f h
 
 -- what is the verdict is Right exactly where the closings are the filling's
 pub right-said : (wan : Wan) → NeverFalls wan → (closings : List Closing) (said : Verdict) → said ≡ verdict wan closings
@@ -55,12 +55,14 @@ module _ (wan : Wan) (earlier : List Closing) (c : Closing) where
     unfolding cause_after
     cause-at_top keeps at_top = rw (link, open_link, keeps, at_top)
 
-    pub cause-share : nat_lt c.share (last_share earlier) ≡ false → nat_le wan.top c.share ≡ false
-        → share_cause (over_at wan earlier c.share) (next_cause c.link (is_over_at wan earlier (c.share + 1) c.link) (over_at wan earlier (c.share + 1))) ≡ cause_after wan earlier c
-    unfolding cause_after
-    cause-share keeps below =
-        ap (λ share. share_cause (over_at wan earlier c.share) (next_cause c.link (is_over_at wan earlier share c.link) (over_at wan earlier share))) (add-one c.share)
-        ∙ rw (link, open_link, keeps, below) refl
+    pub cause-over_before : (over : ℕ) → nat_lt c.share (last_share earlier) ≡ false → nat_le wan.top c.share ≡ false → over_at wan earlier c.share ≡ Some over → Some (OverBefore over) ≡ cause_after wan earlier c
+    unfolding cause_after share_cause
+    cause-over_before over keeps below before = rw (link, open_link, keeps, below, before)
+
+    pub cause-next : nat_lt c.share (last_share earlier) ≡ false → nat_le wan.top c.share ≡ false → over_at wan earlier c.share ≡ None
+        → next_cause c.link (is_over wan.groups wan.capacities (amounts_at wan earlier (suc c.share)) c.link) (over_at wan earlier (suc c.share)) ≡ cause_after wan earlier c
+    unfolding cause_after share_cause
+    cause-next keeps below fits = rw (link, open_link, keeps, below, fits)
 
 module _ (wan : Wan) (earlier closings : List Closing) (place : ℕ) (d : Closing) where
   -- a cause at this closing is the verdict on the rest
@@ -84,3 +86,22 @@ module _ (wan : Wan) (earlier closings : List Closing) (place : ℕ) (d : Closin
   pub verdict-end : length closings ≤ place → top_verdict (over_at wan earlier wan.top) place ≡ verdict_after wan earlier (drop place closings) place
   unfolding verdict_after
   verdict-end le = ap (λ rest. verdict_after wan earlier rest place) (sym (drop_of_length-le closings le))
+
+-- closings that are right to the top have the verdict Right
+pub right-is : (wan : Wan) (closings : List Closing) → AreRightToTop wan (reverse closings) → Right ≡ verdict wan closings
+right-is wan closings right = sym (right-verdict wan [] closings 0 (subst (AreRightToTop wan) (sym (append-nil (reverse closings))) right))
+
+-- and others have not
+pub not-right : (wan : Wan) (closings : List Closing) (said : Verdict) → said ≡ verdict wan closings → (AreRightToTop wan (reverse closings) → ⊥) → said ≡ Right → ⊥
+not-right wan closings said is wrong right =
+    wrong (subst (AreRightToTop wan) (append-nil (reverse closings)) (verdict-right wan [] closings 0 tt (sym is ∙ right)))
+
+-- the lowest link that is over at a share, and where none is
+pub lowest-at : (wan : Wan) (closings : List Closing) (share link : ℕ) → link < length wan.capacities → is_over_at wan closings share link ≡ true → ((k : ℕ) → k < link → is_over_at wan closings share k ≡ false) → over_at wan closings share ≡ Some link
+unfolding lowest_over
+lowest-at wan closings share link lt over lower =
+    some-lowest (length wan.capacities) (is_over wan.groups wan.capacities (amounts_at wan closings share)) link (record { below = lt; passes = over; none_lower = lower })
+
+pub none-at : (wan : Wan) (closings : List Closing) (share : ℕ) → ((k : ℕ) → k < length wan.capacities → is_over_at wan closings share k ≡ false) → over_at wan closings share ≡ None
+unfolding lowest_over
+none-at wan closings share fits = none-lowest (length wan.capacities) (is_over wan.groups wan.capacities (amounts_at wan closings share)) fits

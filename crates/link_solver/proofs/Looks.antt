@@ -5,8 +5,10 @@ use Rattle.bwe_specs.specs.Bounded.{sum_below}
 use Rattle.bwe_specs.specs.Paths.{PathGroup, uses}
 use Rattle.bwe_specs.proofs.Bounds.{sum_below-mono, sum_below-add, sum_below-one}
 use Rattle.link_solver.specs.declared.due.Due.{Due}
-use Rattle.link_solver.specs.Dues.{due_at, Moves}
-use Rattle.link_solver.specs.Looks.{links_of, halvings, looks_at, looks_in}
+use Rattle.link_solver.specs.Dues.{no_due, due_at, Moves}
+use Rattle.link_front.specs.Moves.{links_of}
+use Rattle.link_front.proofs.GroupMoves.{sum_below-times}
+use Rattle.link_solver.specs.Looks.{halvings, looks_at, looks_in}
 
 -- a width is halved at most so often
 halvings-le : (most width : ℕ) → halvings most width ≤ most
@@ -83,7 +85,7 @@ looks-same top old new e f = rw (e, f) refl
 -- where one due changes, so do the looks of its link alone
 pub looks-set : (top : ℕ) (dues : List Due) (link : ℕ) (new : Due) → link < length dues → looks_in top (set dues link new) + looks_at top (due_at dues link) ≡ looks_in top dues + looks_at top new
 looks-set top dues link new lt =
-    let none : Due = record { share = 0; over = 0 } in
+    let none : Due = no_due in
     omega (
       arith,
       ap (λ n. sum_below n (λ k. looks_at top (due_at (set dues link new) k))) (length-set dues link new),
@@ -92,16 +94,10 @@ looks-set top dues link new lt =
           (λ k kl other. ap (looks_at top) (sym (get_or-set_other dues link k new none other))),
     )
 
--- a sum of 31 times as much
-pub sum_below-times : (n times : ℕ) (f : ℕ → ℕ) → sum_below n (λ i. times * f i) ≡ times * sum_below n f
-unfolding sum_below
-sum_below-times zero times f = omega arith
-sum_below-times (suc n) times f = omega (arith, sum_below-times n times f)
-
 -- the links of the path group that a group left, and of the one to which it came, are looked at again
-pub looks-moved : (top : ℕ) (left came : PathGroup) (share never : ℕ) (old new : List Due) → Moves left came share never old new
+pub looks-moved : (top : ℕ) (left came : PathGroup) (had_left had_came : ℕ) (gain : ℕ → ℕ) (capacities : List ℕ) (share most : ℕ) (old new : List Due) → Moves left came had_left had_came gain capacities share most old new
     → looks_in top new ≤ looks_in top old + 31 * (links_of (length old) left + links_of (length old) came)
-looks-moved top left came share never old new moved =
+looks-moved top left came had_left had_came gain capacities share most old new moved =
     let one : PathGroup → ℕ → ℕ = λ path_group link. if uses path_group link then 1 else 0 in
     omega (
       arith,
@@ -112,12 +108,12 @@ looks-moved top left came share never old new moved =
       sum_below-add (length old) (one left) (one came),
     ) where
       each : (link : ℕ) → looks_at top (due_at new link) ≤ looks_at top (due_at old link) + 31 * ((if uses left link then 1 else 0) + (if uses came link then 1 else 0))
-      each link = go (uses left link) (uses came link) (moved.share link) (moved.over link) where
-        go : (leaves comes : Bool) → (due_at new link).share ≡ (if comes then share else (due_at old link).share) → (due_at new link).over ≡ (if leaves then never else (due_at old link).over)
+      each link = go (uses left link) refl (uses came link) refl where
+        go : (leaves : Bool) → uses left link ≡ leaves → (comes : Bool) → uses came link ≡ comes
             → looks_at top (due_at new link) ≤ looks_at top (due_at old link) + 31 * ((if leaves then 1 else 0) + (if comes then 1 else 0))
-        go false false e f = omega (arith, looks-same top (due_at old link) (due_at new link) e f)
-        go true comes e f = omega (arith, looks-few top (due_at new link))
-        go false true e f = omega (arith, looks-few top (due_at new link))
+        go false e false f = omega (arith, looks-same top (due_at old link) (due_at new link) (moved.keeps_low link f).0 (moved.keeps_over link e).over)
+        go true e comes f = omega (arith, looks-few top (due_at new link))
+        go false e true f = omega (arith, looks-few top (due_at new link))
 
 -- all links need at most 31 looks each
 pub looks-all : (top : ℕ) (dues : List Due) (count : ℕ) → sum_below count (λ link. looks_at top (due_at dues link)) ≤ 31 * count

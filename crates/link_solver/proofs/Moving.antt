@@ -1,5 +1,5 @@
 -- The groups move on at a closing, one after the other.
-use Rattle.std.proofs.Common.{◌≡◌, ℕ, ◌+◌, ◌*◌, ◌<◌, ◌≤◌, false, List, ◌∷◌, length, reverse, refl, sym, ap, arith, subst, inl, inr, slice_index_or}
+use Rattle.std.proofs.Common.{◌≡◌, ℕ, ◌+◌, ◌*◌, ◌<◌, ◌≤◌, false, List, ◌∷◌, length, reverse, refl, sym, ◌∙◌, ap, arith, subst, inl, inr, slice_index_or}
 use Rattle.std.proofs.lemmas.Bool.{cases_eq}
 use Rattle.bwe_specs.specs.declared.network.Closing.{Closing}
 use Rattle.bwe_specs.specs.Bounded.{sum_below}
@@ -11,19 +11,17 @@ use Rattle.bwe_specs.proofs.Bounds.{sum_below-more}
 use Rattle.mpfa_fill.specs.declared.standing.Standing.{Standing}
 use Rattle.mpfa_fill.specs.declared.standing.Standing.TheVariants.{Grows, Stopped}
 use Rattle.mpfa_fill.specs.Standing.{standing_under}
-use Rattle.mpfa_fill.specs.GroupValues.{Values}
-use Rattle.mpfa_fill.specs.declared.growth.Growth.{Growth}
-use Rattle.mpfa_fill.specs.Growth.{IsGrowth, IsGrowthOf, KeepsParts as KeepsGrowth}
-use Rattle.mpfa_fill.specs.Growth.{wan_in as growth_wan, closings_in as growth_closings}
-use Rattle.mpfa_fill.proofs.Growths.{growth-along}
 use Rattle.link_solver.specs.declared.due.Due.{Due}
 use Rattle.link_solver.specs.Dues.{due_at, IsMarked, Marks}
 use Rattle.mpfa_fill.specs.Growth.{HasElsewhere, IsHeld, IsUpOver}
-use Rattle.link_solver.specs.Looks.{looks_in, moves_of}
-use Rattle.mpfa_fill.proofs.Closed.{held-after}
+use Rattle.link_front.specs.Moves.{moves_of}
+use Rattle.link_front.proofs.Walks.{UsesNot}
+use Rattle.link_front.proofs.Moving.{moved-unused as stood-unused}
+use Rattle.link_front.proofs.GroupMoves.{moves-same, keeps-path_group}
+use Rattle.link_solver.specs.Looks.{looks_in}
+use Rattle.link_solver.proofs.Changes.{IsAhead}
 use Rattle.link_solver.proofs.Closes.{marked-more}
-use Rattle.link_solver.proofs.GroupMoves.{moves-same, keeps-path_group, looks-group}
-use Rattle.link_solver.proofs.Walks.{UsesNot}
+use Rattle.link_solver.proofs.GroupMoves.{looks-group}
 
 -- the groups below a number are held as they are after the closing, and have marked the dues; the later ones are as before it;
 -- what is looked at again comes out of the moves to come
@@ -41,71 +39,43 @@ unfolding sum_below
 looks-start wan earlier closing dues = omega arith
 
 -- .. and each that moves pays for the links of its own path groups
-pub looks-next : (wan : Wan) (earlier : List Closing) (closing : Closing) (group : ℕ) (added : ℕ → ℕ → ℕ) (never : ℕ) (standing : Standing) (first mid new : List Due) → length mid ≡ length wan.capacities
-    → IsHeld wan earlier added group standing → Marks wan.groups group closing never standing (standing_under wan.groups group (closed_links (closing ∷ earlier)) closing standing) mid new
+pub looks-next : (wan : Wan) (earlier : List Closing) (closing : Closing) (group : ℕ) (added : ℕ → ℕ → ℕ) (standing : Standing) (first mid new : List Due) → length mid ≡ length wan.capacities
+    → IsHeld wan earlier added group standing → Marks wan added group closing standing (standing_under wan.groups group (closed_links (closing ∷ earlier)) closing standing) mid new
     → looks_in wan.top mid + 31 * sum_below group (moves_of wan (closing ∷ earlier)) ≤ looks_in wan.top first + 31 * sum_below group (moves_of wan earlier)
     → looks_in wan.top new + 31 * sum_below (group + 1) (moves_of wan (closing ∷ earlier)) ≤ looks_in wan.top first + 31 * sum_below (group + 1) (moves_of wan earlier)
-looks-next wan earlier closing group added never standing first mid new each_link held marks so =
+looks-next wan earlier closing group added standing first mid new each_link held marks so =
     omega (
       arith,
       so,
-      looks-group wan earlier closing group added never standing mid new each_link held marks,
+      looks-group wan earlier closing group added standing mid new each_link held marks,
       sum_below-more group (moves_of wan (closing ∷ earlier)),
       sum_below-more group (moves_of wan earlier),
     )
 
--- a group that does not use a link need not come up for it
-pub up-unused : (wan : Wan) (link share group : ℕ) (standing : Standing) → UsesNot wan.groups link group → IsUpOver wan link share group standing
-up-unused wan link share group (Grows place base) unused = λ used. let not : uses (path_group_at wan.groups group place) link ≡ false = unused place in absurd (cc)
-up-unused wan link share group (Stopped at) unused = tt
+-- a group that does not use the closed link marks nothing
+marks-none : (wan : Wan) (added : ℕ → ℕ → ℕ) (group : ℕ) (closing : Closing) (standing after : Standing) (dues : List Due) → UsesNot wan.groups closing.link group → Marks wan added group closing standing after dues dues
+marks-none wan added group closing (Grows place base) after dues unused = (λ used. let not : uses (path_group_at wan.groups group place) closing.link ≡ false = unused place in absurd (cc), λ _. refl)
+marks-none wan added group closing (Stopped at) after dues unused = refl
 
-pub up-more : (wan : Wan) (link share : ℕ) (standing : ℕ → Standing) (group : ℕ) → UsesNot wan.groups link group → ((k : ℕ) → k < group → IsUpOver wan link share k (standing k)) → (k : ℕ) → k < group + 1 → IsUpOver wan link share k (standing k)
-up-more wan link share standing group unused up k lt = elim (cases_eq k group) [
-  | inl e ↦ subst (λ j. IsUpOver wan link share j (standing j)) (sym e) (up-unused wan link share group (standing group) unused)
-  | inr other ↦ up k (omega (arith, lt, other))
-]
-
--- a group that does not use the closed link stands as before ..
-stays : (groups : List PathGroups) (group : ℕ) (closed : List ℕ) (closing : Closing) (standing : Standing) → UsesNot groups closing.link group → standing_under groups group closed closing standing ≡ standing
-stays groups group closed closing (Grows place base) unused = rw (unused place) refl
-stays groups group closed closing (Stopped at) unused = refl
-
--- .. and marks nothing
-marks-none : (groups : List PathGroups) (group never : ℕ) (closing : Closing) (standing after : Standing) (dues : List Due) → UsesNot groups closing.link group → Marks groups group closing never standing after dues dues
-marks-none groups group never closing (Grows place base) after dues unused = (λ used. let not : uses (path_group_at groups group place) closing.link ≡ false = unused place in absurd (cc), λ _. refl)
-marks-none groups group never closing (Stopped at) after dues unused = refl
-
-module _ (wan : Wan) (never_falls : NeverFalls wan) (earlier : List Closing) (closing : Closing) (last : last_share earlier ≤ closing.share) (below : closing.share ≤ wan.top) (added : ℕ → ℕ → ℕ) (elsewhere : HasElsewhere wan earlier added) (never : ℕ) (past : wan.top < never) where
-  pub moved-unused : (first : List Due) (standings : List Standing) (dues : List Due) (group : ℕ) → group < length wan.groups → UsesNot wan.groups closing.link group
+module _ (wan : Wan) (never_falls : NeverFalls wan) (earlier : List Closing) (closing : Closing) (last : last_share earlier ≤ closing.share) (below : closing.share ≤ wan.top) (added : ℕ → ℕ → ℕ) (elsewhere : HasElsewhere wan earlier added) (elsewhere_after : HasElsewhere wan (closing ∷ earlier) added) where
+  pub moved-unused : (first : List Due) → ((link : ℕ) → link < length first → IsAhead wan closing (due_at first link)) → (standings : List Standing) (dues : List Due) (group : ℕ) → group < length wan.groups → UsesNot wan.groups closing.link group
       → AreMoved wan earlier closing added first standings dues group → AreMoved wan earlier closing added first standings dues (group + 1)
-  moved-unused first standings dues group lt unused are =
+  moved-unused first ahead standings dues group lt unused are =
       let standing : Standing = slice_index_or standings group (Stopped 0) in
-      let same : standing_under wan.groups group (closed_links (closing ∷ earlier)) closing standing ≡ standing = stays wan.groups group (closed_links (closing ∷ earlier)) closing standing unused in
       let held : IsHeld wan earlier added group standing = are.left group (omega arith) lt in
-      let after : IsHeld wan (closing ∷ earlier) added group standing =
-      subst (IsHeld wan (closing ∷ earlier) added group) same (held-after wan never_falls earlier closing last below added elsewhere group standing held (are.up group (omega arith) lt)) in
+      let more = stood-unused wan never_falls earlier closing last below added elsewhere standings group lt unused (record { gone = are.gone; left = are.left; up = are.up }) in
       record {
-        gone = λ k kl. elim (cases_eq k group) [
-          | inl e ↦ subst (λ j. IsHeld wan (closing ∷ earlier) added j (slice_index_or standings j (Stopped 0))) (sym e) after
-          | inr other ↦ are.gone k (omega (arith, kl, other))
-        ];
-        left = λ k from within. are.left k (omega (arith, from)) within;
-        up = λ k from within. are.up k (omega (arith, from)) within;
+        gone = more.gone;
+        left = more.left;
+        up = more.up;
         marked = λ link within.
-            marked-more wan earlier closing group link never past added standing (due_at first link) dues dues held
-            (marks-none wan.groups group never closing standing _ dues unused) (are.marked link within);
+            marked-more wan never_falls earlier closing last below added elsewhere elsewhere_after group link standing (due_at first link) dues dues (ahead link within) held (are.up group (omega arith) lt)
+            (subst (λ after. Marks wan added group closing standing after dues dues) refl (marks-none wan added group closing standing (standing_under wan.groups group (closed_links (closing ∷ earlier)) closing standing) dues unused)) (are.marked link within);
         looks = omega (
           arith,
           are.looks,
-          moves-same wan earlier closing group (keeps-path_group wan earlier closing group added standing held unused),
+          moves-same wan earlier closing group (keeps-path_group wan earlier closing group (λ place current. unused place)),
           sum_below-more group (moves_of wan (closing ∷ earlier)),
           sum_below-more group (moves_of wan earlier),
         );
       }
-
--- what a growth is after its groups came up and a closing was added, under the closings before
-pub growth-after : {V : Type 0} (meaning : V → Values) (old up new : Growth V) → KeepsGrowth old up → new.standings ≡ up.standings → new.sums ≡ up.sums → IsGrowth meaning up
-    → IsGrowthOf (meaning old.values.now) (growth_wan meaning old) (growth_closings old) new.standings.items new.sums
-growth-after meaning old up new parts standings sums is =
-    subst (λ s. IsGrowthOf (meaning old.values.now) (growth_wan meaning old) (growth_closings old) s.items new.sums) (sym standings)
-    (growth-along _ _ _ _ _ _ _ _ _ _ _ (ap meaning (sym parts.network.values)) (sym parts.network.plan) (ap (λ n. n.capacities) (sym parts.network.topology)) (ap (λ cs. reverse cs.items) (sym parts.closings)) sums is)

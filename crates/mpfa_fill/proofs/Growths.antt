@@ -9,13 +9,12 @@ use Rattle.bwe_specs.specs.declared.network.Closing.{Closing}
 use Rattle.bwe_specs.specs.Bounded.{sum_below}
 use Rattle.bwe_specs.specs.Paths.{PathGroups, path_group_count, is_open, current_path_group}
 use Rattle.bwe_specs.specs.Filling.{Wan, closed_links, current_path_group_of, is_at, group_amount, stop_share}
-use Rattle.bwe_specs.specs.RightClosings.{last_share, amounts_at, AreRight}
+use Rattle.bwe_specs.specs.RightClosings.{last_share, amounts_at}
 use Rattle.bwe_specs.specs.Values.{NeverFalls}
 use Rattle.bwe_specs.proofs.Bounds.{sum_below-mono, lowest-none}
 use Rattle.bwe_specs.proofs.Growth.{value-mono, is_at-true, growth-on, growth-off}
 use Rattle.bwe_specs.proofs.Loads.{current-open}
-use Rattle.bwe_specs.proofs.Totals.{total, total-le}
-use Rattle.bwe_specs.proofs.Certificates.{last_share-le}
+use Rattle.bwe_specs.proofs.Totals.{total}
 use Rattle.bwe_specs.proofs.Sums.{sum_below-room}
 use Rattle.link_sums.specs.Sums.{Sums, amount_at, IsSummedOver}
 use Rattle.mpfa_fill.specs.GroupValues.{Values, wan_of}
@@ -24,7 +23,8 @@ use Rattle.mpfa_fill.specs.declared.standing.Standing.TheVariants.{Grows, Stoppe
 use Rattle.mpfa_fill.specs.Standing.{IsPlaced, standing_of, stop_of}
 use Rattle.bwe_specs.proofs.StopShares.{stop-moving}
 use Rattle.mpfa_fill.proofs.Moves.{amounts_at-current}
-use Rattle.mpfa_fill.specs.Growth.{HasElsewhere, IsHeld, IsGrowthOf, IsUp, IsUpOver, KeepsNetwork, wan_in}
+use Rattle.mpfa_fill.proofs.Order.{order-le, all-le}
+use Rattle.mpfa_fill.specs.Growth.{AreInOrder, HasElsewhere, IsHeld, IsGrowthOf, IsUp, IsUpOver, KeepsNetwork, wan_in}
 use Rattle.mpfa_fill.specs.declared.growth.Growth.{Growth}
 
 -- a path group is where the group grows, or not
@@ -36,12 +36,12 @@ at-found : (o : Option ℕ) (found place : ℕ) → o ≡ Some found → place �
 unfolding is_at
 at-found o found place e same off = let on : is_at o place ≡ true = rw (e, same) (eq-eqb found found refl) in absurd (cc)
 
-module _ (wan : Wan) (never : NeverFalls wan) (closings : List Closing) (right : AreRight wan closings) (added : ℕ → ℕ → ℕ) (elsewhere : HasElsewhere wan closings added) where
+module _ (wan : Wan) (never : NeverFalls wan) (closings : List Closing) (order : AreInOrder wan closings) (added : ℕ → ℕ → ℕ) (elsewhere : HasElsewhere wan closings added) where
   -- what was added of a group is within what it has at the top
   added-le : (group : ℕ) (standing : Standing) → IsHeld wan closings added group standing → (place : ℕ) → added group place ≤ amounts_at wan closings wan.top group place
   added-le group standing held place = go standing held (is_at (current_path_group_of wan closings group) place) refl where
     go : (standing : Standing) → IsHeld wan closings added group standing → (at : Bool) → is_at (current_path_group_of wan closings group) place ≡ at → added group place ≤ amounts_at wan closings wan.top group place
-    go standing held false e = omega (arith, elsewhere group place wan.top e (last_share-le wan closings right) (le_refl wan.top))
+    go standing held false e = omega (arith, elsewhere group place wan.top e (order-le wan closings order) (le_refl wan.top))
     go (Stopped at) held true e =
         let no : Some place ≡ None = sym (is_at-true (current_path_group_of wan closings group) place e) ∙ held.0 in
         absurd (cc)
@@ -49,7 +49,7 @@ module _ (wan : Wan) (never : NeverFalls wan) (closings : List Closing) (right :
         let some : Some place ≡ Some found = sym (is_at-true (current_path_group_of wan closings group) place e) ∙ held.0 in
         let same : found ≡ place = cc in
         subst (λ k. added group k ≤ amounts_at wan closings wan.top group k) same
-        (omega (arith, held.1, held.2 wan.top (last_share-le wan closings right) (le_refl wan.top)))
+        (omega (arith, held.1, held.2 wan.top (order-le wan closings order) (le_refl wan.top)))
 
   -- so there is room to add what a group has at a share
   pub total-room : (values_at_top : sum_below (length wan.groups) (λ group. wan.value group wan.top) ≤ MAX_TOTAL)
@@ -59,15 +59,15 @@ module _ (wan : Wan) (never : NeverFalls wan) (closings : List Closing) (right :
   total-room together each group place base share lt held last within =
       let x : ℕ → ℕ → ℕ = amounts_at wan closings wan.top in
       let inside = (current-open (slice_index_or wan.groups group []) (closed_links closings) place held.0).0 in
-      let rise = amounts_at-current wan never closings share wan.top group place place last (last_share-le wan closings right) within (le_refl wan.top) held.0 refl in
+      let rise = amounts_at-current wan never closings share wan.top group place place last (order-le wan closings order) within (le_refl wan.top) held.0 refl in
       let here : added group place + (wan.value group share - base) ≤ x group place =
-      omega (arith, held.1, held.2 share last within, held.2 wan.top (last_share-le wan closings right) (le_refl wan.top), value-mono wan never group share wan.top within (le_refl wan.top)) in
+      omega (arith, held.1, held.2 share last within, held.2 wan.top (order-le wan closings order) (le_refl wan.top), value-mono wan never group share wan.top within (le_refl wan.top)) in
       let row : group_amount wan added group + (wan.value group share - base) ≤ group_amount wan x group =
       sum_below-room (path_group_count wan.groups group) place (wan.value group share - base) (added group) (x group) inside (λ q ql. added-le group (Grows place base) held q) here in
       let all : total wan added + (wan.value group share - base) ≤ total wan x =
       sum_below-room (length wan.groups) group (wan.value group share - base) (group_amount wan added) (group_amount wan x) lt
       (λ h hl. sum_below-mono (path_group_count wan.groups h) (added h) (x h) (λ q ql. added-le h (each h hl).0 (each h hl).1 q)) row in
-      omega (arith, all, together, total-le wan never closings wan.top right (last_share-le wan closings right) (le_refl wan.top))
+      omega (arith, all, together, all-le wan never closings wan.top order (order-le wan closings order) (le_refl wan.top))
 
 -- a group is held as before where nothing was added of it
 pub held-along : (wan : Wan) (closings : List Closing) (added added' : ℕ → ℕ → ℕ) (group : ℕ) (standing : Standing) → ((place : ℕ) → added' group place ≡ added group place) → IsHeld wan closings added group standing → IsHeld wan closings added' group standing
@@ -84,7 +84,7 @@ pub growth-up : (values : Values) (wan : Wan) → NeverFalls wan → (closings :
 growth-up values wan never closings standings sums sums' growth group place base now share lt held is within summed links amount others = record {
   known = growth.known;
   count = growth.count;
-  right = growth.right;
+  order = growth.order;
   summed = summed;
   links = links ∙ growth.links;
   elsewhere = λ h q s off last upto.

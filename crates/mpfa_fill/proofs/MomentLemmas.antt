@@ -6,7 +6,7 @@ use Rattle.bwe_specs.specs.declared.network.Closing.{Closing}
 use Rattle.bwe_specs.specs.Bounded.{sum_below}
 use Rattle.bwe_specs.specs.Filling.{Wan, State, next_amounts, step_by, filling_step, first_state, IsReached}
 use Rattle.bwe_specs.specs.Paths.{PathGroups, lowest_over}
-use Rattle.bwe_specs.specs.RightClosings.{amounts_at, over_at, IsRightAfter}
+use Rattle.bwe_specs.specs.RightClosings.{amounts_at, over_at, IsRightAfter, AreRight}
 use Rattle.bwe_specs.proofs.Growth.{amounts_at-closed, amounts_at-start}
 use Rattle.bwe_specs.proofs.Steps.{reached-sound, next_amounts-is, step-below, closing-right}
 use Rattle.bwe_specs.specs.Values.{NeverFalls}
@@ -82,3 +82,7 @@ pub fits-reached : (wan : Wan) → NeverFalls wan → (state : State) → IsReac
 fits-reached wan never state reached =
     let sound = reached-sound wan never state reached in
     ap (lowest_over wan.groups wan.capacities) (sym sound.amounts_are) ∙ sound.fits
+
+pub right-all-along : (wan wan' : Wan) (closings closings' : List Closing) → wan ≡ wan' → closings ≡ closings' → AreRight wan' closings' → AreRight wan closings
+right-all-along wan wan' closings closings' e f right =
+    subst (λ w. AreRight w closings) (sym e) (subst (AreRight wan') (sym f) right)

@@ -1,15 +1,16 @@
 -- The closings so far and the groups under them, as the code keeps them.
-use Rattle.std.specs.Prelude.{◌≡◌, ℕ, ◌+◌, ◌<◌, ◌≤◌, true, false, List, [], All, length, reverse, slice_index_or, None, Some, sum_by}
+use Rattle.std.specs.Prelude.{◌≡◌, ℕ, ◌+◌, ◌<◌, ◌≤◌, true, false, List, [], ◌∷◌, All, length, reverse, slice_index_or, Option, None, Some, sum_by}
 use Rattle.bwe_specs.specs.declared.network.Closing.{Closing}
 use Rattle.bwe_specs.specs.Paths.{path_group_at, load_on, link_load, uses}
 use Rattle.bwe_specs.specs.Filling.{Wan, current_path_group_of, is_at, stop_share}
-use Rattle.bwe_specs.specs.RightClosings.{last_share, amounts_at, AreRight}
+use Rattle.bwe_specs.specs.RightClosings.{last_share, amounts_at}
 use Rattle.link_sums.specs.Sums.{Sums, amount_at, IsSummedOver}
 use Rattle.mpfa_fill.specs.GroupValues.{Values, AreGroupValues, wan_of}
 use Rattle.mpfa_fill.specs.declared.standing.Standing.{Standing}
 use Rattle.mpfa_fill.specs.declared.standing.Standing.TheVariants.{Grows, Stopped}
 use Rattle.mpfa_fill.specs.declared.growth.Growth.{Growth}
 use Rattle.mpfa_fill.specs.declared.growth.Term.{Term}
+use Rattle.mpfa_fill.specs.declared.growth.ValueAt.{ValueAt}
 
 -- from the last closing on, the group has there what was added of it, and its value above a base
 abbrev pub HasThere : Wan → List Closing → (ℕ → ℕ → ℕ) → ℕ → ℕ → ℕ → Type 0
@@ -34,12 +35,19 @@ IsHeld wan closings added group (Stopped at) =
     (current_path_group_of wan closings group ≡ None)
     × ((until : ℕ) → stop_share (slice_index_or wan.groups group []) closings until ≡ at)
 
--- the closings are right so far, and each group is held under them
+-- the shares of the closings never fall, and they are below the top
+abbrev pub AreInOrder : Wan → List Closing → Type 0
+AreInOrder wan [] = Unit {0}
+AreInOrder wan (closing ∷ earlier) = AreInOrder wan earlier
+    × (last_share earlier ≤ closing.share) × (closing.share < wan.top)
+
+-- the closings are in order, and each group is held under them; that they are right is for those
+-- who fill
 pub record IsGrowthOf (values : Values) (wan : Wan) (closings : List Closing)
     (standings : List Standing) (sums : Sums) : Type 0 where
   pub known : AreGroupValues values
   pub count : values.groups ≡ length wan.groups
-  pub right : AreRight wan closings
+  pub order : AreInOrder wan closings
   pub summed : IsSummedOver wan.groups sums
   pub links : length sums.loads ≡ length wan.capacities
   pub elsewhere : HasElsewhere wan closings (amount_at sums.amounts)
@@ -55,7 +63,7 @@ wan_in meaning growth =
 
 -- the closings, with the newest first
 abbrev pub closings_in : {V : Type 0} → Growth V → List Closing
-closings_in growth = reverse growth.closings.items
+closings_in growth = reverse growth.closings
 
 -- what was added of each group on each path group
 abbrev pub added_in : {V : Type 0} → Growth V → ℕ → ℕ → ℕ
@@ -67,6 +75,11 @@ IsGrowth meaning growth =
     IsGrowthOf (meaning growth.values.now) (wan_in meaning growth) (closings_in growth)
     growth.standings.items growth.sums
 
+-- what is known of a group's value at one share is so
+abbrev pub IsKnown : Wan → ℕ → Option ValueAt → Type 0
+IsKnown wan group (Some known) = known.value ≡ wan.value group known.share
+IsKnown wan group None = Unit {0}
+
 -- the group grows over the link, so much of it was added there, and above this base it has its
 -- value
 pub record IsTermOf (wan : Wan) (closings : List Closing) (added : ℕ → ℕ → ℕ) (group : ℕ)
@@ -76,6 +89,7 @@ pub record IsTermOf (wan : Wan) (closings : List Closing) (added : ℕ → ℕ �
   pub grows : current_path_group_of wan closings group ≡ Some term.place
   pub amount : term.amount ≡ added group term.place
   pub has : HasThere wan closings added group term.place term.value
+  pub known : IsKnown wan group term.known
 
 -- what amounts of the groups of the terms put on the link
 abbrev pub terms_load : Wan → ℕ → (ℕ → ℕ → ℕ) → List Term → ℕ

@@ -22,3 +22,9 @@ abbrev pub GrowsNotOver : Wan → List Closing → ℕ → ℕ → Type 0
 GrowsNotOver wan closings link group = (place : ℕ)
     → current_path_group_of wan closings group ≡ Some place
     → uses (path_group_at wan.groups group place) link ≡ false
+
+-- it grows over the link on this path group
+abbrev pub GrowsOver : Wan → List Closing → ℕ → ℕ → ℕ → Type 0
+GrowsOver wan closings link group place =
+    (current_path_group_of wan closings group ≡ Some place)
+    × (uses (path_group_at wan.groups group place) link ≡ true)

@@ -1,7 +1,7 @@
 -- A moment of a filling, as the code keeps it.
 use Rattle.std.specs.Prelude.{◌≡◌, ◌≤◌}
 use Rattle.bwe_specs.specs.Filling.{Wan, State}
-use Rattle.bwe_specs.specs.RightClosings.{last_share, amounts_at}
+use Rattle.bwe_specs.specs.RightClosings.{last_share, amounts_at, AreRight}
 use Rattle.mpfa_fill.specs.GroupValues.{Values}
 use Rattle.mpfa_fill.specs.declared.moment.Moment.{Moment}
 use Rattle.mpfa_fill.specs.Growth.{wan_in as growth_wan, closings_in, added_in, IsGrowth}
@@ -22,6 +22,7 @@ state_of moment =
 -- the closings are right so far, and what was added is what the groups have at the share
 pub record IsMoment {V : Type 0} (meaning : V → Values) (moment : Moment V) : Type 0 where
   pub growth : IsGrowth meaning moment.growth
+  pub right : AreRight (wan_in meaning moment) (state_of moment).closings
   pub last : last_share (state_of moment).closings ≤ moment.share
   pub within : moment.share ≤ (wan_in meaning moment).top
   pub amounts : (state_of moment).amounts

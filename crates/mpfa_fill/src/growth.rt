@@ -1,20 +1,22 @@
 //! The groups of a filling, each as it was when it last came up to its value.
 
-ghost use Rattle.std.specs.Prelude.{◌≡◌, ℕ, ◌+◌, ◌-◌, ◌<◌, ◌≤◌, ◌∷◌, ◌++◌, [], length, map, reverse, set, IfOk, OnOk, MatchOption, None};
+ghost use Rattle.std.specs.Prelude.{◌≡◌, ℕ, ◌+◌, ◌-◌, ◌<◌, ◌≤◌, ◌∷◌, ◌++◌, [], length, map, reverse, set, slice_index, slice_index_or, IfOk, OnOk, IfSome, MatchOption, None};
 ghost use Rattle.bwe_specs.specs.Reports.{numbers};
-ghost use Rattle.bwe_specs.specs.Paths.{path_group_count, lowest_over, is_over as is_link_over};
+ghost use Rattle.bwe_specs.specs.Paths.{path_group_at, path_group_count, current_path_group, load_on, link_load, lowest_over, is_over as is_link_over};
 ghost use Rattle.bwe_specs.specs.Filling.{closed_links};
-ghost use Rattle.bwe_specs.specs.RightClosings.{last_share, amounts_at, over_at};
+ghost use Rattle.bwe_specs.specs.RightClosings.{last_share, amounts_at, over_at, AreRight};
 ghost use Rattle.path_groups.specs.Plan.{IsBuiltOn};
 ghost use Rattle.bwe_specs.specs.Lists.{lists_of};
 ghost use Rattle.link_sums.specs.Sums.{amount_at, IsSummedOver, total_of};
 ghost use Rattle.mpfa_fill.specs.GroupValues.{Values, AreGroupValues, wan_of};
+ghost use Rattle.mpfa_fill.specs.Closings.{is_closed};
 ghost use Rattle.mpfa_fill.specs.Standing.{IsPlaced, standing_under};
-ghost use Rattle.mpfa_fill.specs.LastFit.{is_over_at, GrowsNotOver};
-ghost use Rattle.mpfa_fill.specs.Growth.{wan_in, closings_in, added_in, standing_at, IsUp, IsUpOver, KeepsParts, KeepsNetwork, IsGrowth, IsTermOf, AreTermsOn};
+ghost use Rattle.mpfa_fill.specs.LastFit.{is_over_at, GrowsNotOver, GrowsOver};
+ghost use Rattle.mpfa_fill.specs.Growth.{wan_in, closings_in, added_in, standing_at, IsUp, IsUpOver, KeepsParts, KeepsNetwork, IsGrowth, IsKnown, IsTermOf, AreTermsOn};
 ghost use Rattle.mpfa_fill.specs.Filling.{IsFilling};
 
-use crate::standing::{Standing, first_standings, standing_after, stop_shares};
+use crate::closings::Closings;
+use crate::standing::{Standing, first_standings, next_place, standing_after, stop_shares};
 use crate::steps::Filling;
 use crate::values::GroupValues;
 use bwe_specs::{Closing, MAX_TOTAL, OutOfMemory};
@@ -32,19 +34,27 @@ pub struct Growth<'a, V: GroupValues> {
     values: &'a V,
     topology: &'a Topology,
     plan: &'a PathPlan,
-    closings: Vec<Closing>,
+    closings: Closings,
     standings: Vec<Standing>,
     sums: LinkSums,
 }
 
 /// A group that grows over a link: where, how much was added there, and the value above which it
-/// has more.
+/// has more. Its value at one share may be known, so that it is not asked for there.
 #[derive(Clone, Copy)]
 pub struct Term {
     group: u32,
     place: u32,
     amount: u64,
     value: u64,
+    known: Option<ValueAt>,
+}
+
+/// A value at a share.
+#[derive(Clone, Copy)]
+pub struct ValueAt {
+    pub share: u64,
+    pub value: u64,
 }
 
 impl<'a, V: GroupValues> Growth<'a, V> {
@@ -67,12 +77,13 @@ impl<'a, V: GroupValues> Growth<'a, V> {
             (λ growth. (group place : ℕ) → added_in growth group place ≡ 0) }
     {
         let sums = LinkSums::open(alloc, topology, plan)?;
-        let standings = first_standings(alloc, plan)?;
+        let closings = Closings::none(alloc, topology.links())?;
+        let standings = first_standings(alloc, plan, &closings)?;
         Ok(Growth {
             values,
             topology,
             plan,
-            closings: Vec::new(alloc),
+            closings,
             standings,
             sums,
         })
@@ -92,11 +103,25 @@ impl<'a, V: GroupValues> Growth<'a, V> {
         self.plan.groups()
     }
 
+    /// The path groups.
+    pub fn plan(&self) -> &PathPlan
+        ensures { result.now ≡ self.now.plan.now }
+    {
+        self.plan
+    }
+
     /// The closings so far, in their order.
     pub fn closings(&self) -> &[Closing]
         ensures { reverse result.now ≡ closings_in self.now }
     {
-        &self.closings
+        self.closings.list()
+    }
+
+    /// Whether the link was closed. It reads one flag.
+    pub fn is_closed(&self, link: u32) -> bool
+        ensures { result ≡ is_closed self.now.closings link }
+    {
+        self.closings.is_closed(link)
     }
 
     /// Whether what was added puts the link over.
@@ -179,7 +204,7 @@ impl<'a, V: GroupValues> Growth<'a, V> {
     /// Adds a closing. Each group that grew over its link has to move on next.
     pub fn close(&mut self, closing: Closing) -> Result<(), OutOfMemory>
         ensures closings { OnOk result
-            (self.new.closings.items ≡ self.old.closings.items ++ closing ∷ []) }
+            (self.new.closings ≡ self.old.closings ++ closing ∷ []) }
         ensures network { KeepsNetwork self.old self.new }
         ensures standings { self.new.standings ≡ self.old.standings }
         ensures sums { self.new.sums ≡ self.old.sums }
@@ -209,6 +234,32 @@ impl<'a, V: GroupValues> Growth<'a, V> {
         (before, after)
     }
 
+    /// The path group on which the group grows, if that uses the link.
+    pub fn place_over(&self, group: u32, link: u32) -> Option<u32>
+        requires growth { IsGrowth V.meaning self.now }
+        requires group { group < length self.now.plan.now }
+        ensures { MatchOption result
+            (GrowsNotOver (wan_in V.meaning self.now) (closings_in self.now) link group)
+            (GrowsOver (wan_in V.meaning self.now) (closings_in self.now) link group) }
+    {
+        let Standing::Grows { place, .. } = self.standings[group as usize] else {
+            return None;
+        };
+        if !self.plan.uses(group, place, link) {
+            return None;
+        }
+        Some(place)
+    }
+
+    /// The path group on which the group would go on if this link were closed too.
+    pub fn next_place(&self, group: u32, link: u32) -> Option<u32>
+        requires { group < length self.now.plan.now }
+        ensures { result ≡ current_path_group (slice_index_or self.now.plan.now group [])
+            (link ∷ closed_links (closings_in self.now)) }
+    {
+        next_place(self.plan, group, &self.closings, link)
+    }
+
     /// The group, if it grows over the link.
     pub fn term_of(&self, group: u32, link: u32) -> Option<Term>
         requires growth { IsGrowth V.meaning self.now }
@@ -230,7 +281,70 @@ impl<'a, V: GroupValues> Growth<'a, V> {
             place,
             amount,
             value,
+            known: None,
         })
+    }
+
+    /// The same, where the group's value at one share is known.
+    pub fn term_with(&self, group: u32, link: u32, known: ValueAt) -> Option<Term>
+        requires growth { IsGrowth V.meaning self.now }
+        requires group { group < length self.now.plan.now }
+        requires known { known.value ≡ (wan_in V.meaning self.now).value group known.share }
+        ensures { MatchOption result
+            (GrowsNotOver (wan_in V.meaning self.now) (closings_in self.now) link group)
+            (IsTermOf (wan_in V.meaning self.now) (closings_in self.now) (added_in self.now)
+            group) }
+    {
+        match self.term_of(group, link) {
+            Some(term) => Some(Term {
+                group: term.group,
+                place: term.place,
+                amount: term.amount,
+                value: term.value,
+                known: Some(known),
+            }),
+            None => None,
+        }
+    }
+
+    /// The group's value at the share.
+    pub fn value(&self, group: u32, share: u64) -> u64
+        requires growth { IsGrowth V.meaning self.now }
+        requires group { group < length self.now.plan.now }
+        requires within { share ≤ (wan_in V.meaning self.now).top }
+        ensures { result ≡ (wan_in V.meaning self.now).value group share }
+    {
+        self.values.value(group, share)
+    }
+
+    /// The capacity of the link.
+    pub fn capacity(&self, link: u32) -> u64
+        requires { link < length (wan_in V.meaning self.now).capacities }
+        ensures { result ≡ slice_index (wan_in V.meaning self.now).capacities link }
+    {
+        self.topology.capacity(link)
+    }
+
+    /// The load of the link at the share, if nothing closes on the way there. The terms are the
+    /// groups that grow over it.
+    pub fn load_at(&self, terms: &[Term], link: u32, share: u64) -> u128
+        requires growth { IsGrowth V.meaning self.now }
+        requires link { link < length (wan_in V.meaning self.now).capacities }
+        requires terms { AreTermsOn (wan_in V.meaning self.now) (closings_in self.now)
+            (added_in self.now) link terms.now }
+        requires last { last_share (closings_in self.now) ≤ share }
+        requires within { share ≤ (wan_in V.meaning self.now).top }
+        ensures { let wan = wan_in V.meaning self.now in
+            result ≡ link_load wan.groups (amounts_at wan (closings_in self.now) share) link }
+    {
+        let mut load = self.sums.load(link) as u128;
+        let mut held: u128 = 0;
+        for term in terms {
+            let then = self.amount_then(*term, share);
+            held += self.plan.load(term.group, term.place, link, term.amount) as u128;
+            load += self.plan.load(term.group, term.place, link, then) as u128;
+        }
+        load - held
     }
 
     /// Whether the link is over at the share, if nothing closes on the way there. The terms are the
@@ -245,14 +359,53 @@ impl<'a, V: GroupValues> Growth<'a, V> {
         ensures { result
             ≡ is_over_at (wan_in V.meaning self.now) (closings_in self.now) share link }
     {
-        let mut load = self.sums.load(link) as u128;
-        let mut held = self.topology.capacity(link) as u128;
-        for term in terms {
-            let then = self.amount_then(*term, share);
-            held += self.plan.load(term.group, term.place, link, term.amount) as u128;
-            load += self.plan.load(term.group, term.place, link, then) as u128;
+        self.load_at(terms, link, share) > self.capacity(link) as u128
+    }
+
+    /// What was added of the group on the path group puts so much on the link.
+    pub fn load_now(&self, group: u32, place: u32, link: u32) -> u64
+        requires summed { IsSummedOver self.now.plan.now self.now.sums }
+        requires group { group < length self.now.plan.now }
+        requires place { place < path_group_count self.now.plan.now group }
+        ensures { result
+            ≡ load_on (path_group_at self.now.plan.now group place) link
+            (added_in self.now group place) }
+    {
+        let amount = self.sums.amount(self.plan, group, place);
+        self.plan.load(group, place, link, amount)
+    }
+
+    /// What the group would put on the link at a share, if it grew on the path group from a value
+    /// on; or `None` where the share is above the top, or more than any amount.
+    pub fn load_then(
+        &self,
+        group: u32,
+        place: u32,
+        value: u64,
+        share: u64,
+        link: u32,
+    ) -> Option<u64>
+        requires summed { IsSummedOver self.now.plan.now self.now.sums }
+        requires groups { (V.meaning self.now.values.now).groups ≡ length self.now.plan.now }
+        requires group { group < length self.now.plan.now }
+        requires place { place < path_group_count self.now.plan.now group }
+        ensures { IfSome result (λ load. load
+            ≡ load_on (path_group_at self.now.plan.now group place) link
+            (added_in self.now group place
+            + ((wan_in V.meaning self.now).value group share - value))) }
+    {
+        if share > self.values.top() {
+            return None;
         }
-        load > held
+        let gain = self.values.value(group, share).saturating_sub(value);
+        let amount = self
+            .sums
+            .amount(self.plan, group, place)
+            .saturating_add(gain);
+        if amount > MAX_TOTAL {
+            return None;
+        }
+        Some(self.plan.load(group, place, link, amount))
     }
 
     // What the group of the term has at the share, on the path group where it grows.
@@ -267,7 +420,23 @@ impl<'a, V: GroupValues> Growth<'a, V> {
             term.group term.place }
         ensures small { result ≤ MAX_TOTAL }
     {
-        term.amount + self.values.value(term.group, share) - term.value
+        term.amount + self.value_then(term, share) - term.value
+    }
+
+    // The value of the group of the term at the share, which is asked for unless it is known.
+    fn value_then(&self, term: Term, share: u64) -> u64
+        requires growth { IsGrowth V.meaning self.now }
+        requires group { term.group < length self.now.plan.now }
+        requires known { IsKnown (wan_in V.meaning self.now) term.group term.known }
+        requires within { share ≤ (wan_in V.meaning self.now).top }
+        ensures { result ≡ (wan_in V.meaning self.now).value term.group share }
+    {
+        if let Some(known) = term.known
+            && known.share == share
+        {
+            return known.value;
+        }
+        self.values.value(term.group, share)
     }
 
     /// The filling, once all groups have come up to the top and no link is over there.
@@ -275,13 +444,14 @@ impl<'a, V: GroupValues> Growth<'a, V> {
         requires growth { IsGrowth V.meaning self }
         requires top { top ≡ (wan_in V.meaning self).top }
         requires up { added_in self ≡ amounts_at (wan_in V.meaning self) (closings_in self) top }
+        requires right { AreRight (wan_in V.meaning self) (closings_in self) }
         requires fits { over_at (wan_in V.meaning self) (closings_in self) top ≡ None }
         ensures { IfOk result (IsFilling (wan_in V.meaning self.entry)) }
     {
         let amounts = amounts_of(alloc, self.plan, &self.sums)?;
         let shares = stop_shares(alloc, &self.standings, top)?;
         Ok(Filling {
-            closings: self.closings,
+            closings: self.closings.into_list(),
             amounts,
             shares,
         })

@@ -1,13 +1,14 @@
 //! How a group stands under the closings so far.
 
-ghost use Rattle.std.specs.Prelude.{◌≡◌, ℕ, ◌<◌, [], length, map, slice_index_or, IfOk, OnOk};
+ghost use Rattle.std.specs.Prelude.{◌≡◌, ℕ, ◌<◌, ◌∷◌, [], not, length, map, reverse, slice_index_or, IfOk, OnOk};
 ghost use Rattle.std.specs.List.{list_any};
-ghost use Rattle.bwe_specs.specs.Paths.{path_group_at, path_group_count, uses, current_path_group as path_group_under};
+ghost use Rattle.bwe_specs.specs.Paths.{path_group_at, path_group_count, uses, is_open, current_path_group as path_group_under};
 ghost use Rattle.bwe_specs.specs.Filling.{closed_links};
 ghost use Rattle.bwe_specs.specs.Reports.{numbers};
 ghost use Rattle.path_groups.specs.Plan.{IsPlan};
 ghost use Rattle.mpfa_fill.specs.Standing.{standing_of, standing_under, IsPlaced, stop_of};
 
+use crate::closings::Closings;
 use bwe_specs::{Closing, OutOfMemory};
 use path_groups::PathPlan;
 use std::alloc::Global;
@@ -20,7 +21,12 @@ pub enum Standing {
 }
 
 /// How each group stands at first: on its first path group, with nothing.
-pub(crate) fn first_standings(alloc: Global, plan: &PathPlan) -> Result<Vec<Standing>, OutOfMemory>
+pub(crate) fn first_standings(
+    alloc: Global,
+    plan: &PathPlan,
+    closings: &Closings,
+) -> Result<Vec<Standing>, OutOfMemory>
+    requires { closings.now ≡ [] }
     ensures plan { OnOk result (IsPlan plan.now) }
     ensures standings { IfOk result (λ standings. standings.items
         ≡ map (λ group. standing_of (path_group_under (slice_index_or plan.now group []) []) 0 0)
@@ -28,7 +34,7 @@ pub(crate) fn first_standings(alloc: Global, plan: &PathPlan) -> Result<Vec<Stan
 {
     let mut standings = Vec::new(alloc);
     for group in 0..plan.groups() {
-        standings.push(standing_on(current_path_group(plan, group, &[]), 0, 0))?;
+        standings.push(standing_on(current_path_group(plan, group, closings), 0, 0))?;
     }
     Ok(standings)
 }
@@ -37,7 +43,7 @@ pub(crate) fn first_standings(alloc: Global, plan: &PathPlan) -> Result<Vec<Stan
 pub(crate) fn standing_after(
     plan: &PathPlan,
     group: u32,
-    closings: &[Closing],
+    closings: &Closings,
     closing: Closing,
     standing: Standing,
 ) -> Standing
@@ -72,7 +78,7 @@ fn standing_on(current: Option<u32>, value: u64, share: u64) -> Standing
 }
 
 // The path group on which the group grows under these closings.
-fn current_path_group(plan: &PathPlan, group: u32, closings: &[Closing]) -> Option<u32>
+fn current_path_group(plan: &PathPlan, group: u32, closings: &Closings) -> Option<u32>
     requires { group < length plan.now }
     ensures { result
         ≡ path_group_under (slice_index_or plan.now group []) (closed_links closings.now) }
@@ -86,19 +92,45 @@ fn current_path_group(plan: &PathPlan, group: u32, closings: &[Closing]) -> Opti
 }
 
 // Whether the path group uses a link that was closed.
-fn uses_closed(plan: &PathPlan, group: u32, place: u32, closings: &[Closing]) -> bool
+fn uses_closed(plan: &PathPlan, group: u32, place: u32, closings: &Closings) -> bool
     requires group { group < length plan.now }
     requires place { place < path_group_count plan.now group }
     ensures { result
         ≡ list_any (λ closing. uses (path_group_at plan.now group place) closing.link)
         closings.now }
 {
-    for closing in closings {
-        if plan.uses(group, place, closing.link) {
+    for part in plan.parts(group, place) {
+        if closings.is_closed(part.link) {
             return true;
         }
     }
     false
+}
+
+/// The path group on which the group would go on if this link were closed too.
+pub(crate) fn next_place(plan: &PathPlan, group: u32, closings: &Closings, link: u32) -> Option<u32>
+    requires { group < length plan.now }
+    ensures { result ≡ path_group_under (slice_index_or plan.now group [])
+        (link ∷ closed_links (reverse closings.now)) }
+{
+    for place in 0..plan.places(group) {
+        if !is_shut(plan, group, place, closings, link) {
+            return Some(place);
+        }
+    }
+    None
+}
+
+// Whether the path group uses the link or one that was closed.
+fn is_shut(plan: &PathPlan, group: u32, place: u32, closings: &Closings, link: u32) -> bool
+    requires group { group < length plan.now }
+    requires place { place < path_group_count plan.now group }
+    ensures { is_open (link ∷ closed_links (reverse closings.now))
+        (path_group_at plan.now group place) ≡ not result }
+{
+    let is_used = plan.uses(group, place, link);
+    let is_closed = uses_closed(plan, group, place, closings);
+    is_used || is_closed
 }
 
 /// The stop shares, where a group that still grows stops at the top.

@@ -10,3 +10,4 @@ mod search;
 mod sums;
 mod transforms;
 mod trees;
+mod walked;

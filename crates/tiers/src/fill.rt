@@ -89,10 +89,11 @@ fn tiered_lines(
         ≡ map (λ group. line_in_tier plan.now fillings.now (slice_index tiers.now group) group)
         (numbers (length plan.now))) }
 {
+    let firsts = fillings.firsts(alloc)?;
     let mut lines = Vec::new(alloc);
     for group in 0..plan.groups() {
         let tier = tiers[group as usize] as usize;
-        lines.push(fillings.line(alloc, plan, tier, group)?)?;
+        lines.push(fillings.line(alloc, plan, &firsts[tier], tier, group)?)?;
     }
     Ok(lines)
 }

@@ -1,6 +1,6 @@
 //! The fillings of all tiers, one after the other.
 
-ghost use Rattle.std.specs.Prelude.{◌≡◌, ◌+◌, ◌-◌, ◌<◌, ◌≤◌, ◌^◌, ℕ, IfOk, OnOk, [], length, map, max, fold, replicate, slice_index};
+ghost use Rattle.std.specs.Prelude.{◌≡◌, ◌+◌, ◌-◌, ◌<◌, ◌≤◌, ◌^◌, ℕ, IfOk, OnOk, [], length, map, max, fold, replicate, slice_index, slice_index_or};
 ghost use Rattle.bwe_specs.specs.Reports.{numbers};
 ghost use Rattle.bwe_specs.specs.Values.{AreValues};
 ghost use Rattle.path_groups.specs.Plan.{IsBuiltOn};
@@ -13,7 +13,7 @@ ghost use Rattle.tiers.specs.Fillings.{AreFilled, HasLine, IsFilledSome, IsFille
 ghost use Rattle.tiers.specs.Fillings.{values_of_tier, wan_by, with_filling};
 
 use crate::values::TierValues;
-use allocator::{group_line, loads_of};
+use allocator::{FirstClosings, group_line, loads_of};
 use bwe_specs::{Closing, OutOfMemory};
 use limit_table::GroupLine;
 use link_solver::solve_by_links;
@@ -86,21 +86,34 @@ impl Fillings {
         Ok(())
     }
 
-    /// The line of a group in the filling of a tier.
+    /// The closings of each tier, and which of them was the first of each link.
+    pub(crate) fn firsts(&self, alloc: Global) -> Result<Vec<FirstClosings<'_>>, OutOfMemory>
+        ensures { IfOk result (λ firsts. firsts.items ≡ self.now.closings) }
+    {
+        let mut firsts = Vec::new(alloc);
+        for closings in &self.closings {
+            firsts.push(FirstClosings::of(alloc, closings)?)?;
+        }
+        Ok(firsts)
+    }
+
+    /// The line of a group in the filling of a tier, which has these closings.
     pub(crate) fn line(
         &self,
         alloc: Global,
         plan: &PathPlan,
+        closings: &FirstClosings,
         tier: usize,
         group: u32,
     ) -> Result<GroupLine, OutOfMemory>
         requires group { group < length plan.now }
+        requires closings { closings.now ≡ slice_index_or self.now.closings tier [] }
         requires has { HasLine plan.now self.now tier group }
         ensures { IfOk result (λ line. line ≡ line_in_tier plan.now self.now tier group) }
     {
         let row = &self.amounts[tier][group as usize];
         let share = self.shares[tier][group as usize];
-        group_line(alloc, plan, &self.closings[tier], group, row, share)
+        group_line(alloc, plan, closings, group, row, share)
     }
 }
 

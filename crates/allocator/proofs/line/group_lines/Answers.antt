@@ -22,6 +22,6 @@ loop-group-preserved c =
     let share : c.index-share.result.now ≡ get_or filling.shares.items c.loop-group.group 0 =
     c.index-share.ensures ∙ get_or_default filling.shares.items c.loop-group.group c.index-share.result.now 0 (omega (arith, c.requires.shares)) in
     let line : c.in_ok-group_line.field-0 ≡ line_in c.args.plan.now filling c.loop-group.group =
-    rw (c.deref.ensures.value, c.deref-in-loop-group.ensures.value, ← row, share) at c.in_ok-group_line.ensures in
+    rw (c.in_ok-firsts.ensures, c.deref.ensures.value, c.deref-in-loop-group.ensures.value, ← row, share) at c.in_ok-group_line.ensures in
     rw (map-range_with_len_more (line_in c.args.plan.now filling) 0 c.loop-group.group c.loop-group.group (zero-add c.loop-group.group), ← c.loop-group.invariant, ← line)
     c.in_ok-push.ensures.items

@@ -1,7 +1,8 @@
 use Rattle.std.proofs.Common.{◌≡◌, take, false}
 use Rattle.std.specs.List.{list_any}
-use Rattle.bwe_specs.specs.Paths.{uses, path_group_at}
+use Rattle.mpfa_fill.specs.Closings.{is_closed}
 use Rattle.mpfa_fill.proofs.standing.uses_closed.Given as goal
 
-abbrev pub invariant-loop-closing : goal.invariant-loop-closing
-invariant-loop-closing l = list_any (λ closing. uses (path_group_at l.plan l.group l.place) closing.link) (take l.closing-index l.closings) ≡ false
+-- the links of the parts before were not closed
+abbrev pub invariant-loop-part : goal.invariant-loop-part
+invariant-loop-part l = list_any (λ part. is_closed l.closings part.link) (take l.part-index l.part-items) ≡ false

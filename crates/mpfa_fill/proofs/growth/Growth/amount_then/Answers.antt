@@ -17,9 +17,9 @@ overflow_add-result g c =
     let never : NeverFalls wan = never_falls _ _ _ m.known in
     let closings : List Closing = closings_in c.args.self.now in
     let inside = (current-open _ (closed_links closings) c.args.term.place t.grows).0 in
-    let then = amount-small wan never closings m.right (together _ c.args.self.now.plan.now m.known m.count) c.args.share c.args.term.group c.args.term.place c.requires.last c.requires.within t.in_range inside in
+    let then = amount-small wan never closings m.order (together _ c.args.self.now.plan.now m.known m.count) c.args.share c.args.term.group c.args.term.place c.requires.last c.requires.within t.in_range inside in
     let before = added-small c.args.self.now.plan.now c.args.self.now.sums m.summed c.args.term.group c.args.term.place t.in_range inside in
-    omega (arith, before, then.1, t.amount, c.value.ensures)
+    omega (arith, before, then.1, t.amount, c.value_then.ensures)
 
 pub returns-clause-small : goal.returns-clause-small
 returns-clause-small g c =
@@ -29,5 +29,5 @@ returns-clause-small g c =
     let never : NeverFalls wan = never_falls _ _ _ m.known in
     let closings : List Closing = closings_in c.args.self.now in
     let inside = (current-open _ (closed_links closings) c.args.term.place t.grows).0 in
-    let then = amount-small wan never closings m.right (together _ c.args.self.now.plan.now m.known m.count) c.args.share c.args.term.group c.args.term.place c.requires.last c.requires.within t.in_range inside in
-    omega (arith, t.has c.args.share c.requires.last c.requires.within, t.amount, c.value.ensures, then.0, then.1)
+    let then = amount-small wan never closings m.order (together _ c.args.self.now.plan.now m.known m.count) c.args.share c.args.term.group c.args.term.place c.requires.last c.requires.within t.in_range inside in
+    omega (arith, t.has c.args.share c.requires.last c.requires.within, t.amount, c.value_then.ensures, then.0, then.1)

@@ -39,7 +39,7 @@ change-requires-clause-total g c =
     omega (
       arith,
       c.value-now.ensures,
-      total-room wan never closings m.right (added_in c.args.self.now) m.elsewhere (together _ c.args.self.now.plan.now m.known m.count)
+      total-room wan never closings m.order (added_in c.args.self.now) m.elsewhere (together _ c.args.self.now.plan.now m.known m.count)
           (λ h hl. (slice_index_or c.args.self.now.standings.items h (Stopped 0), m.each h hl))
           c.args.group c.in-Grows.place c.in-Grows.value c.args.share c.requires.group held c.requires.last c.requires.within,
     )

@@ -25,7 +25,7 @@ returns g c =
     let added : ℕ → ℕ → ℕ = added_in c.args.self in
     let at_top : c.args.top ≡ wan.top = c.requires.top in
     let fits : over_at wan closings wan.top ≡ None = subst (λ share. over_at wan closings share ≡ None) at_top c.requires.fits in
-    let found = right-closings wan (never_falls _ _ _ m.known) closings (m.right, fits) in
+    let found = right-closings wan (never_falls _ _ _ m.known) closings (c.requires.right, fits) in
     let stops : map (stop_of c.args.top) standings ≡ map (group_stop wan (filling wan)) (numbers (length wan.groups)) =
     fill_by_all (group_stop wan (filling wan)) (map (stop_of c.args.top) standings) (length wan.groups) 0
     (length_map (stop_of c.args.top) standings ∙ m.each_group)
@@ -34,7 +34,7 @@ returns g c =
     ∙ held-stop wan closings added group (slice_index_or standings group (Stopped 0)) (m.each group lt)
     ∙ ap (λ (cs : List Closing). stop_share (slice_index_or wan.groups group []) cs wan.top) found.0) in
     record {
-      closings = sym (reverse-reverse c.args.self.closings.items) ∙ ap reverse found.0;
+      closings = c.into_list.ensures ∙ sym (reverse-reverse c.args.self.closings) ∙ ap reverse found.0;
       amounts = c.in_ok-amounts.ensures
           ∙ ap (λ (x : ℕ → ℕ → ℕ). map (λ group. map (x group) (numbers (path_group_count wan.groups group))) (numbers (length wan.groups)))
           (c.requires.up ∙ ap (amounts_at wan closings) at_top ∙ found.1);

@@ -1,5 +1,4 @@
-use Rattle.std.proofs.Common.{◌∙◌, ap, arith, List}
-use Rattle.bwe_specs.specs.declared.network.Closing.{Closing}
+use Rattle.std.proofs.Common.{◌∙◌, ap, arith}
 use Rattle.bwe_specs.specs.Filling.{closed_links}
 use Rattle.mpfa_fill.specs.Growth.{closings_in}
 use Rattle.mpfa_fill.specs.Standing.{standing_under}
@@ -12,7 +11,6 @@ pub returns-clause-after : goal.returns-clause-after
 returns-clause-after g c =
     let groups = c.args.self.now.plan.now in
     c.standing_after-after.ensures
-    ∙ ap (λ (closings : List Closing). standing_under groups c.args.group (closed_links closings) c.args.closing c.index-before.result.now) c.deref.ensures.value
-    ∙ under-reverse groups c.args.group c.args.self.now.closings.items c.args.closing c.index-before.result.now
+    ∙ under-reverse groups c.args.group c.args.self.now.closings c.args.closing c.index-before.result.now
     ∙ ap (standing_under groups c.args.group (closed_links (closings_in c.args.self.now)) c.args.closing)
     (c.index-before.ensures ∙ any_default c.args.self.now.standings.items c.args.group c.index-before.result.now (Stopped 0) (omega (arith, c.requires.group, c.requires.standings)))

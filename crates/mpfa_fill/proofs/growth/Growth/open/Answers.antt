@@ -22,11 +22,11 @@ returns-clause-growth g c =
     let standing : ℕ → Standing = λ group. standing_of (current_path_group (slice_index_or c.args.plan.now group []) []) 0 0 in
     let made = c.in_ok-standings.ensures.standings in
     let added : ℕ → ℕ → ℕ = amount_at c.in_ok-sums.sums.amounts in
-    subst (λ (cs : List Closing). IsGrowthOf values wan cs c.in_ok-standings.standings.items c.in_ok-sums.sums) (sym (ap reverse c.new.ensures.items))
+    subst (λ (cs : List Closing). IsGrowthOf values wan cs c.in_ok-standings.standings.items c.in_ok-sums.sums) (sym (ap reverse c.in_ok-closings.ensures))
     (record {
       known = c.requires.values;
       count = c.requires.groups;
-      right = tt;
+      order = tt;
       summed = c.in_ok-sums.ensures.summed;
       links = c.in_ok-sums.ensures.links;
       elsewhere = elsewhere-first wan added c.in_ok-sums.ensures.none;

@@ -14,7 +14,7 @@ use Rattle.mpfa_fill.specs.declared.standing.Standing.{Standing}
 use Rattle.mpfa_fill.specs.declared.standing.Standing.TheVariants.{Stopped}
 use Rattle.mpfa_fill.proofs.Closed.{held-after, elsewhere-after}
 use Rattle.mpfa_fill.proofs.Growths.{growth-along, held-placed, up-over, wan-kept}
-use Rattle.mpfa_fill.proofs.MomentLemmas.{never_falls, reverse_push}
+use Rattle.mpfa_fill.proofs.MomentLemmas.{never_falls, reverse_push, right-all-along}
 use Rattle.mpfa_fill.proofs.StandingLemmas.{gone-written, left-written}
 use Rattle.mpfa_fill.proofs.moment.Moment.close_link.Goals as goal
 
@@ -60,7 +60,7 @@ loop-group-preserved g c =
     let in_items : group < length c.loop-group.self.growth.standings.items = omega (arith, lt, i.each_group) in
     let standing : Standing = standing_at c.loop-group.self.growth group in
     let before : IsHeld wan earlier added group standing = i.left group (omega arith) lt in
-    let closings : closings_in c.loop-group.self.growth ≡ closing ∷ earlier = ap reverse i.closings ∙ reverse_push c.args.self.now.growth.closings.items closing in
+    let closings : closings_in c.loop-group.self.growth ≡ closing ∷ earlier = ap reverse i.closings ∙ reverse_push c.args.self.now.growth.closings closing in
     let after : IsHeld wan (closing ∷ earlier) added group (standing_under wan.groups group (closed_links (closing ∷ earlier)) closing standing) =
     held-after wan never earlier closing m.last m.within added m.growth.elsewhere group standing before
     (up-over wan earlier added closing.share closing.link group standing m.amounts m.last m.within before) in
@@ -73,7 +73,7 @@ loop-group-preserved g c =
         plan = e.network.plan ∙ i.network.plan;
       };
       share = i.share;
-      closings = ap (λ cs. cs.items) e.closings ∙ i.closings;
+      closings = e.closings ∙ i.closings;
       sums = e.sums ∙ i.sums;
       each_group = ap length e.standings ∙ length-set c.loop-group.self.growth.standings.items group c.move_on.result.1 ∙ i.each_group;
       gone = λ k kl. subst (λ items. IsHeld wan (closing ∷ earlier) added k (slice_index_or items k (Stopped 0))) (sym e.standings)
@@ -95,14 +95,14 @@ returns-clause-moment g c =
     let earlier : List Closing = closings_in old in
     let closing : Closing = record { link = c.args.link; share = c.args.self.now.share } in
     let added : ℕ → ℕ → ℕ = added_in old in
-    let closings : closings_in new ≡ closing ∷ earlier = ap reverse i.closings ∙ reverse_push old.closings.items closing in
+    let closings : closings_in new ≡ closing ∷ earlier = ap reverse i.closings ∙ reverse_push old.closings closing in
     let held = m.growth.each in
     record {
       growth = growth-along _ _ _ _ _ _ _ _ _ _ _ (ap meaning i.network.values) i.network.plan (ap (λ n. n.capacities) i.network.topology) closings i.sums
           (record {
             known = m.growth.known;
             count = m.growth.count;
-            right = (m.growth.right, c.requires.right);
+            order = (m.growth.order, c.requires.right.share_keeps, c.requires.right.below_top);
             summed = m.growth.summed;
             links = m.growth.links;
             elsewhere = elsewhere-after wan never earlier closing m.last m.within added m.growth.elsewhere (standing_at old) held
@@ -110,6 +110,7 @@ returns-clause-moment g c =
             each_group = i.each_group;
             each = λ group lt. i.gone group (omega (arith, lt, c.groups-group-end.ensures, c.loop-group-test.false, ap length c.close.ensures.network.plan));
           });
+      right = right-all-along _ wan _ (closing ∷ earlier) (wan-kept meaning old new i.network) closings (m.right, c.requires.right);
       last = rw (closings, i.share) (le_refl closing.share);
       within = rw (i.share, wan-kept meaning old new i.network) m.within;
       amounts = ap (λ sums. amount_at sums.amounts) i.sums ∙ m.amounts ∙ amounts_at-closed wan closing earlier

@@ -8,7 +8,7 @@ abbrev pub invariant-loop-group : goal.invariant-loop-group
 invariant-loop-group g l = record {
   network : KeepsNetwork l.fn.self.growth l.self.growth;
   share : l.self.share ≡ l.fn.self.share;
-  closings : l.self.growth.closings.items ≡ l.fn.self.growth.closings.items ++ record { link = l.link; share = l.fn.self.share } ∷ [];
+  closings : l.self.growth.closings ≡ l.fn.self.growth.closings ++ record { link = l.link; share = l.fn.self.share } ∷ [];
   sums : l.self.growth.sums ≡ l.fn.self.growth.sums;
   each_group : length l.self.growth.standings.items ≡ length l.fn.self.growth.plan.now;
   gone : (group : ℕ) → group < l.group → IsHeld (wan_in g.V.GroupValues.meaning l.fn.self) (record { link = l.link; share = l.fn.self.share } ∷ closings_in l.fn.self.growth) (added_in l.fn.self.growth) group (standing_at l.self.growth group);

@@ -1,0 +1,4 @@
+pub mod Walks
+mod Listing
+pub mod Moving
+pub mod GroupMoves

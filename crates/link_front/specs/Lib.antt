@@ -1,0 +1,3 @@
+pub mod ByLink
+pub mod Front
+pub mod Moves

@@ -1,0 +1,28 @@
+use Rattle.std.proofs.Common.{◌≡◌, ◌∙◌, sym, ap, ap₂, reverse, List}
+use Rattle.bwe_specs.specs.declared.network.Closing.{Closing}
+use Rattle.bwe_specs.specs.Filling.{Wan}
+use Rattle.bwe_specs.specs.RightClosings.{amounts_at, over_at}
+use Rattle.mpfa_fill.specs.Growth.{closings_in as growth_closings}
+use Rattle.link_front.specs.Front.{closings_in}
+use Rattle.mpfa_fill.proofs.MomentLemmas.{right-all-along}
+use Rattle.link_solver.proofs.search.into_filling.Goals as goal
+
+pub into_filling-requires-clause-top : goal.into_filling-requires-clause-top
+into_filling-requires-clause-top g c = c.requires.top ∙ ap (λ wan. wan.top) (sym c.bring_all_up.ensures.wan)
+
+pub into_filling-requires-clause-up : goal.into_filling-requires-clause-up
+into_filling-requires-clause-up g c =
+    let e = c.bring_all_up.ensures in
+    let closings : growth_closings c.bring_all_up.new.self ≡ closings_in c.args.front = ap reverse e.parts.closings in
+    e.up ∙ ap₂ (λ (wan : Wan) (cs : List Closing). amounts_at wan cs c.args.top) (sym e.wan) (sym closings)
+
+pub into_filling-requires-clause-fits : goal.into_filling-requires-clause-fits
+into_filling-requires-clause-fits g c =
+    let e = c.bring_all_up.ensures in
+    let closings : growth_closings c.bring_all_up.new.self ≡ closings_in c.args.front = ap reverse e.parts.closings in
+    ap₂ (λ (wan : Wan) (cs : List Closing). over_at wan cs c.args.top) e.wan closings ∙ c.requires.fits
+
+pub into_filling-requires-clause-right : goal.into_filling-requires-clause-right
+into_filling-requires-clause-right g c =
+    let e = c.bring_all_up.ensures in
+    right-all-along _ _ _ _ e.wan (ap reverse e.parts.closings) c.requires.right

@@ -1,0 +1,2 @@
+pub mod MaxMin
+pub mod Laws

@@ -1,0 +1,72 @@
+use Rattle.std.proofs.Common.{◌≡◌, ℕ, ◌<◌, ◌+◌, arith, ap, refl, ◌∙◌, List, get_or, take, length, None}
+use Rattle.std.proofs.lemmas.List.{take_more}
+use Rattle.std.proofs.lemmas.List.Sums.{sum_by_push}
+use Rattle.bwe_specs.specs.declared.network.Closing.{Closing}
+use Rattle.bwe_specs.specs.Filling.{Wan, closed_links}
+use Rattle.bwe_specs.specs.Paths.{path_group_at, load_on}
+use Rattle.bwe_specs.specs.RightClosings.{amounts_at}
+use Rattle.bwe_specs.proofs.Loads.{current-open}
+use Rattle.link_sums.proofs.Totals.{link_load-le}
+use Rattle.mpfa_fill.specs.declared.growth.Term.{Term}
+use Rattle.mpfa_fill.specs.Growth.{wan_in, closings_in, added_in, IsTermOf, terms_load}
+use Rattle.mpfa_fill.proofs.Small.{added-small}
+use Rattle.mpfa_fill.proofs.growth.Growth.load_at.Goals as goal
+
+-- one more term is added
+more : (wan : Wan) (link i : ℕ) (amounts : ℕ → ℕ → ℕ) (terms : List Term) (d : Term) → i < length terms
+    → terms_load wan link amounts (take (i + 1) terms)
+    ≡ terms_load wan link amounts (take i terms) + load_on (path_group_at wan.groups (get_or terms i d).group (get_or terms i d).place) link (amounts (get_or terms i d).group (get_or terms i d).place)
+more wan link i amounts terms d lt =
+    ap (terms_load wan link amounts) (take_more terms i d lt)
+    ∙ sum_by_push (λ term. load_on (path_group_at wan.groups term.group term.place) link (amounts term.group term.place)) (take i terms) (get_or terms i d)
+
+pub loop-term-init : goal.loop-term-init
+loop-term-init g c =
+    let m = c.requires.growth in
+    record {
+      load = omega (arith, c.load-load.ensures, m.summed.loads c.args.link (omega (arith, m.links, c.requires.link)));
+      held = refl;
+      load_small = omega (
+        arith,
+        c.load-load.ensures,
+        m.summed.loads c.args.link (omega (arith, m.links, c.requires.link)),
+        link_load-le c.args.self.now.plan.now m.summed.plan c.args.self.now.sums.amounts c.args.link,
+        m.summed.total,
+      );
+      held_small = omega arith;
+    }
+
+pub load-requires-clause-place : goal.load-requires-clause-place
+load-requires-clause-place g c =
+    let is : IsTermOf _ _ _ _ _ = c.requires.terms.each c.loop-term.term-index (record { group = 0; place = 0; amount = 0; value = 0; known = None }) c.loop-term-test.true in
+    (current-open _ (closed_links (closings_in c.args.self.now)) _ is.grows).0
+
+pub load-requires-clause-amount : goal.load-requires-clause-amount
+load-requires-clause-amount g c =
+    let wan : Wan = wan_in g.V.GroupValues.meaning c.args.self.now in
+    let closings : List Closing = closings_in c.args.self.now in
+    let term : Term = get_or c.args.terms.now c.loop-term.term-index (record { group = 0; place = 0; amount = 0; value = 0; known = None }) in
+    let is : IsTermOf wan closings (added_in c.args.self.now) term.group term = c.requires.terms.each c.loop-term.term-index (record { group = 0; place = 0; amount = 0; value = 0; known = None }) c.loop-term-test.true in
+    omega (arith, is.amount, added-small c.args.self.now.plan.now c.args.self.now.sums c.requires.growth.summed term.group term.place is.in_range (current-open _ (closed_links closings) term.place is.grows).0)
+
+pub load-requires-in-loop-term-clause-place : goal.load-requires-in-loop-term-clause-place
+load-requires-in-loop-term-clause-place g c =
+    let is : IsTermOf _ _ _ _ _ = c.requires.terms.each c.loop-term.term-index (record { group = 0; place = 0; amount = 0; value = 0; known = None }) c.loop-term-test.true in
+    (current-open _ (closed_links (closings_in c.args.self.now)) _ is.grows).0
+
+pub loop-term-preserved : goal.loop-term-preserved
+loop-term-preserved g c =
+    let wan : Wan = wan_in g.V.GroupValues.meaning c.args.self.now in
+    let closings : List Closing = closings_in c.args.self.now in
+    let d : Term = record { group = 0; place = 0; amount = 0; value = 0; known = None } in
+    let i = c.loop-term.term-index in
+    let term : Term = get_or c.args.terms.now c.loop-term.term-index d in
+    let is : IsTermOf wan closings (added_in c.args.self.now) term.group term = c.requires.terms.each i d c.loop-term-test.true in
+    let load : ℕ → ℕ = load_on (path_group_at wan.groups term.group term.place) c.args.link in
+    let small = added-small c.args.self.now.plan.now c.args.self.now.sums c.requires.growth.summed term.group term.place is.in_range (current-open _ (closed_links closings) term.place is.grows).0 in
+    record {
+      load = omega (arith, c.loop-term.invariant.load, c.load-in-loop-term.ensures.load, ap load c.amount_then-then.ensures.amount, more wan c.args.link i (amounts_at wan closings c.args.share) c.args.terms.now d c.loop-term-test.true);
+      held = omega (arith, c.loop-term.invariant.held, c.load.ensures.load, ap load is.amount, more wan c.args.link i (added_in c.args.self.now) c.args.terms.now d c.loop-term-test.true);
+      load_small = omega (arith, c.loop-term.invariant.load_small, c.load-in-loop-term.ensures.at_most, c.amount_then-then.ensures.small);
+      held_small = omega (arith, c.loop-term.invariant.held_small, c.load.ensures.at_most, is.amount, small);
+    }
