@@ -8,18 +8,21 @@
 //! of time, nor that memory is there.
 #![tactic(auto)]
 
+ghost use Rattle.std.specs.Prelude.{◌≡◌, false, Some};
 ghost use Rattle.command_line.specs.Lines.{command_line_of, texts_of};
-ghost use Rattle.top_call.specs.TopCall.{IsServed};
+ghost use Rattle.command_line.specs.Ranges.{IsInRange};
+ghost use Rattle.top_call.specs.TopCall.{IsServed, needs_threads};
 
 mod answers;
 mod run;
 
-use answers::answer;
+use answers::answer_in_time;
 use bwe_io::{Sink, Source};
 use bwe_specs::OutOfMemory;
-use command_line::command_line_of_words;
+use command_line::{CommandLine, command_line_of_words};
 use crew_actors::Gate;
 use one_run::{finish, refuse_input, write_usage};
+use run::serve_run;
 use std::alloc::Global;
 use std::sync::Wait;
 use std::thread::Threads;
@@ -30,7 +33,7 @@ use top_call::read_input_of;
 /// `words` are those after the program's name. `run` puts a reporter for each of the document's
 /// reporters, the allocator and the readers on threads; `gate` is called round each of their calls.
 /// `levels` works its values out on threads. The whole text is made before its first byte is
-/// written. Where the line is not `run`, it returns provided that the source and the sink return.
+/// written. `run` alone may wait; every other command goes to `serve_in_time`, which returns.
 pub fn bwe<S: Source, K: Sink, G: Gate + Sync, R: Threads + Wait + Sync>(
     rt: &R,
     alloc: Global,
@@ -54,13 +57,41 @@ pub fn bwe<S: Source, K: Sink, G: Gate + Sync, R: Threads + Wait + Sync>(
       write_faults = K.faults;
     }) result }
 {
-    let line = match command_line_of_words(alloc, words) {
-        Ok(Some(line)) => line,
-        Ok(None) => return write_usage(sink),
-        Err(OutOfMemory) => return 6,
-    };
+    match command_line_of_words(alloc, words) {
+        Ok(Some(CommandLine::Run { readers, reads })) => {
+            serve_run(rt, alloc, readers, reads, source, sink, gate)
+        }
+        Ok(Some(line)) => serve_in_time(rt, alloc, line, source, sink),
+        Ok(None) => write_usage(sink),
+        Err(OutOfMemory) => 6,
+    }
+}
+
+/// Serves a command other than `run`, and answers the exit status. It waits for nobody: it has no
+/// bound `Wait`, so the language itself says that it returns, provided that the source and the sink
+/// return.
+pub fn serve_in_time<S: Source, K: Sink, R: Threads + Sync>(
+    rt: &R,
+    alloc: Global,
+    line: CommandLine,
+    source: &mut S,
+    sink: &mut K,
+) -> u8
+    requires range { IsInRange line }
+    requires waits_for_nobody { needs_threads line ≡ false }
+    ensures { IsServed (Some line) (record {
+      source = source.old;
+      source_after = source.new;
+      left = S.left;
+      read_faults = S.faults;
+      sink = sink.old;
+      sink_after = sink.new;
+      written = K.written;
+      write_faults = K.faults;
+    }) result }
+{
     match read_input_of(alloc, line, source) {
-        Ok(input) => finish(sink, answer(rt, alloc, line, &input, gate)),
+        Ok(input) => finish(sink, answer_in_time(rt, alloc, line, &input)),
         Err(error) => refuse_input(sink, error),
     }
 }

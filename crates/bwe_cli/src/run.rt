@@ -1,29 +1,64 @@
-//! The line `run`: reporters, the allocator and readers on threads, over a board.
+//! The command `run`: reporters, the allocator and readers on threads, over a board.
 
-ghost use Rattle.std.specs.Prelude.{◌≡◌, ◌≤◌, IfOk};
+ghost use Rattle.std.specs.Prelude.{◌≡◌, ◌≤◌, IfOk, Some};
 ghost use Rattle.plan_doc.specs.Conditions.{IsUsable, reporter_count};
 ghost use Rattle.plan_doc.specs.Document.{document as document_of};
 ghost use Rattle.plan_doc.specs.Plans.{plan_in};
 ghost use Rattle.crew_log.specs.LegalCrewLog.{IsClosed};
+ghost use Rattle.command_line.specs.declared.CommandLine.TheVariants.{Run};
 ghost use Rattle.top_call.specs.RunLine.{IsRunReply};
 ghost use Rattle.top_call.specs.Runs.{IsRunOf};
+ghost use Rattle.top_call.specs.TopCall.{IsServed};
 
+use bwe_io::{Sink, Source};
 use bwe_specs::{MAX_READERS, MAX_READS, OutOfMemory};
+use command_line::CommandLine;
 use crew::run_crew;
 use crew_actors::Gate;
 use crew_log::CrewLog;
 use document_scripts::scripts_of_document;
 use limit_table::LimitTable;
-use one_run::Answer;
+use one_run::{Answer, finish, refuse_input};
 use opened_document::{Opened, open, refused};
 use plan_doc::{Document, Names, read_document};
 use run_text::run_text;
 use std::alloc::Global;
 use std::sync::Wait;
 use std::thread::Threads;
+use top_call::read_input_of;
 
-/// The text of a run of the document's script, or the line of its refusal.
-pub(crate) fn run<G: Gate + Sync, R: Threads + Wait + Sync>(
+/// Serves `run`, and answers the exit status. It alone of all commands may wait.
+pub(crate) fn serve_run<S: Source, K: Sink, G: Gate + Sync, R: Threads + Wait + Sync>(
+    rt: &R,
+    alloc: Global,
+    readers: u32,
+    reads: u32,
+    source: &mut S,
+    sink: &mut K,
+    gate: &G,
+) -> u8
+    requires some_readers { 1 ≤ readers }
+    requires few_readers { readers ≤ MAX_READERS }
+    requires few_reads { reads ≤ MAX_READS }
+    ensures { IsServed (Some (Run readers reads)) (record {
+      source = source.old;
+      source_after = source.new;
+      left = S.left;
+      read_faults = S.faults;
+      sink = sink.old;
+      sink_after = sink.new;
+      written = K.written;
+      write_faults = K.faults;
+    }) result }
+{
+    match read_input_of(alloc, CommandLine::Run { readers, reads }, source) {
+        Ok(input) => finish(sink, run(rt, alloc, &input, readers, reads, gate)),
+        Err(error) => refuse_input(sink, error),
+    }
+}
+
+// The text of a run of the document's script, or the line of its refusal.
+fn run<G: Gate + Sync, R: Threads + Wait + Sync>(
     rt: &R,
     alloc: Global,
     input: &[u8],

@@ -16,7 +16,7 @@ use std::alloc::Global;
 mod matches;
 mod number;
 
-/// A command line ("Command lines", docs/FORMAT.md).
+/// A command line ("Commands", docs/FORMAT.md).
 #[derive(Clone, Copy, Debug, PartialEq, Eq, Drop)]
 pub enum CommandLine {
     /// Reads a document, and writes its table of limits.

@@ -21,6 +21,6 @@ mod text;
 
 pub use event::{EventError, EventLine, MAX_EVENTS};
 pub use events::read_events;
-pub use law::written_events_are_lawful;
+pub use law::{there_are_at_most_2000_events, written_events_are_lawful};
 pub use refusal_line::event_refusal_line;
 pub use run::enforce;

@@ -1,6 +1,9 @@
-//! The laws of the cutter, each the contract of a function that does nothing.
+//! The laws of lines, each the contract of a function that does nothing.
 
+ghost use Rattle.std.specs.Prelude.{◌≡◌};
 ghost use Rattle.live_lines.specs.Laws.{PiecesDoNotMatter, LinesAreOfTheText};
+
+use crate::cutter::MAX_LINE;
 
 /// The lines of bytes are the same in whatever pieces the bytes come.
 pub fn pieces_do_not_matter()
@@ -10,4 +13,9 @@ pub fn pieces_do_not_matter()
 /// The lines are those of the whole text, of which each that is too long is none.
 pub fn lines_are_of_the_text()
     ensures { LinesAreOfTheText }
+{}
+
+/// The longest line that docs/FORMAT.md states is that of the code.
+pub fn a_line_has_at_most_255_bytes()
+    ensures { MAX_LINE ≡ 255 }
 {}

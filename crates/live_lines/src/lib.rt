@@ -15,5 +15,5 @@ mod line;
 
 pub use cutter::{LineCutter, MAX_LINE};
 pub use known::Known;
-pub use laws::{lines_are_of_the_text, pieces_do_not_matter};
+pub use laws::{a_line_has_at_most_255_bytes, lines_are_of_the_text, pieces_do_not_matter};
 pub use line::{LineCause, LineMeaning};

@@ -12,7 +12,7 @@ use one_run::Answer;
 use solve_answer::solve;
 use std::alloc::Global;
 
-/// What a line writes for its input ("Command lines", docs/FORMAT.md), for each line that needs no
+/// What a line writes for its input ("Commands", docs/FORMAT.md), for each line that needs no
 /// threads, and with which status. It waits for nobody.
 pub fn answer_in_turn(alloc: Global, line: CommandLine, input: &[u8]) -> Result<Answer, OutOfMemory>
     requires range { IsInRange line }

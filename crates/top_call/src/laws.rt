@@ -1,10 +1,13 @@
 //! What a status tells of a call, and what joins two lines, each law the contract of a function
 //! that does nothing.
 
+ghost use Rattle.std.specs.Prelude.{◌≡◌};
 ghost use Rattle.top_call.specs.Laws.{RunsAreLegal, SolvedIsServed, WhatRanIsFoundLegal};
 ghost use Rattle.top_call.specs.Statuses.{AcceptedIsAnswered, AnAnswerIsWhole, NothingIsWritten};
 
 use bwe_io::{Sink, Source};
+use bwe_specs::{MAX_READERS, MAX_READS, MAX_REPORTERS, MAX_REPORTS};
+use one_run::MAX_INPUT;
 
 /// An answer is whole: the status is 0, 1 or 3 exactly where the words are a line, its whole input
 /// was taken in, and what the line may get for it with that status was written whole ("Statuses",
@@ -41,4 +44,14 @@ pub fn what_ran_is_found_legal<S: Source, K: Sink, T: Source, L: Sink>()
 /// line `solve` may, and in no other way.
 pub fn solved_is_served<S: Source, K: Sink>()
     ensures { SolvedIsServed S K }
+{}
+
+/// The limits that docs/FORMAT.md states are those of the code: readers and their reads, reporters
+/// and reports of a run, bytes of an input.
+pub fn limits_are_those_of_the_format()
+    ensures readers { MAX_READERS ≡ 64 }
+    ensures reads { MAX_READS ≡ 1_000 }
+    ensures reporters { MAX_REPORTERS ≡ 64 }
+    ensures reports { MAX_REPORTS ≡ 200_000 }
+    ensures input { MAX_INPUT ≡ 67_108_864 }
 {}
