@@ -4,41 +4,50 @@
 ## make bwe      proves and builds bwe alone; make bwe_solve what a first table needs
 ## make check    every proof, the edits that have to be refused, every test, then the whole cases
 ## make edits    the edits that the gate leaves out, of crates whose proof is long
+## make plant-main  wrong bodies that proofs let through, each of which has to fail a case
 ## make cases    the whole cases alone, on the built program
 ## make tools    the tests of tools/
+## make chaos    faults on bwe-control over both stores, judged; SECONDS=60 SEED=1 STORE=both
+## make chaos-mutants  broken allocators, each of which the judge of chaos has to find
 ## make look     a first table in a minute; nothing of it is proved
+## make study    tables of thirty networks and demands beside stored optima
+## make study-references  the optima of the study anew, and docs/QUALITY.md
 ## make bench    times of the program on made documents
+## make demo     real TCP that keeps to the limits, in five minutes, as root; QUICK=1 in 30 seconds
+## make install  installs what stands built below PREFIX, /usr/local, and DESTDIR
+## make deb      makes a package for Debian in dist/; make release a tarball that works unpacked
 ## make clean    removes all that was proved and built
 #
 # Sources decide what is stale, and of that rt proves again only what has changed. A library counts
 # as built by the stamp that rt leaves in its out/rlib, a program by itself.
 
 SHELL := /bin/bash
-# Crates that could be proved take turns in tools/prove.
+# Crates that could be proved take turns in tools/build/prove.
 ifeq ($(MAKELEVEL),0)
 MAKEFLAGS += --jobs --no-print-directory --no-builtin-rules
 endif
-# For tools/prove, which counts what these have still to prove.
+# For tools/build/prove, which counts what these have still to prove.
 export goals := $(filter-out check,$(MAKECMDGOALS))
 
 # What each crate stands on: the lines of crates.txt, here as NAME:DEP,DEP without blanks.
 comma    := ,
 lines    := $(shell sed -nE 's/^([a-z0-9_]+)[^:]*: */\1:/p' crates.txt | tr -s ' ' ,)
-crates   := $(shell tools/chains)
+crates   := $(shell tools/build/chains)
 programs := $(patsubst crates/%/src/main.rt,%,$(wildcard $(crates:%=crates/%/src/main.rt)))
 files    := $(shell find $(crates:%=crates/%) -name out -prune -o -print)
 below     = $(filter $(subst $(comma), ,$(patsubst $1:%,%,$(filter $1:%,$(lines)))),$(crates))
 sources   = $(filter crates/$1/src% crates/$1/specs% crates/$1/proofs%,$(files))
 built     = $(if $(filter $1,$(programs)),crates/$1/out/$1,crates/$1/out/rlib/stamp)
 
-.PHONY: build check edits cases tools look bench clean help $(programs)
+.PHONY: build check edits plant-main cases tools look study study-references bench demo install deb release clean help $(programs)
+.PHONY: chaos chaos-mutants
 build: $(programs)
 $(foreach it,$(programs),$(eval $(it): $(call built,$(it))))
 
 # One target a crate, after those below it.
 define target
 $(call built,$1): crates.txt $(call sources,$1) $(foreach it,$(call below,$1),$(call built,$(it)))
-	@tools/prove $1
+	@tools/build/prove $1
 endef
 $(foreach it,$(crates),$(eval $(call target,$(it))))
 # A program that is newer than all sources needs no library; an interrupt leaves what is built.
@@ -49,29 +58,64 @@ check:
 	rt ci
 	@# The programs are now built of these sources by the gate; libraries of older ones go.
 	@chmod +x $(foreach it,$(programs),$(call built,$(it)))
-	@$(MAKE) -n | sed -n 's|^tools/prove \(.*\)|crates/\1/out/rlib/stamp|p' | xargs rm -f
-	@tools/packages && $(MAKE) tools || [ $$? = 3 ]
-	@tools/cases.py
+	@$(foreach it,$(programs),tools/build/sources $(it) >$(call built,$(it)).sources;)
+	@$(MAKE) -n | sed -n 's|^tools/build/prove \(.*\)|crates/\1/out/rlib/stamp|p' | xargs rm -f
+	@tools/build/packages && $(MAKE) tools || [ $$? = 3 ]
+	@tools/check/cases.py
 
 edits: $(programs)
-	@tools/edits
+	@tools/build/edits
+
+plant-main: $(programs)
+	@tools/check/wrong_mains.py
 
 cases: $(programs)
-	@tools/cases.py
+	@tools/check/cases.py
 
 tools:
-	@tools/packages
-	@[ ! -d tools/tests ] || /usr/bin/python3 -m pytest -q -p no:cacheprovider tools
+	@tools/build/packages
+	@/usr/bin/python3 -m pytest -q -p no:cacheprovider tools
+	@/usr/bin/python3 -m pytest -q -p no:cacheprovider control
+
+STORE   := both
+SECONDS := 60
+SEED    := 1
+chaos chaos-mutants: export PYTHONPATH := control
+chaos:
+	@tools/build/packages
+	@/usr/bin/python3 -m chaos run --store $(STORE) --seconds $(SECONDS) --seed $(SEED)
+
+chaos-mutants:
+	@tools/build/packages
+	@/usr/bin/python3 -m chaos mutants
 
 look:
 	@echo "bwe: a look before any proof: what follows is compiled, and not proved" >&2
 	@cd crates/bwe_solve && rt try <../../examples/shared-link.json
 
+# The study imports the tools.
+study study-references: export PYTHONPATH := tools:tools/operator
+study: bwe
+	@/usr/bin/python3 -m study check
+
+study-references: bwe
+	@/usr/bin/python3 -m study references
+	@/usr/bin/python3 -m study page
+
 bench: bwe
-	@tools/bench.py
+	@tools/bench/bench.py
+
+install:
+	@PREFIX='$(PREFIX)' DESTDIR='$(DESTDIR)' tools/build/install
+
+deb release:
+	@tools/build/$@
+
+demo: bwe bwe_live
+	@control/demo/run.py $(if $(QUICK),--quick)
 
 clean:
-	rm -rf crates/*/out
+	rm -rf crates/*/out dist
 
 help:
 	@sed -n 's/^## //p' Makefile

@@ -3,19 +3,18 @@
 
 _bwe() {
     local word=${COMP_WORDS[COMP_CWORD]} before=${COMP_WORDS[COMP_CWORD-1]}
-    local lines="solve check run make bulk audit tiers enforce estimate levels"
+    local commands="solve check run make bulk audit tiers enforce estimate levels"
     local numbers=$((COMP_CWORD - 2))
     COMPREPLY=()
     if [ "$COMP_CWORD" -eq 1 ]; then
-        mapfile -t COMPREPLY < <(compgen -W "$lines --help --version" -- "$word")
+        mapfile -t COMPREPLY < <(compgen -W "$commands --help --version" -- "$word")
         return
     fi
     case ${COMP_WORDS[1]} in
-        solve | check | audit | tiers | enforce)
-            [ "$numbers" -eq 0 ] && _bwe_files "$word"
-            ;;
+        solve | check) [ "$numbers" -eq 0 ] && _bwe_files "$word" ;;
+        audit | tiers | enforce) [ "$numbers" -le 1 ] && _bwe_files "$word" ;;
         levels) [ "$numbers" -eq 1 ] && _bwe_files "$word" ;;
-        estimate) [ "$numbers" -eq 2 ] && _bwe_files "$word" ;;
+        estimate) [ "$numbers" -ge 2 ] && [ "$numbers" -le 3 ] && _bwe_files "$word" ;;
         run)
             [[ $before = --readers || $before = --reads ]] && return
             if [[ $word = -* ]]; then

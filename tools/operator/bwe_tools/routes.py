@@ -1,0 +1,70 @@
+"""The paths of each pair of sites: k shortest ones, by networkx."""
+
+from __future__ import annotations
+
+from collections.abc import Iterable, Mapping
+from itertools import islice
+
+import networkx
+
+MOST_LINKS = 32
+MOST_LOOKS = 64
+
+
+class Routes:
+    """Paths over directed links. A link is a node between its two sites, so parallel links give
+    paths of their own.
+    """
+
+    def __init__(
+        self,
+        links: Iterable[tuple[str, str, str]],
+        lengths: Mapping[str, float | None] | None = None,
+    ) -> None:
+        """`links` are pairs of a name and its two ends; `lengths` the lengths by name, None for
+        paths of fewest links.
+        """
+        self.graph = networkx.DiGraph()
+        for name, source, target in links:
+            length = lengths[name] if lengths else 1
+            self.graph.add_edge(("site", source), ("link", name), length=length)
+            self.graph.add_edge(("link", name), ("site", target), length=0)
+        self.length = "length" if lengths else None
+
+    def between(self, source: str, target: str, most: int) -> list[list[str]]:
+        """At most `most` paths, the shortest first, each a list of link names of at most 32.
+
+        Where one link is on all of them, the last one is the shortest of those that meet the fewest
+        such links.
+        """
+        ends = ("site", source), ("site", target)
+        try:
+            ways = map(link_names, networkx.shortest_simple_paths(self.graph, *ends, self.length))
+            found = list(
+                islice((way for way in islice(ways, MOST_LOOKS) if len(way) <= MOST_LINKS), most)
+            )
+        except (networkx.NetworkXNoPath, networkx.NodeNotFound):
+            return []
+        if most == 1 or not common_links(found):
+            return found
+        first = found[: most - 1]
+        another = self.around(common_links(first), *ends)
+        has_gained = len(common_links([*first, another])) < len(common_links(found))
+        return [*first, another] if has_gained and len(another) <= MOST_LINKS else found
+
+    def around(self, links, source, target) -> list:
+        """The path that meets the fewest of these links, and of those the shortest."""
+        detour = 1 + sum(length for _, _, length in self.graph.edges(data="length"))
+
+        def length_of(_, node, edge):
+            return edge["length"] + (detour if node[0] == "link" and node[1] in links else 0)
+
+        return link_names(networkx.shortest_path(self.graph, source, target, length_of))
+
+
+def common_links(paths) -> set:
+    return set.intersection(*map(set, paths)) if paths else set()
+
+
+def link_names(way) -> list:
+    return [name for kind, name in way if kind == "link"]

@@ -1,0 +1,153 @@
+"""The faults of shape: a document against docs/bwe.schema.json, each with what was likely meant."""
+
+from __future__ import annotations
+
+import json
+from functools import lru_cache
+
+import jsonschema
+
+from bwe_tools import hints, sound
+from bwe_tools.fault import Fault, pointer, walk_order
+from bwe_tools.json_text import shortened
+from bwe_tools.program import page_file
+
+SCHEMA = page_file("bwe.schema.json")
+KINDS = {"integer": "a whole number", "string": "a text", "array": "a list", "object": "an object"}
+FUNCTION_KEYS = ("function", "task")
+NEWER = {
+    "owner": "versions 2 and 3",
+    "weight": "version 3",
+    "link": "versions 2 and 3",
+    "capacity": "versions 2 and 3",
+}
+
+
+@lru_cache(maxsize=None)
+def validator():
+    """The schema's validator, for which a whole number is what the format calls so: 1.0 and true
+    are none.
+    """
+    kinds = jsonschema.Draft202012Validator.TYPE_CHECKER.redefine(
+        "integer", lambda _, value: isinstance(value, int) and not isinstance(value, bool)
+    )
+    made = jsonschema.validators.extend(jsonschema.Draft202012Validator, type_checker=kinds)
+    schema = json.loads(SCHEMA.read_text(encoding="utf-8"))
+    return made(inlined(schema, schema.pop("$defs")))
+
+
+def inlined(schema, definitions: dict):
+    """A schema with each reference replaced by what it names, for a long document much the quicker
+    one to check.
+    """
+    if isinstance(schema, list):
+        return [inlined(part, definitions) for part in schema]
+    if not isinstance(schema, dict):
+        return schema
+    parts = {
+        key: inlined(value, definitions)
+        for key, value in schema.items()
+        if key not in ("$ref", "description")
+    }
+    if "$ref" in schema:
+        return inlined(definitions[schema["$ref"].rsplit("/", 1)[1]], definitions) | parts
+    return parts
+
+
+def point_place(place: tuple) -> tuple | None:
+    """The place of the point of a function that a place is, or lies in."""
+    for at in range(len(place) - 1):
+        is_task_name = place[0] == "script"
+        if place[at] in FUNCTION_KEYS and not is_task_name and isinstance(place[at + 1], int):
+            return place[: at + 2]
+    return None
+
+
+def fault_of(error) -> Fault | None:
+    """The fault of shape that an error of the schema is; None where it is of another rule, as a
+    range.
+    """
+    place, value = tuple(error.absolute_path), error.instance
+    point = point_place(place)
+    if point is not None and (
+        error.validator == "type"
+        or (place == point and error.validator in ("minItems", "maxItems"))
+    ):
+        return Fault(
+            point, "a point of a function is a list of two whole numbers, share and amount"
+        )
+    if error.validator == "type":
+        return kind_fault(place, value, error.validator_value)
+    if error.validator == "required":
+        missing = next(key for key in error.validator_value if key not in value)
+        return Fault(
+            place, f'the key "{missing}" is missing', missing_hint(missing, value, error.schema)
+        )
+    if error.validator == "additionalProperties":
+        known = error.schema["properties"]
+        extra = next(key for key in value if key not in known)
+        return Fault(place, unknown_key(extra, place), key_hint(extra, value, known), key=extra)
+    if error.validator is None:
+        sentence = f'the key "{place[-1]}" is of {NEWER[place[-1]]} alone'
+        return Fault(
+            place[:-1], sentence, f"\"version\":{3 if place[-1] == 'weight' else 2}", key=place[-1]
+        )
+    return None
+
+
+def kind_fault(place: tuple, value, kind: str) -> Fault:
+    written = getattr(value, "text", None) or json.dumps(value, ensure_ascii=False)
+    what = f'"{place[-1]}" is' if place and isinstance(place[-1], str) else "this is"
+    sentence = f"{what} {shortened(written)}, and has to be {KINDS[kind]}"
+    if kind == "integer":
+        return Fault(place, sentence, hints.whole(value))
+    if kind == "array" and isinstance(value, (dict, str)) and value:
+        return Fault(place, sentence, f"[{shortened(written)}]")
+    return Fault(
+        place,
+        sentence,
+        json.dumps(str(value)) if kind == "string" and isinstance(value, int) else None,
+    )
+
+
+def unknown_key(key: str, place: tuple) -> str:
+    where = "a document" if not place else f"{pointer(place)}"
+    return f"the key {json.dumps(shortened(key), ensure_ascii=False)} is none of {where}"
+
+
+def key_hint(key: str, value: dict, known: dict) -> str | None:
+    """The key that a misspelt one stands for: one that the object does not have yet."""
+    if key in NEWER:
+        return f"\"version\":{3 if key == 'weight' else 2}, as {key} is of {NEWER[key]} alone"
+    meant = hints.near(key, [name for name in known if name not in value])
+    return meant and json.dumps(meant)
+
+
+def missing_hint(key: str, value: dict, schema: dict) -> str | None:
+    """The misspelt key that stands in place of a missing one."""
+    known = schema["properties"]
+    if key == "task" and ("link" in value or "capacity" in value):
+        return '"version":2, as reports of capacities are of versions 2 and 3 alone'
+    written = hints.near(key, [name for name in value if name not in known])
+    return written and f'"{key}" for {json.dumps(written, ensure_ascii=False)}'
+
+
+def faults(raw) -> list[Fault]:
+    """The faults of shape in the order of the format's walk: the first is the one that bwe refuses
+    the document for. Of one place there is one.
+    """
+    return [] if sound.is_shaped(raw) else by_schema(raw)
+
+
+def by_schema(raw) -> list[Fault]:
+    """The same, without the short look that tells a sound document."""
+    found = [fault for fault in map(fault_of, validator().iter_errors(raw)) if fault is not None]
+    found.sort(key=lambda fault: walk_order(fault.place))
+    firsts = {fault.place: fault for fault in reversed(found)}
+    return [
+        fault.refused(f"2 shape at {pointer(fault.place)}") for fault in reversed(firsts.values())
+    ]
+
+
+def first_fault(raw) -> Fault | None:
+    return next(iter(faults(raw)), None)

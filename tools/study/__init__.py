@@ -1,0 +1,1 @@
+"""How good the tables of bwe are beside linear programs, on known and on made networks."""
