@@ -1,0 +1,1 @@
+"""The host agent: measures what tasks send, reports demands, and keeps tasks to their limits."""

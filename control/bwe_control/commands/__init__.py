@@ -1,0 +1,1 @@
+"""The commands of bwe-control: each module has one, under the module's name."""

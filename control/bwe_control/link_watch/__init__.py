@@ -1,0 +1,1 @@
+"""The link watcher: reports the capacity of links by the devices and files that know it."""

@@ -1,0 +1,71 @@
+"""What the control plane needs to know of a document: who reports what, and who keeps to what."""
+
+from __future__ import annotations
+
+import json
+from dataclasses import dataclass
+from typing import Any
+
+from bwe_control.errors import Refused
+from bwe_control.keys import is_plain_name
+
+
+@dataclass(frozen=True)
+class Network:
+    """What a document says, and its revision.
+
+    `lines` has for each reporter what a line of its report may begin with (`demand TASK`,
+    `capacity LINK`), and for that how the line of `bwe-live` begins and what holds without a report.
+    """
+
+    revision: int
+    reporters: tuple[str, ...]
+    tasks: dict[str, tuple[str, ...]]
+    lines: dict[str, dict[bytes, tuple[bytes, int]]]
+    owners: dict[str, dict[str, str | None]]
+
+
+def network_of(revision: int, text: bytes) -> Network:
+    """The network of a document that `bwe` accepts; Refused where the control plane does not."""
+    document = json.loads(text)
+    if document["script"]:
+        raise Refused(
+            f"refused script of {len(document['script'])} reports: it has to be empty, since reports"
+            " come from reporters"
+        )
+    reporters = tuple(document["reporters"])
+    if "document" in reporters:
+        raise Refused("refused reporter document: the control plane keeps that name for itself")
+    tasks: dict[str, list[str]] = {name: [] for name in reporters}
+    lines: dict[str, dict[bytes, tuple[bytes, int]]] = {name: {} for name in reporters}
+    for task in _tasks(document):
+        owner, name = task["reporter"], task["name"]
+        tasks[owner].append(name)
+        lines[owner][f"demand {name}".encode()] = (f"demand {owner} {name} ".encode(), 0)
+    for link in document["links"]:
+        owner, name = link.get("owner"), link["name"]
+        if owner is not None:
+            start = f"capacity {owner} {name} ".encode()
+            lines[owner][f"capacity {name}".encode()] = (start, link["capacity"])
+    owners: dict[str, dict[str, str | None]] = {
+        "demand": {task["name"]: task["reporter"] for task in _tasks(document)},
+        "capacity": {link["name"]: link.get("owner") for link in document["links"]},
+    }
+    of_each = {name: tuple(of_one) for name, of_one in tasks.items()}
+    return Network(revision, reporters, of_each, lines, owners)
+
+
+def _tasks(document: Any) -> list[Any]:
+    """All tasks, in the document's order."""
+    return [
+        task
+        for group in document["groups"]
+        for user in group["users"]
+        for job in user["jobs"]
+        for task in job["tasks"]
+    ]
+
+
+def is_reporter(network: Network, name: str) -> bool:
+    """Whether the document has that reporter; a name with odd bytes is none."""
+    return is_plain_name(name) and name in network.tasks

@@ -1,0 +1,110 @@
+"""How a deployment stands, by one reading."""
+
+from __future__ import annotations
+
+from dataclasses import dataclass
+
+from bwe_control.keys import Keys
+from bwe_control.network import Network, is_reporter, network_of
+from bwe_control.store.interface import Entry, Select, Store
+from bwe_control.values import (
+    Posted,
+    Refusals,
+    accepted_of,
+    posted_of,
+    printable,
+    refusals_of,
+    refused_document_of,
+)
+
+
+@dataclass(frozen=True)
+class ReporterStatus:
+    """A reporter of the document in force; `age` is in revisions of the store, None: no report."""
+
+    name: str
+    report: int | None
+    age: int | None
+    refusals: Refusals | None
+
+
+@dataclass(frozen=True)
+class Status:
+    """All that `bwe-control status` says."""
+
+    revision: int
+    leader: str | None
+    document: int | None  # the revision of the operator's document
+    accepted: int | None  # that of the document in force
+    refused_document: tuple[int, str] | None
+    posted: Posted | None
+    lag: int  # by how many revisions the newest report is ahead of the posted prefix
+    reporters: tuple[ReporterStatus, ...]
+    ignored: tuple[str, ...]
+
+
+class StatusReader:
+    """Reads the status again and again; the document in force is looked into once."""
+
+    def __init__(self, store: Store, keys: Keys) -> None:
+        self._store, self._keys = store, keys
+        self._network: Network | None = None
+
+    def read(self) -> Status:
+        """The status of now. StoreError where the store is away."""
+        keys = self._keys
+        since = self._network.revision if self._network else 0
+        singles = [keys.leader, keys.document, keys.posted, keys.refused_document]
+        reading = self._store.read(
+            [
+                *(Select(key) for key in singles),
+                Select(keys.accepted, since=since),
+                Select(keys.reports, True),
+                Select(keys.refusals, True),
+            ]
+        )
+        leader, document, posted, refused, accepted = (it.one() for it in reading.found[:5])
+        if accepted is not None:
+            self._network = _network(*accepted_of(accepted.value))
+        reports = {_name(it, keys.reports): it for it in reading.found[5].entries}
+        refusals = {_name(it, keys.refusals): it for it in reading.found[6].entries}
+        newest = max([it.modified for it in [*reports.values(), document] if it], default=0)
+        table = posted_of(posted.value) if posted else None
+        return Status(
+            revision=reading.revision,
+            leader=printable(leader.value) if leader else None,
+            document=document.modified if document else None,
+            accepted=self._network.revision if self._network else None,
+            refused_document=refused_document_of(refused.value) if refused else None,
+            posted=table,
+            lag=max(0, newest - table.prefix) if table else newest,
+            reporters=self._reporters(reading.revision, reports, refusals),
+            ignored=tuple(it for it in reports if not self._has(it)),
+        )
+
+    def _reporters(
+        self, revision: int, reports: dict[str, Entry], refusals: dict[str, Entry]
+    ) -> tuple[ReporterStatus, ...]:
+        found = []
+        for name in self._network.reporters if self._network else ():
+            report, refused = reports.get(name), refusals.get(name)
+            found.append(
+                ReporterStatus(
+                    name,
+                    report.modified if report else None,
+                    revision - report.modified if report else None,
+                    refusals_of(refused.value) if refused else None,
+                )
+            )
+        return tuple(found)
+
+    def _has(self, name: str) -> bool:
+        return self._network is not None and is_reporter(self._network, name)
+
+
+def _network(revision: int, text: bytes) -> Network:
+    return network_of(revision, text)
+
+
+def _name(entry: Entry, prefix: str) -> str:
+    return entry.key.removeprefix(prefix)

@@ -1,0 +1,1 @@
+"""Stores with a history of revisions: one interface, SQLite and etcd behind it."""

@@ -1,0 +1,78 @@
+"""The bell of a SQLite store: a look each few milliseconds at whether anybody has written."""
+
+from __future__ import annotations
+
+import sqlite3
+import time
+from collections.abc import Callable
+from pathlib import Path
+from types import TracebackType
+
+from bwe_control.errors import StoreError
+from bwe_control.store.sqlite_file import SqliteFile
+from bwe_control.store.sqlite_leases import soonest_end
+
+EACH = 0.005  # seconds between two looks
+Signature = tuple[tuple[int, int], ...]
+
+
+class SqliteBell:
+    """Rings where the keys of some ranges have changed, and where the file does not answer."""
+
+    def __init__(
+        self, folder: Path, ranges: list[tuple[bytes, bytes]], end_leases: Callable[[], None]
+    ) -> None:
+        self._file, self._ranges, self._end_leases = SqliteFile(folder), ranges, end_leases
+        self._version, self._next_end = -1, 0.0
+        self._seen: Signature | None = None
+
+    def wait(self, seconds: float) -> bool:
+        until = time.monotonic() + seconds
+        while True:
+            try:
+                if self._has_changed():
+                    return True
+            except StoreError:
+                time.sleep(min(EACH * 10, max(0.0, until - time.monotonic())))
+                return True
+            left = until - time.monotonic()
+            if left <= 0:
+                return False
+            time.sleep(min(EACH, left))
+
+    def _has_changed(self) -> bool:
+        connection = self._file.connection()
+        try:
+            version = connection.execute("PRAGMA data_version").fetchone()[0]
+            if version != self._version:
+                self._version, self._next_end = version, soonest_end(connection)
+                before, self._seen = self._seen, self._signature(connection)
+                return self._seen != before
+        except sqlite3.Error as fault:
+            self._file.close()
+            raise StoreError(str(fault)) from fault
+        if time.monotonic() >= self._next_end:
+            self._version = -1
+            self._end_leases()
+        return False
+
+    def _signature(self, connection: sqlite3.Connection) -> Signature:
+        """Of each range the greatest modification revision and the number of its keys."""
+        query = (
+            "SELECT coalesce(max(modified), 0), count(*) FROM entries WHERE key >= ? AND key < ?"
+        )
+        return tuple(connection.execute(query, ends).fetchone() for ends in self._ranges)
+
+    def close(self) -> None:
+        self._file.close()
+
+    def __enter__(self) -> SqliteBell:
+        return self
+
+    def __exit__(
+        self,
+        kind: type[BaseException] | None,
+        fault: BaseException | None,
+        trace: TracebackType | None,
+    ) -> None:
+        self.close()

@@ -1,0 +1,1 @@
+"""Chaos: faults on a running control plane, and a judge of what it promised meanwhile."""
