@@ -18,7 +18,7 @@ import time
 from pathlib import Path
 
 HERE = Path(__file__).resolve().parent
-sys.path += [str(HERE.parent), str(HERE.parent.parent / "tools")]
+sys.path += [str(HERE.parent), str(HERE.parent.parent / "tools/check")]
 
 import day
 import live
