@@ -2,6 +2,7 @@
 
 import os
 import sqlite3
+from contextlib import suppress
 from dataclasses import dataclass, field
 from pathlib import Path
 
@@ -64,10 +65,14 @@ class SqliteWorld(World):
 
     def forbid(self, on: bool) -> None:
         """Takes from everybody the right to write the store, or gives it back."""
-        for path in self.home.iterdir() if self.home.exists() else []:
-            path.chmod(0o444 if on else 0o644)
-        if self.home.exists():
-            self.home.chmod(0o555 if on else 0o755)
+        mode = 0o444 if on else 0o644
+        if not self.database.exists():
+            return
+        self.database.chmod(mode)  # first, since files made beside it have its rights
+        for path in self.home.iterdir():
+            with suppress(FileNotFoundError):  # the last one to close the store has just removed it
+                path.chmod(mode)
+        self.home.chmod(0o555 if on else 0o755)
 
     def putter(self) -> list[str]:
         return [*self.on_host(""), *python("chaos.putter_sqlite", str(self.database))]

@@ -9,7 +9,7 @@ import signal
 import subprocess
 import sys
 import time
-from collections.abc import Callable
+from collections.abc import Callable, Sequence
 from pathlib import Path
 
 import pytest
@@ -86,18 +86,25 @@ class Deployment:
         value = text if isinstance(text, bytes) else text.encode()
         return self.store.transact([], [Put(self.keys.report(reporter), value)]).revision
 
-    def start(self, *words: str, log: str, **more: str) -> subprocess.Popen[bytes]:
-        """A command that goes on; its log and output are in a file of the folder."""
+    def start(
+        self, *words: str, log: str, before: Sequence[str] = (), **more: str
+    ) -> subprocess.Popen[bytes]:
+        """A command that goes on; its log and output are in a file of the folder.
+
+        `before` stands in front of the command, and `more` are variables.
+        """
         with open(self.folder / log, "ab") as sink:
             one = subprocess.Popen(
-                [PROGRAM, *words], stdout=sink, stderr=sink, env={**self.environment, **more}
+                [*before, PROGRAM, *words], stdout=sink, stderr=sink, env={**self.environment, **more}
             )
         self.processes.append(one)
         return one
 
-    def allocate(self, name: str, *options: str, **more: str) -> subprocess.Popen[bytes]:
+    def allocate(
+        self, name: str, *options: str, before: Sequence[str] = (), **more: str
+    ) -> subprocess.Popen[bytes]:
         words = ["allocate", "--name", name, "--every", "0.02", "--lease", "2", *options]
-        return self.start(*words, log=f"{name}.log", **more)
+        return self.start(*words, log=f"{name}.log", before=before, **more)
 
     def log(self, name: str) -> str:
         return (self.folder / f"{name}.log").read_text()

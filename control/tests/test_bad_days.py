@@ -4,6 +4,7 @@ import os
 import shutil
 import signal
 import subprocess
+import sys
 import time
 import urllib.request
 from pathlib import Path
@@ -14,6 +15,7 @@ from etcd_cluster import Cluster, free_port
 
 from bwe_control.errors import StoreRefused
 from bwe_control.store.interface import Put, Select
+from bwe_control.store.opening import open_store
 
 needs_etcd = pytest.mark.skipif(shutil.which("etcd") is None, reason="there is no etcd")
 needs_mount = pytest.mark.skipif(not has_root(), reason="mounting needs root")
@@ -153,6 +155,80 @@ def test_a_read_only_store_says_so(small_disk, tmp_path):
     assert one_sentence(one) and "cannot be written" in one.said
     one.run("init", "-", given=(ROOT / "examples/live/two-fibres.json").read_bytes(), status=None)
     assert one_sentence(one)
+
+
+def forbid(folder, on):
+    """Takes from everybody the right to write a store of SQLite, or gives it back."""
+    for path in folder.iterdir():
+        path.chmod(0o444 if on else 0o644)
+    folder.chmod(0o555 if on else 0o755)
+
+
+# Root without these capabilities is stopped by modes as anybody else is.
+DROP = "-dac_override,-dac_read_search"
+BARRED = ["setpriv", f"--bounding-set={DROP}", f"--inh-caps={DROP}"] if os.geteuid() == 0 else []
+WRITER = """
+import sys, time
+from bwe_control.errors import StoreRefused
+from bwe_control.store.interface import Put, Select
+from bwe_control.store.opening import open_store
+
+store = open_store(sys.argv[1])
+bell = store.bell([Select("a")])
+told = ""
+for _ in range(2000):
+    bell.wait(0.02)
+    try:
+        store.read([Select("a")])
+        store.transact([], [Put("a", b"1")])
+        if told != "put":
+            print("put", flush=True)
+        told = "put"
+    except StoreRefused as fault:
+        if not told:
+            print(fault, flush=True)
+        told = "refused"
+"""
+
+
+def test_a_store_that_was_read_only_is_written_by_who_opened_it_then(tmp_path):
+    """A writer is killed and leaves its files; another one opens them while nobody may write."""
+    name, folder = f"sqlite:{tmp_path / 'control'}", tmp_path / "control"
+    open_store(name, makes_folder=True).close()
+    words = [*BARRED, sys.executable, "-c", WRITER, name]
+    more = {"env": {**os.environ, "PYTHONPATH": str(ROOT / "control")}, "stdout": subprocess.PIPE}
+    first = subprocess.Popen(words, **more)
+    assert first.stdout.readline() == b"put\n"
+    forbid(folder, True)
+    first.kill()
+    first.wait()
+    assert {it.name for it in folder.iterdir()} == {"store.db", "store.db-wal", "store.db-shm"}
+    second = subprocess.Popen(words, **more)
+    try:
+        assert b"control is not writable" in second.stdout.readline()
+        forbid(folder, False)
+        assert second.stdout.readline() == b"put\n"
+    finally:
+        second.kill()
+        second.wait()
+
+
+@needs_live
+def test_an_allocator_that_came_up_in_a_read_only_folder_posts_once_it_may(own):
+    folder = own.folder / "control"
+    own.init()
+    first = own.allocate("first", before=BARRED)
+    own.wait_posted(own.report("hosts", "demand pages-0 5\n"))
+    own.store.close()
+    forbid(folder, True)
+    first.kill()
+    first.wait()
+    own.allocate("second", before=BARRED)
+    own.wait(lambda: "tables are of" in own.log("second"))
+    time.sleep(3)  # the lease of the first ends, and nobody can write that down
+    forbid(folder, False)
+    own.wait_posted(own.report("hosts", "demand pages-0 7\n"))
+    assert own.shown("hosts")["pages-0"] == 7
 
 
 @pytest.mark.skipif(os.geteuid() != 0, reason="becoming another user needs root")

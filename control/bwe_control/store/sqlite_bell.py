@@ -13,6 +13,7 @@ from bwe_control.store.sqlite_file import SqliteFile
 from bwe_control.store.sqlite_leases import soonest_end
 
 EACH = 0.005  # seconds between two looks
+EACH_READ_ONLY = 0.1  # where each look opens the file anew
 Signature = tuple[tuple[int, int], ...]
 
 
@@ -23,6 +24,7 @@ class SqliteBell:
         self, folder: Path, ranges: list[tuple[bytes, bytes]], end_leases: Callable[[], None]
     ) -> None:
         self._file, self._ranges, self._end_leases = SqliteFile(folder), ranges, end_leases
+        self._connection: sqlite3.Connection | None = None  # of the look before
         self._version, self._next_end = -1, 0.0
         self._seen: Signature | None = None
 
@@ -30,18 +32,23 @@ class SqliteBell:
         until = time.monotonic() + seconds
         while True:
             try:
-                if self._has_changed():
+                connection = self._file.connection()
+                each = EACH_READ_ONLY if self._file.is_read_only else EACH
+                if self._has_changed(connection):
                     return True
             except StoreError:
                 time.sleep(min(EACH * 10, max(0.0, until - time.monotonic())))
                 return True
+            finally:
+                self._file.let_go()
             left = until - time.monotonic()
             if left <= 0:
                 return False
-            time.sleep(min(EACH, left))
+            time.sleep(min(each, left))
 
-    def _has_changed(self) -> bool:
-        connection = self._file.connection()
+    def _has_changed(self, connection: sqlite3.Connection) -> bool:
+        if connection is not self._connection:  # versions of two connections say nothing together
+            self._connection, self._version = connection, -1
         try:
             version = connection.execute("PRAGMA data_version").fetchone()[0]
             if version != self._version:

@@ -51,6 +51,7 @@ class SqliteFile:
     def __init__(self, folder: Path, makes_folder: bool = False) -> None:
         self._folder, self._path = folder, folder / FILE
         self._connection: sqlite3.Connection | None = None
+        self.is_read_only = False  # whether the connection stays so, whatever rights come back
         self._inode, self._identity = (0, 0), ""
         if makes_folder:
             self.make()
@@ -92,7 +93,10 @@ class SqliteFile:
         return connection
 
     def connection(self) -> sqlite3.Connection:
-        """The connection, anew where the file is another one than before."""
+        """The connection, anew where the file is another one than before.
+
+        Who has used it calls `let_go`, unless a fault has closed it.
+        """
         try:
             stood = os.stat(self._path)
         except PermissionError:
@@ -110,7 +114,18 @@ class SqliteFile:
             self._connection = self._opened()
             self._inode = (stood.st_dev, stood.st_ino)
             self._see_that_it_is_the_same(self._connection)
+            with self._faults():
+                self.is_read_only = _stays_read_only(self._connection)
         return self._connection
+
+    def let_go(self) -> None:
+        """Closes a connection that was opened while the file could not be written.
+
+        It would stay read-only for ever, and with it all others of this process: SQLite opens the
+        shared memory of a file once for all of them, and closes it with the last one.
+        """
+        if self.is_read_only:
+            self.close()
 
     def _opened(self) -> sqlite3.Connection:
         with self._faults():
@@ -144,6 +159,7 @@ class SqliteFile:
                 yield connection
             finally:
                 _end(connection, "ROLLBACK")
+                self.let_go()
 
     @contextmanager
     def writing(self, patience: float = LOCK_PATIENCE) -> Iterator[sqlite3.Connection]:
@@ -194,27 +210,31 @@ class SqliteFile:
             yield
         except sqlite3.Error as fault:
             if not _is_busy(fault):
-                # A connection that was opened while the folder was read-only stays so for ever.
                 self.close()
             raise self._meaning(fault) from fault
 
     def _meaning(self, fault: sqlite3.Error) -> StoreError:
-        code = getattr(fault, "sqlite_errorcode", 0) & 0xFF
+        code = _code(fault)
         if code in FULL:
             return StoreRefused(
                 f"the disk of the store {self._folder} is full; nothing was written"
             )
-        if code in READ_ONLY or not self._may_write():
+        barred = self._barred()
+        if code in READ_ONLY or barred:
             return StoreRefused(
-                f"the store {self._folder} cannot be written by this user{self._owner()}"
+                f"the store {self._folder} cannot be written by this user{barred}{self._owner()}"
             )
         if code in NO_STORE:
             return StoreRefused(f"{self._path} is no sound store of bwe-control: {fault}")
         return StoreAway(f"the store {self._folder} does not answer: {fault}{self._owner()}")
 
-    def _may_write(self) -> bool:
-        """Whether this user may write the folder, which reading needs as well."""
-        return os.access(self._folder, os.W_OK) and os.access(self._path, os.W_OK)
+    def _barred(self) -> str:
+        """Which file this user may not write, which reading needs as well; nothing where all can be."""
+        beside = [self._path.with_name(FILE + it) for it in ("-wal", "-shm")]
+        for path in (self._folder, self._path, *beside):
+            if path.exists() and not os.access(path, os.W_OK):
+                return f": {path.name} is not writable"
+        return ""
 
     def _owner(self) -> str:
         """Whose folder it is, where that is another user's."""
@@ -235,6 +255,21 @@ class SqliteFile:
         if self._connection is not None:
             self._connection.close()
             self._connection = None
+        self.is_read_only = False
+
+
+def _stays_read_only(connection: sqlite3.Connection) -> bool:
+    """Whether it was opened while the file could not be written, found by a write of nothing."""
+    connection.execute("PRAGMA busy_timeout=0")
+    try:
+        if _begins(connection):  # as a reader, where the file itself is read-only
+            connection.execute("DELETE FROM meta WHERE 0")
+        return False
+    except sqlite3.Error as fault:
+        return _code(fault) in READ_ONLY
+    finally:
+        _end(connection, "ROLLBACK")
+        connection.execute(f"PRAGMA busy_timeout={int(1000 * LOCK_PATIENCE)}")
 
 
 def _begins(connection: sqlite3.Connection) -> bool:
@@ -261,5 +296,9 @@ def _end(connection: sqlite3.Connection, how: str) -> None:
 
 def _is_busy(fault: sqlite3.Error) -> bool:
     """Whether another process has the lock just now."""
-    code = getattr(fault, "sqlite_errorcode", 0) & 0xFF
-    return code in (sqlite3.SQLITE_BUSY, sqlite3.SQLITE_LOCKED)
+    return _code(fault) in (sqlite3.SQLITE_BUSY, sqlite3.SQLITE_LOCKED)
+
+
+def _code(fault: sqlite3.Error) -> int:
+    """The kind of a fault, as SQLite numbers it; 0 where it is not SQLite's."""
+    return int(getattr(fault, "sqlite_errorcode", 0)) & 0xFF
