@@ -80,4 +80,5 @@ class Keys:
 
     @property
     def refused_document(self) -> str:
-        return f"{self.refusals}document"
+        """Of the document; no reporter's name has a colon."""
+        return f"{self.refusals}:document"

@@ -34,8 +34,6 @@ def network_of(revision: int, text: bytes) -> Network:
             " come from reporters"
         )
     reporters = tuple(document["reporters"])
-    if "document" in reporters:
-        raise Refused("refused reporter document: the control plane keeps that name for itself")
     tasks: dict[str, list[str]] = {name: [] for name in reporters}
     lines: dict[str, dict[bytes, tuple[bytes, int]]] = {name: {} for name in reporters}
     for task in _tasks(document):

@@ -106,7 +106,7 @@ def refusals_of(value: bytes) -> Refusals:
 
 
 def refused_document_text(revision: int, line: str) -> str:
-    """What `P/refused/document` says of the document of a revision; `line` has no line feed."""
+    """What `P/refused/:document` says of the document of a revision; `line` has no line feed."""
     return f"revision {revision}\n{line}\n"
 
 
@@ -115,7 +115,7 @@ def refused_document_of(value: bytes) -> tuple[int, str]:
     head, _, line = _ascii(value).partition("\n")
     found = REVISION.fullmatch(head)
     if found is None:
-        raise _odd("refused/document", value)
+        raise _odd("refused/:document", value)
     return int(found[1]), line.removesuffix("\n")
 
 

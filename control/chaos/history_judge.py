@@ -73,7 +73,7 @@ class HistoryJudge:
             self.fault(it, "document", f"{posted.document} is in force, and {put} was put since")
         if put < posted.document:
             self.fault(it, "document", f"{posted.document} is after the prefix {posted.prefix}")
-        refused = self.state.get("refused/document", b"")
+        refused = self.state.get("refused/:document", b"")
         if self.tables.document(put) is not None:
             if refused:
                 self.fault(it, "refused", f"the document of {put} is not refused: {refused!r}")
@@ -83,14 +83,14 @@ class HistoryJudge:
     def judge_refusals(self, it: Transaction, posted: Posted, document: Document) -> None:
         """What is refused of each report stands when its table is posted."""
         keys = {f"refused/{reporter}" for reporter in document.names.reporters}
-        others = {key for key in self.state if key.startswith("refused/")} - {"refused/document"}
+        others = {key for key in self.state if key.startswith("refused/")} - {"refused/:document"}
         for key in sorted(keys | others):
             reporter = key.removeprefix("refused/")
             due = None
             if key in keys:
                 due = self.tables.refusal(document, reporter, posted.prefix)
                 self.verdict.count("refusals", due is not None)
-            if self.state.get(key) != due and key != "refused/document":
+            if self.state.get(key) != due and key != "refused/:document":
                 self.fault(it, "refused", f"{key} is {self.state.get(key)!r}, due is {due!r}")
 
     def judge_slices(self, it: Transaction, posted: Posted, document: Document) -> None:

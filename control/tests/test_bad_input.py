@@ -5,6 +5,7 @@ import json
 import pytest
 from deployment import TWO_FIBRES, needs_bwe, needs_live
 
+from bwe_control.store.interface import Put
 from bwe_control.values import accepted_of, refusals_of, refused_document_of
 
 NAMES = b"demand pages-0 5\ndemand pages-9 7\ncapacity fibre-1 3\n"
@@ -138,21 +139,41 @@ def test_a_document_that_is_refused_stays_away_and_a_good_one_comes(running):
 
 
 @needs_live
-@pytest.mark.parametrize(
-    "changed, says",
-    [
-        (
-            {"script": [{"reporter": "hosts", "task": "pages-0", "demand": 1}]},
-            "refused script of 1 reports",
-        ),
-        ({"reporters": ["hosts", "noc", "document"]}, "refused reporter document"),
-    ],
-)
-def test_a_document_that_only_the_control_plane_refuses(running, changed, says):
-    bad = running.init(document(**changed))
+def test_a_document_that_only_the_control_plane_refuses(running):
+    script = [{"reporter": "hosts", "task": "pages-0", "demand": 1}]
+    bad = running.init(document(script=script))
     running.wait_posted(bad)
     revision, line = refused_document_of(running.value(running.keys.refused_document))
-    assert revision == bad and line.startswith(says)
+    assert revision == bad and line.startswith("refused script of 1 reports")
+
+
+@needs_live
+def test_a_reporter_named_document_and_a_refused_document_are_told_apart(running):
+    keys = running.keys
+    running.wait_posted(running.init(document(reporters=["hosts", "noc", "document"])))
+    revision = running.report("document", "demand pages-0 3\n")
+    running.wait_posted(revision)
+    assert [(it.cause, it.text) for it in refused(running, "document").lines] == [
+        (4, "demand pages-0 3")
+    ]
+    assert running.value(keys.refused_document) is None
+    bad = running.init(b"no json")
+    running.wait_posted(bad)
+    assert refused_document_of(running.value(keys.refused_document))[0] == bad
+    assert refused(running, "document").revision == revision
+    running.wait_posted(running.report("document", ""))
+    assert refused(running, "document") is None
+    assert refused_document_of(running.value(keys.refused_document))[0] == bad
+    status = json.loads(running.run("status", "--json"))
+    assert status["refused_document"]["revision"] == bad
+
+
+@needs_live
+def test_a_refusal_where_an_earlier_version_put_it_goes(own):
+    own.store.transact([], [Put(own.keys.refusals + "document", b"revision 1\nrefused 1 no\n")])
+    own.allocate("a")
+    own.wait_posted(own.init())
+    assert own.value(own.keys.refusals + "document") is None
 
 
 @needs_live
@@ -200,7 +221,8 @@ def test_a_reporter_that_leaves_the_document_has_no_slice_any_more(running):
 def test_init_refuses_what_bwe_refuses_and_puts_nothing(own):
     own.run("init", "-", given=b'{"version":1}', status=3)
     assert "refused 2 shape at /" in own.said
-    own.run("init", "-", given=document(reporters=["hosts", "noc", "document"]), status=3)
+    script = [{"reporter": "hosts", "task": "pages-0", "demand": 1}]
+    own.run("init", "-", given=document(script=script), status=3)
     own.run("init", "/nowhere.json", status=2)
     assert own.value(own.keys.document) is None
 

@@ -67,7 +67,7 @@ def test_a_legal_change_of_documents_is_legal(story):
 def test_a_bad_document_stays_away_and_is_refused(story):
     number = story.write({"document": b"not json"})
     refused = b"revision %d\nrefused 1 not json\n" % number
-    story.write({"leader": b"a1\n", "refused/document": refused})
+    story.write({"leader": b"a1\n", "refused/:document": refused})
     story.post()
     assert verdict_of(story).faults == []
 
