@@ -9,13 +9,14 @@ from bwe_control.store.interface import Entry, Select, Selected, Store
 class Copy:
     """The entries of one key, or below one prefix, as they stood at a revision.
 
-    Of each later reading only what has changed is fetched. Deletions do not show in that; they show
-    in the number of keys, and then the keys are read once more at the same revision.
+    Of each later reading only what has changed is fetched and looked at. Deletions do not show in
+    that; they show in the number of keys, and then the keys are read once more at the same revision.
     """
 
     def __init__(self, key: str, is_prefix: bool = False) -> None:
         self._key, self._is_prefix = key, is_prefix
         self.revision = 0
+        self.newest = 0  # the greatest modification revision of the entries
         self.entries: dict[str, Entry] = {}
 
     def select(self) -> Select:
@@ -31,14 +32,17 @@ class Copy:
             raise StoreChanged(
                 f"the store is at revision {revision}, and was at {self.revision} before"
             )
-        entries = self.entries | {it.key: it for it in found.entries}
         changed = {it.key for it in found.entries}
-        if len(entries) != found.count:
+        fresh = found.entries
+        if len(self.entries) + len(changed - self.entries.keys()) != found.count:
             whole = store.read([Select(self._key, self._is_prefix)], at=revision).found[0]
-            stands = {it.key: it for it in whole.entries}
-            changed |= entries.keys() - stands.keys()
-            entries = stands
-        self.entries, self.revision = entries, revision
+            fresh = whole.entries
+            changed |= self.entries.keys() - {it.key for it in fresh}
+            self.entries, self.newest = {}, 0
+        for it in fresh:
+            self.entries[it.key] = it
+            self.newest = max(self.newest, it.modified)
+        self.revision = revision
         return changed
 
     def one(self) -> Entry | None:

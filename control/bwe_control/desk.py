@@ -165,8 +165,7 @@ class Desk:
 
     def newest(self) -> int:
         """The greatest modification revision of the document and the reports."""
-        entries = [*self.reports.entries.values(), *self.document.entries.values()]
-        return max((it.modified for it in entries), default=0)
+        return max(self.reports.newest, self.document.newest)
 
     def close(self) -> None:
         """Ends the child."""

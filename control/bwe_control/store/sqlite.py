@@ -22,12 +22,21 @@ from bwe_control.store.interface import (
     Selected,
 )
 from bwe_control.store.sqlite_bell import SqliteBell
-from bwe_control.store.sqlite_file import SqliteFile
+from bwe_control.store.sqlite_file import SqliteFile, number_of
 from bwe_control.store.sqlite_leases import check_lease, end_leases, now_and_boot, soonest_end
 
 NOW = """SELECT e.key, w.value, e.created, e.modified, e.lease
          FROM entries e JOIN writes w ON w.row = e.row
          WHERE e.key >= ? AND e.key < ? AND e.modified > ? ORDER BY e.key"""
+# The same by what was written since, for a prefix of which little was.
+SINCE = """SELECT e.key, w.value, e.created, e.modified, e.lease
+           FROM writes w INDEXED BY writes_by_revision
+           CROSS JOIN entries e ON e.key = w.key AND e.row = w.row
+           WHERE w.key >= ? AND w.key < ? AND w.revision > ? ORDER BY e.key"""
+# Whether a key was made or deleted since.
+MADE = """SELECT 1 FROM writes INDEXED BY writes_by_revision
+          WHERE key >= ? AND key < ? AND revision > ? AND (value IS NULL OR created = revision)
+          LIMIT 1"""
 THEN = """SELECT key, value, created, revision, lease FROM writes w
           WHERE key >= ? AND key < ? AND value IS NOT NULL AND revision =
                 (SELECT max(revision) FROM writes v WHERE v.key = w.key AND v.revision <= ?)
@@ -48,6 +57,8 @@ class SqliteStore:
     def __init__(self, folder: Path, makes_folder: bool = False) -> None:
         self._folder = folder
         self._file = SqliteFile(folder, makes_folder)
+        # By store and range: a revision, and how many keys there were then.
+        self._counts: dict[tuple[str, bytes, bytes], tuple[int, int]] = {}
 
     def read(self, selects: Sequence[Select], at: int = 0) -> Reading:
         if not at:
@@ -59,7 +70,7 @@ class SqliteStore:
                     raise StoreError(f"the store is at revision {revision}, and not yet at {at}")
                 if at < number_of(connection, "compacted"):
                     raise Compacted(f"the history at revision {at} is not kept any more")
-            found = tuple(_selected(connection, one, at) for one in selects)
+            found = tuple(self._selected(connection, one, at, revision) for one in selects)
             return Reading(at or revision, found)
 
     def transact(self, compares: Sequence[Compare], operations: Sequence[Operation]) -> Outcome:
@@ -127,6 +138,35 @@ class SqliteStore:
     def close(self) -> None:
         self._file.close()
 
+    def _selected(
+        self, connection: sqlite3.Connection, select: Select, at: int, revision: int
+    ) -> Selected:
+        ends = key_range(select)
+        if at:
+            entries = _entries(connection, THEN, (*ends, at))
+            newer = tuple(it for it in entries if it.modified > select.since)
+            return Selected(newer, len(entries))
+        if not select.since:
+            whole = _entries(connection, NOW, (*ends, 0))
+            return Selected(tuple(whole), len(whole))
+        if not select.is_prefix:
+            entries = _entries(connection, NOW, (*ends, select.since))
+            return Selected(tuple(entries), _count(connection, ends))
+        entries = _entries(connection, SINCE, (*ends, select.since))
+        return Selected(tuple(entries), self._kept_count(connection, ends, revision))
+
+    def _kept_count(
+        self, connection: sqlite3.Connection, ends: tuple[bytes, bytes], revision: int
+    ) -> int:
+        """How many keys there are, counted anew only where one was made or deleted since."""
+        key = (self._file.identity, *ends)
+        since, count = self._counts.get(key, (-1, 0))
+        is_known = number_of(connection, "compacted") <= since <= revision
+        if not is_known or connection.execute(MADE, (*ends, since)).fetchone():
+            count = _count(connection, ends)
+        self._counts[key] = revision, count
+        return count
+
     def _end_leases(self) -> None:
         """Ends the leases that nobody renewed; where another writes just now, or nobody can, the
         next look does.
@@ -139,12 +179,6 @@ class SqliteStore:
                 end_leases(connection)
         except (StoreAway, StoreRefused):
             pass
-
-
-def number_of(connection: sqlite3.Connection, name: str) -> int:
-    """The store's number of that name: its revision, or up to where its history was given up."""
-    row = connection.execute("SELECT value FROM meta WHERE name = ?", [name]).fetchone()
-    return int(row[0])
 
 
 def key_bytes(key: str) -> bytes:
@@ -195,14 +229,9 @@ def _modified(connection: sqlite3.Connection, key: str) -> int:
     return int((row.fetchone() or (0,))[0])
 
 
-def _selected(connection: sqlite3.Connection, select: Select, at: int) -> Selected:
-    ends = key_range(select)
-    if at:
-        entries = _entries(connection, THEN, (*ends, at))
-        return Selected(tuple(it for it in entries if it.modified > select.since), len(entries))
-    entries = _entries(connection, NOW, (*ends, select.since))
-    count = connection.execute("SELECT count(*) FROM entries WHERE key >= ? AND key < ?", ends)
-    return Selected(tuple(entries), int(count.fetchone()[0]))
+def _count(connection: sqlite3.Connection, ends: tuple[bytes, bytes]) -> int:
+    found = connection.execute("SELECT count(*) FROM entries WHERE key >= ? AND key < ?", ends)
+    return int(found.fetchone()[0])
 
 
 def _entries(

@@ -9,12 +9,13 @@ from pathlib import Path
 from types import TracebackType
 
 from bwe_control.errors import StoreError
-from bwe_control.store.sqlite_file import SqliteFile
+from bwe_control.store.sqlite_file import SqliteFile, number_of
 from bwe_control.store.sqlite_leases import soonest_end
 
 EACH = 0.005  # seconds between two looks
 EACH_READ_ONLY = 0.1  # where each look opens the file anew
-Signature = tuple[tuple[int, int], ...]
+WRITTEN = """SELECT 1 FROM writes INDEXED BY writes_by_revision
+             WHERE key >= ? AND key < ? AND revision > ? LIMIT 1"""
 
 
 class SqliteBell:
@@ -26,7 +27,7 @@ class SqliteBell:
         self._file, self._ranges, self._end_leases = SqliteFile(folder), ranges, end_leases
         self._connection: sqlite3.Connection | None = None  # of the look before
         self._version, self._next_end = -1, 0.0
-        self._seen: Signature | None = None
+        self._seen = -1  # the store's revision at the look before
 
     def wait(self, seconds: float) -> bool:
         until = time.monotonic() + seconds
@@ -53,8 +54,7 @@ class SqliteBell:
             version = connection.execute("PRAGMA data_version").fetchone()[0]
             if version != self._version:
                 self._version, self._next_end = version, soonest_end(connection)
-                before, self._seen = self._seen, self._signature(connection)
-                return self._seen != before
+                return self._is_written(connection)
         except sqlite3.Error as fault:
             self._file.close()
             raise StoreError(str(fault)) from fault
@@ -63,12 +63,12 @@ class SqliteBell:
             self._end_leases()
         return False
 
-    def _signature(self, connection: sqlite3.Connection) -> Signature:
-        """Of each range the greatest modification revision and the number of its keys."""
-        query = (
-            "SELECT coalesce(max(modified), 0), count(*) FROM entries WHERE key >= ? AND key < ?"
-        )
-        return tuple(connection.execute(query, ends).fetchone() for ends in self._ranges)
+    def _is_written(self, connection: sqlite3.Connection) -> bool:
+        """Whether a key of the ranges was written or deleted since the look before, or may be."""
+        since, self._seen = self._seen, number_of(connection, "revision")
+        if not number_of(connection, "compacted") <= since <= self._seen:
+            return True
+        return any(connection.execute(WRITTEN, (*it, since)).fetchone() for it in self._ranges)
 
     def close(self) -> None:
         self._file.close()

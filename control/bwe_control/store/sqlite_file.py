@@ -52,7 +52,7 @@ class SqliteFile:
         self._folder, self._path = folder, folder / FILE
         self._connection: sqlite3.Connection | None = None
         self.is_read_only = False  # whether the connection stays so, whatever rights come back
-        self._inode, self._identity = (0, 0), ""
+        self._inode, self.identity = (0, 0), ""  # of the file, and of the store in it
         if makes_folder:
             self.make()
 
@@ -145,8 +145,8 @@ class SqliteFile:
     def _see_that_it_is_the_same(self, connection: sqlite3.Connection) -> None:
         with self._faults():
             row = connection.execute("SELECT value FROM meta WHERE name='identity'").fetchone()
-        before, self._identity = self._identity, row[0]
-        if before and before != self._identity:
+        before, self.identity = self.identity, str(row[0])
+        if before and before != self.identity:
             raise StoreChanged(f"another store stands in {self._folder} than before")
 
     @contextmanager
@@ -256,6 +256,12 @@ class SqliteFile:
             self._connection.close()
             self._connection = None
         self.is_read_only = False
+
+
+def number_of(connection: sqlite3.Connection, name: str) -> int:
+    """The store's number of that name: its revision, or up to where its history was given up."""
+    row = connection.execute("SELECT value FROM meta WHERE name = ?", [name]).fetchone()
+    return int(row[0])
 
 
 def _stays_read_only(connection: sqlite3.Connection) -> bool:
