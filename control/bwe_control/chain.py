@@ -71,8 +71,13 @@ class Chain:
         slices, refusals = (found.entries for found in reading.found)
         self._refusals = {it.key: it.value for it in refusals}
         self._accepted = accepted
-        stands = {it.key.removeprefix(self._keys.slices): _slice_of(it) for it in slices}
+        rows = tables.rows if tables else {}
+        stands = {name: _slice_of(it, rows.get(name)) for name, it in self._named(slices)}
         self.protocol.read(_table(reading.revision, tables), leader, stands)
+
+    def _named(self, slices: tuple[Entry, ...]) -> Iterator[tuple[str, Entry]]:
+        """Slices with the names of their reporters."""
+        return ((it.key.removeprefix(self._keys.slices), it) for it in slices)
 
     def look(self, revision: int, tables: Tables | None) -> None:
         """Takes the rows of the table of a later reading."""
@@ -122,19 +127,16 @@ class Chain:
     def _parts(self, operations: list[Operation]) -> Iterator[list[Operation]]:
         """The operations in parts that a transaction takes beside the leader key."""
         part: list[Operation] = []
+        size = 0
         for one in operations:
-            if part and not self._fits([*part, one]):
+            size += _size([one])
+            is_full = len(part) + 3 > self._store.most_operations or size > self._store.most_bytes
+            if part and is_full:
                 yield part
-                part = []
+                part, size = [], _size([one])
             part.append(one)
         if part:
             yield part
-
-    def _fits(self, operations: list[Operation]) -> bool:
-        return (
-            len(operations) <= self._store.most_operations - 2
-            and _size(operations) <= self._store.most_bytes
-        )
 
     def _fitting(self, tables: Tables) -> int:
         """How many of the slices that differ one transaction takes beside the two other keys."""
@@ -187,11 +189,16 @@ def _table(revision: int, tables: Tables | None) -> protocol.Reading[bytes]:
     return protocol.Reading(revision, dict(tables.rows) if tables else {})
 
 
-def _slice_of(entry: Entry) -> protocol.Slice[bytes]:
-    """A slice as it stands; one that no allocator has written differs from all rows."""
+def _slice_of(entry: Entry, due: bytes | None) -> protocol.Slice[bytes]:
+    """A slice as it stands; one that no allocator has written differs from all rows.
+
+    Where it is the row that is due, it is that very object, so that the next looks compare no bytes.
+    """
     head, _, row = entry.value.partition(b"\n")
     found = HEADER.fullmatch(head)
-    return protocol.Slice(int(found[1]), row) if found else protocol.Slice(0, b"\0")
+    if found is None:
+        return protocol.Slice(0, b"\0")
+    return protocol.Slice(int(found[1]), due if due is not None and due == row else row)
 
 
 def _size(operations: list[Operation]) -> int:

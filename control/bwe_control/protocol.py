@@ -60,6 +60,15 @@ class Transaction(Generic[Row]):
     after: Mapping[str, Slice[Row]]
 
 
+@dataclass(frozen=True)
+class _Differing(Generic[Row]):
+    """What was found for a knowledge and a reading, which stay as they are."""
+
+    known: Known[Row]
+    reading: Reading[Row]
+    names: list[str]
+
+
 @dataclass
 class Allocator(Generic[Row]):
     """One allocator. A fresh one knows nothing, and so does one that has crashed."""
@@ -67,6 +76,7 @@ class Allocator(Generic[Row]):
     known: Known[Row] | None = field(default=None)
     reading: Reading[Row] | None = field(default=None)
     waits: Transaction[Row] | None = field(default=None)
+    _differing: _Differing[Row] | None = field(default=None, compare=False, repr=False)
 
     def read(
         self,
@@ -91,9 +101,13 @@ class Allocator(Generic[Row]):
         """The reporters whose slice is another than their row: first rows, then slices to delete."""
         if self.known is None or self.reading is None:
             return []
-        slices, rows = self.known.slices, self.reading.rows
-        others = [name for name, row in rows.items() if not _has(slices.get(name), row)]
-        return others + [name for name in slices if name not in rows]
+        kept = self._differing
+        if kept is None or kept.known is not self.known or kept.reading is not self.reading:
+            slices, rows = self.known.slices, self.reading.rows
+            others = [name for name, row in rows.items() if not _has(slices.get(name), row)]
+            names = others + [name for name in slices if name not in rows]
+            self._differing = kept = _Differing(self.known, self.reading, names)
+        return kept.names
 
     def may_send(self) -> bool:
         """Whether it leads, waits for no outcome, and has read at or after all that was posted."""
@@ -118,8 +132,10 @@ class Allocator(Generic[Row]):
             return None
         prefix, rows = self.reading.revision, self.reading.rows
         writes = {name: Slice(prefix, rows[name]) if name in rows else None for name in reporters}
-        kept = {name: it for name, it in self.known.slices.items() if name not in writes}
-        after = kept | {name: it for name, it in writes.items() if it is not None}
+        after = dict(self.known.slices)
+        for name in writes:
+            after.pop(name, None)
+        after.update((name, it) for name, it in writes.items() if it is not None)
         self.waits = Transaction(self.known.fence, prefix, writes, posts, self.known.since, after)
         return self.waits
 

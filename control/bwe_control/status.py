@@ -4,6 +4,8 @@ from __future__ import annotations
 
 from dataclasses import dataclass
 
+from bwe_control.copies import Copy
+from bwe_control.errors import StoreChanged
 from bwe_control.keys import Keys
 from bwe_control.network import Network, is_reporter, network_of
 from bwe_control.store.interface import Entry, Select, Store
@@ -44,31 +46,46 @@ class Status:
 
 
 class StatusReader:
-    """Reads the status again and again; the document in force is looked into once."""
+    """Reads the status again and again; what has not changed since is neither read nor parsed."""
 
     def __init__(self, store: Store, keys: Keys) -> None:
         self._store, self._keys = store, keys
+        self._restart()
+
+    def _restart(self) -> None:
         self._network: Network | None = None
+        self._accepted = Copy(self._keys.accepted)
+        self._reports = Copy(self._keys.reports, is_prefix=True)
+        self._refusals = Copy(self._keys.refusals, is_prefix=True)
 
     def read(self) -> Status:
         """The status of now. StoreError where the store is away."""
+        try:
+            return self._read()
+        except StoreChanged:
+            self._restart()
+            raise
+
+    def _read(self) -> Status:
         keys = self._keys
-        since = self._network.revision if self._network else 0
         singles = [keys.leader, keys.document, keys.posted, keys.refused_document]
         reading = self._store.read(
             [
                 *(Select(key) for key in singles),
-                Select(keys.accepted, since=since),
-                Select(keys.reports, True),
-                Select(keys.refusals, True),
+                self._accepted.select(),
+                self._reports.select(),
+                self._refusals.select(),
             ]
         )
-        leader, document, posted, refused, accepted = (it.one() for it in reading.found[:5])
-        if accepted is not None:
-            self._network = _network(*accepted_of(accepted.value))
-        reports = {_name(it, keys.reports): it for it in reading.found[5].entries}
-        refusals = {_name(it, keys.refusals): it for it in reading.found[6].entries}
-        newest = max([it.modified for it in [*reports.values(), document] if it], default=0)
+        leader, document, posted, refused = (it.one() for it in reading.found[:4])
+        if self._accepted.take(self._store, reading.found[4], reading.revision):
+            accepted = self._accepted.one()
+            self._network = network_of(*accepted_of(accepted.value)) if accepted else None
+        self._reports.take(self._store, reading.found[5], reading.revision)
+        self._refusals.take(self._store, reading.found[6], reading.revision)
+        reports = {_name(it, keys.reports): it for it in self._reports.entries.values()}
+        refusals = {_name(it, keys.refusals): it for it in self._refusals.entries.values()}
+        newest = max(self._reports.newest, document.modified if document else 0)
         table = posted_of(posted.value) if posted else None
         return Status(
             revision=reading.revision,
@@ -79,7 +96,7 @@ class StatusReader:
             posted=table,
             lag=max(0, newest - table.prefix) if table else newest,
             reporters=self._reporters(reading.revision, reports, refusals),
-            ignored=tuple(it for it in reports if not self._has(it)),
+            ignored=tuple(sorted(it for it in reports if not self._has(it))),
         )
 
     def _reporters(
@@ -100,10 +117,6 @@ class StatusReader:
 
     def _has(self, name: str) -> bool:
         return self._network is not None and is_reporter(self._network, name)
-
-
-def _network(revision: int, text: bytes) -> Network:
-    return network_of(revision, text)
 
 
 def _name(entry: Entry, prefix: str) -> str:
