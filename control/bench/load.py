@@ -2,8 +2,8 @@
 """control/bench/load.py: how fast the control plane is, on real stores and processes.
 
 It starts a store (three members of etcd on this machine, or a folder of SQLite), one allocator, and
-processes that put reports of 64 reporters with 312 tasks each at a rate; each report changes a
-twentieth of its demands. For each rate it writes a row: how long a put took, how long it took from
+processes that put reports of 64 reporters with 312 tasks each at a rate, or of as many as --size
+says; each report changes a twentieth of its demands. For each rate it writes a row: how long a put took, how long it took from
 the put to a table that holds it, as a reader sees that, tables a second, and bytes a table writes.
 
     control/bench/load.py --store etcd --seconds 20 50 200 350 700
@@ -13,6 +13,7 @@ the put to a table that holds it, as a reader sees that, tables a second, and by
 from __future__ import annotations
 
 import argparse
+import itertools
 import json
 import multiprocessing
 import random
@@ -42,7 +43,8 @@ from bwe_control.store.opening import open_store  # noqa: E402
 from bwe_control.values import posted_of, report_text  # noqa: E402
 
 KEYS = Keys("load")
-PROCESSES = 4
+PROCESSES, THREADS = 4, 16
+OF_VERSION_3 = (1_024, 20_000, 64)  # groups, tasks and reporters at most
 
 
 def document(groups: int, tasks: int, reporters: int) -> dict[str, Any]:
@@ -53,7 +55,7 @@ def document(groups: int, tasks: int, reporters: int) -> dict[str, Any]:
         for it in range(groups)
     ]
     return {
-        "version": 3,
+        "version": 3 if all(a <= b for a, b in zip((groups, tasks, reporters), OF_VERSION_3)) else 4,
         "top": 1_000_000,
         "links": links,
         "groups": [_group(it, groups, tasks, names) for it in range(groups)],
@@ -85,10 +87,10 @@ class Reporters(multiprocessing.get_context("spawn").Process):
 
     def run(self) -> None:
         self._puts: list[tuple[int, float, float]] = []
-        each = len(self._reports) / self._rate
+        names = list(self._reports)
         threads = [
-            threading.Thread(target=self._report, args=(name, tasks, each))
-            for name, tasks in self._reports.items()
+            threading.Thread(target=self._report, args=[names[one::THREADS]])
+            for one in range(min(THREADS, len(names)))
         ]
         for it in threads:
             it.start()
@@ -96,17 +98,22 @@ class Reporters(multiprocessing.get_context("spawn").Process):
             it.join()
         self._in.send(self._puts)
 
-    def _report(self, name: str, tasks: list[str], each: float) -> None:
-        chance, store = random.Random(name), open_store(self._store)
-        demands = {task: chance.randint(1, 100) for task in tasks}
+    def _report(self, names: list[str]) -> None:
+        """Puts the reports of some reporters in turn, at their part of the rate."""
+        chance, store = random.Random(names[0]), open_store(self._store)
+        each = len(self._reports) / self._rate / len(names)
+        demands = {it: {task: chance.randint(1, 100) for task in self._reports[it]} for it in names}
         until = time.monotonic() + self._seconds
         due = time.monotonic() + chance.random() * min(each, self._seconds)
-        while due < until:
+        for name in itertools.cycle(names):
+            if due >= until:
+                break
             time.sleep(max(0.0, due - time.monotonic()))
-            for task in chance.sample(tasks, max(1, len(tasks) // 20)):
-                demands[task] = chance.randint(1, 100)
+            own = demands[name]
+            for task in chance.sample(list(own), max(1, len(own) // 20)):
+                own[task] = chance.randint(1, 100)
             begun = time.monotonic()
-            revision = put_report(store, KEYS, name, report_text(demands))
+            revision = put_report(store, KEYS, name, report_text(own))
             self._puts.append((revision, begun, time.monotonic()))
             due = max(due + each, time.monotonic())
         store.close()
@@ -215,7 +222,13 @@ def main() -> None:
     told.add_argument("--seconds", type=float, default=20)
     told.add_argument("--every", default="0")
     told.add_argument("--small", action="store_true", help="10 tasks of 2 reporters")
-    told.add_argument("--size", type=int, nargs=3, metavar="N", default=[1024, 20_000, 64])
+    told.add_argument(
+        *["--size"],
+        type=int,
+        nargs=3,
+        metavar=("GROUPS", "TASKS", "REPORTERS"),
+        default=list(OF_VERSION_3),
+    )
     told.add_argument("rates", type=float, nargs="+", metavar="RATE")
     given = told.parse_args()
     shape = document(*([2, 10, 2] if given.small else given.size))

@@ -54,6 +54,7 @@ class Chain:
         self._store, self._keys, self._name = store, keys, name
         self.protocol: protocol.Allocator[bytes] = protocol.Allocator()
         self.lease: Lease | None = None
+        self._tables: Tables | None = None  # whose rows the protocol has
         self._refusals: dict[str, bytes] = {}  # as they stand in the store
         self._accepted = 0  # the revision of the accepted document, as it stands in the store
 
@@ -73,6 +74,7 @@ class Chain:
         self._accepted = accepted
         rows = tables.rows if tables else {}
         stands = {name: _slice_of(it, rows.get(name)) for name, it in self._named(slices)}
+        self._changed(tables)
         self.protocol.read(_table(reading.revision, tables), leader, stands)
 
     def _named(self, slices: tuple[Entry, ...]) -> Iterator[tuple[str, Entry]]:
@@ -81,7 +83,14 @@ class Chain:
 
     def look(self, revision: int, tables: Tables | None) -> None:
         """Takes the rows of the table of a later reading."""
-        self.protocol.look(_table(revision, tables))
+        changed = self._changed(tables)
+        self.protocol.look(_table(revision, tables), changed)
+
+    def _changed(self, tables: Tables | None) -> set[str] | None:
+        """Whose rows have changed since the last call; None where those were of another document."""
+        before, self._tables = self._tables, tables
+        changed = tables.changed() if tables else set()
+        return changed if tables is before else None
 
     def write(self, document: bytes, tables: Tables | None, refusals: dict[str, bytes]) -> Written:
         """Writes refusals and the accepted document, then all slices that differ and `posted`.

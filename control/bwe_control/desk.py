@@ -11,7 +11,6 @@ from pathlib import Path
 from bwe_control.copies import Copy
 from bwe_control.errors import Refused, StoreRefused
 from bwe_control.keys import Keys
-from bwe_control.network import is_reporter
 from bwe_control.store.interface import Entry, Reading, Select, Store
 from bwe_control.tables import Tables
 from bwe_control.values import (
@@ -46,6 +45,7 @@ class Desk:
         self._store, self._keys = store, keys
         self._program, self._beat, self._stuck = program, beat, stuck
         self.tables: Tables | None = None
+        self._own: frozenset[str] = frozenset()  # the keys of reports of the document in force
         self.refusal: tuple[int, str] | None = None  # the revision of the document, and its line
         self.restart()
 
@@ -133,6 +133,7 @@ class Desk:
         tables = Tables(self._program, revision, text, self._beat, self._stuck)
         self.close()
         self.tables = tables
+        self._own = frozenset(self._keys.report(it) for it in tables.network.reporters)
         self._untold = set(self.reports.entries)
         log.info("tables are of the document of revision %d", revision)
 
@@ -146,13 +147,13 @@ class Desk:
 
     def ignored(self) -> list[str]:
         """The reports that are of no reporter of the document in force."""
-        names = [key.removeprefix(self._keys.reports) for key in self.reports.entries]
-        tables = self.tables
-        return [it for it in names if tables is None or not is_reporter(tables.network, it)]
+        keys = self.reports.entries.keys() - self._own
+        return [key.removeprefix(self._keys.reports) for key in sorted(keys)]
 
-    def seen_at(self, reporter: str) -> float | None:
-        """When the report of a reporter was new here, by the monotonic clock."""
-        return self.seen.get(self._keys.report(reporter))
+    def seen_at(self) -> dict[str, float]:
+        """When each report of a reporter was new here, by the monotonic clock."""
+        seen, prefix = self.seen, len(self._keys.reports)
+        return {key[prefix:]: seen[key] for key in self._own & seen.keys()}
 
     def accepted_revision(self) -> int:
         """The revision of the document that the store says is in force; 0 where there is none."""
@@ -172,3 +173,4 @@ class Desk:
         if self.tables is not None:
             self.tables.close()
             self.tables = None
+            self._own = frozenset()

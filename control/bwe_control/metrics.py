@@ -128,11 +128,9 @@ class _Ages(Collector):
         self._lock = threading.Lock()
 
     def take(self, desk: Desk) -> None:
-        tables = desk.tables
-        reporters = tables.network.reporters if tables else ()
-        seen = {it: desk.seen_at(it) for it in reporters}
+        seen = desk.seen_at()
         with self._lock:
-            self._seen = {name: at for name, at in seen.items() if at is not None}
+            self._seen = seen
 
     def collect(self) -> Iterable[GaugeMetricFamily]:
         with self._lock:

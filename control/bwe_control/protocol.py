@@ -8,7 +8,7 @@ and handed on, and never looked into.
 
 from __future__ import annotations
 
-from collections.abc import Mapping
+from collections.abc import Collection, Mapping
 from dataclasses import dataclass, field
 from typing import Generic, TypeVar
 
@@ -60,15 +60,6 @@ class Transaction(Generic[Row]):
     after: Mapping[str, Slice[Row]]
 
 
-@dataclass(frozen=True)
-class _Differing(Generic[Row]):
-    """What was found for a knowledge and a reading, which stay as they are."""
-
-    known: Known[Row]
-    reading: Reading[Row]
-    names: list[str]
-
-
 @dataclass
 class Allocator(Generic[Row]):
     """One allocator. A fresh one knows nothing, and so does one that has crashed."""
@@ -76,7 +67,9 @@ class Allocator(Generic[Row]):
     known: Known[Row] | None = field(default=None)
     reading: Reading[Row] | None = field(default=None)
     waits: Transaction[Row] | None = field(default=None)
-    _differing: _Differing[Row] | None = field(default=None, compare=False, repr=False)
+    # What `differing` answers, where it is known already, and of which reading `waits` was sent.
+    _differing: list[str] | None = field(default=None, compare=False, repr=False)
+    _sent_of: Reading[Row] | None = field(default=None, compare=False, repr=False)
 
     def read(
         self,
@@ -89,25 +82,39 @@ class Allocator(Generic[Row]):
         `leader` is the modification revision of the leader key where this very allocator holds it,
         else None.
         """
-        self.reading = reading
+        self.reading, self._differing = reading, None
         self.known = None if leader is None else Known(leader, leader, slices)
         self.waits = None
 
-    def look(self, reading: Reading[Row]) -> None:
-        """The reading of the document and the reports alone."""
-        self.reading = reading
+    def look(self, reading: Reading[Row], changed: Collection[str] | None = None) -> None:
+        """The reading of the document and the reports alone.
+
+        `changed` may name the reporters whose row can be another than in the reading before, where
+        both have the same reporters in the same order: then no other row is compared.
+        """
+        kept, self.reading, self._differing = self._differing, reading, None
+        if kept is not None and changed is not None and self.known is not None:
+            some = {it for it in {*kept, *changed} if self._differs(it)}
+            self._differing = _in_order(some, reading.rows)
 
     def differing(self) -> list[str]:
         """The reporters whose slice is another than their row: first rows, then slices to delete."""
         if self.known is None or self.reading is None:
             return []
-        kept = self._differing
-        if kept is None or kept.known is not self.known or kept.reading is not self.reading:
+        if self._differing is None:
             slices, rows = self.known.slices, self.reading.rows
-            others = [name for name, row in rows.items() if not _has(slices.get(name), row)]
-            names = others + [name for name in slices if name not in rows]
-            self._differing = kept = _Differing(self.known, self.reading, names)
-        return kept.names
+            some = {name for name in {*rows, *slices} if self._differs(name)}
+            self._differing = _in_order(some, rows)
+        return self._differing
+
+    def _differs(self, name: str) -> bool:
+        """Whether the slice of a reporter is another than its row, or has none."""
+        if self.known is None or self.reading is None:
+            return False
+        piece, rows = self.known.slices.get(name), self.reading.rows
+        if name not in rows:
+            return piece is not None
+        return piece is None or piece.limits != rows[name]
 
     def may_send(self) -> bool:
         """Whether it leads, waits for no outcome, and has read at or after all that was posted."""
@@ -137,6 +144,7 @@ class Allocator(Generic[Row]):
             after.pop(name, None)
         after.update((name, it) for name, it in writes.items() if it is not None)
         self.waits = Transaction(self.known.fence, prefix, writes, posts, self.known.since, after)
+        self._sent_of = self.reading
         return self.waits
 
     def learn(self, done: int | None) -> None:
@@ -145,19 +153,24 @@ class Allocator(Generic[Row]):
             return
         sent, self.waits = self.waits, None
         if done is None:
-            self.known = None
+            self.known = self._differing = None
         else:
             self.known = Known(done, done if sent.posts else sent.since, sent.after)
+            is_of_it = self._differing is not None and self._sent_of is self.reading
+            self._differing = (self._differing or [])[len(sent.writes) :] if is_of_it else None
 
     def give_up(self) -> None:
         """The outcome is not known: it has to read before it sends again."""
         if self.waits is not None:
-            self.known, self.waits = None, None
+            self.known = self.waits = self._differing = None
 
     def crash(self) -> None:
         """It knows nothing any more."""
-        self.known = self.reading = self.waits = None
+        self.known = self.reading = self.waits = self._differing = None
 
 
-def _has(piece: Slice[Row] | None, row: Row) -> bool:
-    return piece is not None and piece.limits == row
+def _in_order(names: set[str], rows: Mapping[str, Row]) -> list[str]:
+    """Those of rows in their order, and behind them the others by name."""
+    if len(names) < 2:
+        return [*names]
+    return [it for it in rows if it in names] + sorted(it for it in names if it not in rows)

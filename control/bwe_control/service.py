@@ -26,7 +26,16 @@ from bwe_control.metrics import Metrics
 from bwe_control.namesake import Namesake
 from bwe_control.notify import notify
 from bwe_control.progress import Progress
-from bwe_control.store.interface import Bell, Compare, Delete, Put, Reading, Select, Store
+from bwe_control.store.interface import (
+    Bell,
+    Compare,
+    Delete,
+    Entry,
+    Put,
+    Reading,
+    Select,
+    Store,
+)
 from bwe_control.unposted import Unposted
 
 log = logging.getLogger(__name__)
@@ -95,9 +104,7 @@ class Service:
         self._has_changed |= view.has_changed
         self._prefix = view.posted.prefix if view.posted else 0
         self._unposted.take(view, self._desk)
-        lease = self._chain.lease
-        is_mine = view.leader and lease and view.leader.lease == lease.number
-        if not is_mine:
+        if view.leader is None or not self._is_own(view.leader):
             self._stand_by(view)
         elif not self._leads:
             self._take_lead()
@@ -106,6 +113,10 @@ class Service:
         else:
             self._lead(view, reading if reads_all else None)
         self._metrics.show(self._prefix, self._desk, self._unposted.seconds())
+
+    def _is_own(self, leader: Entry) -> bool:
+        lease = self._chain.lease
+        return lease is not None and leader.lease == lease.number
 
     def _wait(self) -> None:
         """Waits for something to do: the bell, the next look, or the time of the next post."""
@@ -117,8 +128,22 @@ class Service:
             self._looks_now = False
         elif self._leads and self._has_changed:
             time.sleep(max(0.0, self._due - time.monotonic()))
-        else:
+        elif self._leads:
             self._bell.wait(LOOK_EACH)
+        else:
+            self._rest(self._bell)
+
+    def _rest(self, bell: Bell) -> None:
+        """A standby reads everything once a second, and at once where nobody leads any more.
+
+        The leader writes its key with each table, which rings; a reading of all that is reported costs
+        a store more than one of that key.
+        """
+        until = time.monotonic() + LOOK_EACH
+        while (left := until - time.monotonic()) > 0 and bell.wait(left):
+            leader = self._store.read([Select(self._keys.leader)]).found[0].one()
+            if leader is None or self._is_own(leader):
+                return
 
     # ---- the leader
 

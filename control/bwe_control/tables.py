@@ -42,7 +42,8 @@ class Tables:
             for name, tasks in network.tasks.items()
             for place, task in enumerate(tasks)
         }
-        self._changed = set(network.reporters)
+        self._changed = set(network.reporters)  # whose lines are others than in their row
+        self._made: set[str] = set()  # whose rows were made anew since they were asked for
         self.rows = {name: b"" for name in network.reporters}
         self.total = 0
         self._take(self._live.first)
@@ -81,7 +82,13 @@ class Tables:
         self._lines = []
         for name in self._changed:
             self.rows[name] = b"".join(line + b"\n" for line in self._task_lines[name])
+        self._made |= self._changed
         self._changed.clear()
+
+    def changed(self) -> set[str]:
+        """The reporters whose rows were made anew since the last call."""
+        made, self._made = self._made, set()
+        return made
 
     def _all_lines(self) -> list[bytes]:
         return [

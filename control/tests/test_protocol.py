@@ -104,3 +104,32 @@ def test_what_goes_aside_is_a_part_without_slices():
     assert (dict(aside.writes), aside.posts, aside.fence) == ({}, False, 2)
     one.learn(3)
     assert one.send(0).posts
+
+
+def test_rows_that_did_not_change_are_not_compared_again():
+    """Looks that say what changed find what looks that compare everything find."""
+    for seed in range(300):
+        chance, revision = random.Random(seed), 10
+        names = [f"r{it}" for it in range(6)]
+        rows = {it: chance.randrange(3) for it in names}
+        told, asked = Allocator(), Allocator()
+        stands = {it: Slice(1, chance.randrange(3)) for it in chance.sample([*names, "gone"], 4)}
+        for one in (told, asked):
+            one.read(Reading(revision, dict(rows)), revision, stands)
+        for _ in range(20):
+            most = chance.randint(1, 7)
+            sent = told.send(most), asked.send(most)
+            assert sent[0] == sent[1] and told.differing() == asked.differing()
+            if chance.random() < 0.3:
+                revision += 1
+                for one in (told, asked):
+                    one.look(Reading(revision, dict(rows)), [] if one is told else None)
+            revision += 1
+            for one in (told, asked):
+                one.learn(revision)
+            changed = chance.sample(names, chance.randrange(4))
+            for it in changed:
+                rows[it] = chance.randrange(3)
+            told.look(Reading(revision, dict(rows)), changed)
+            asked.look(Reading(revision, dict(rows)))
+            assert told.differing() == asked.differing() and told == asked
