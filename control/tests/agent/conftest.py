@@ -11,8 +11,8 @@ import pytest
 
 from .hosts import Hosts, why_no_kernel
 
-# Examples are the same each time, and nothing is kept of them.
-hypothesis.settings.register_profile("agent", database=None, derandomize=True)
+# Examples are the same each time, nothing is kept of them, and on a busy machine they may take long.
+hypothesis.settings.register_profile("agent", database=None, deadline=None, derandomize=True)
 hypothesis.settings.load_profile("agent")
 
 TOP = Path(__file__).resolve().parents[3]
