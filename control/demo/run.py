@@ -36,7 +36,6 @@ HERE = Path(__file__).resolve().parent
 TOP = HERE.parents[1]
 DOCS = TOP / "docs"
 COUNT_EACH = "0.05"
-SETTLING, IDLE = 3.0, 2.0
 TRAFFIC_PRIORITY = 3
 PLACE = {"direct": 0, "by b": 1}
 
@@ -72,10 +71,10 @@ class Demonstration:
         minors = {host: read_state(self._folder / f"{host}.state").minors for host in AGENTS}
         probes = Probes(self._network, minors)
         probes.start()
-        time.sleep(IDLE)
+        time.sleep(self._plan.idle)
         for task in TASKS:
             self._start_task(task.name)
-        time.sleep(SETTLING)
+        time.sleep(self._plan.settling)
         self._play()
         self.recording.samples = probes.stop()
         self.recording.received = read_counts(self._folder / "received")
@@ -210,7 +209,9 @@ def why_not() -> str | None:
 
 def arguments() -> argparse.Namespace:
     parser = argparse.ArgumentParser(description=__doc__)
-    parser.add_argument("--quick", action="store_true", help="30 seconds, into a temporary folder")
+    parser.add_argument(
+        "--quick", action="store_true", help="some 30 seconds, into a temporary folder"
+    )
     parser.add_argument("--store", choices=["sqlite", "etcd"])
     parser.add_argument("--again", type=Path, help="draw a recording again")
     return parser.parse_args()
@@ -244,6 +245,7 @@ def main() -> int:
     plan = QUICK if given.quick else FULL
     store = given.store or ("sqlite" if given.quick else "etcd")
     folder = Path(tempfile.mkdtemp(prefix="bwe-demo-"))
+    began = time.monotonic()
     try:
         if given.again:
             recording, costs = pickle.loads(given.again.read_bytes())
@@ -255,9 +257,22 @@ def main() -> int:
         print(f"demo: {error}; the logs are in {folder}", file=sys.stderr)
         return 1
     target = folder if given.quick else DOCS
+    drawing = time.monotonic()
     for path in write_page(recording, target, costs):
         print(path)
+    if given.quick:
+        say_seconds(recording, began, drawing)
     return 0
+
+
+def say_seconds(recording: Recording, began: float, drawing: float) -> None:
+    """Says where the time went: what is above the plan is the machine's other work."""
+    before, played = recording.start - began, recording.plan.seconds
+    print(
+        f"{before:.0f} s until all was ready, {played:.0f} s of events, "
+        f"{drawing - recording.start - played:.0f} s to end it, "
+        f"{time.monotonic() - drawing:.0f} s for the page; {recording.machine}"
+    )
 
 
 if __name__ == "__main__":

@@ -129,11 +129,16 @@ class Note:
 
 @dataclass(frozen=True)
 class Plan:
-    """The events in the order of their times, how long it all takes, and the picture's notes."""
+    """The events in the order of their times, how long it all takes, and the picture's notes.
+
+    Before the first event the network is `idle` for so long, and tasks then send for `settling`.
+    """
 
     seconds: float
     events: tuple[Event, ...] = ()
     notes: tuple[Note, ...] = ()
+    idle: float = 2
+    settling: float = 3
 
     def phases(self) -> list[tuple[float, float, str]]:
         """The spans between events with a label."""
@@ -172,15 +177,18 @@ FULL = Plan(
         Note(2, (38, 65), (25, 45), "no queue any more"),
     ),
 )
+# With what comes before and after it on a machine at rest, 30 seconds in all.
 QUICK = Plan(
-    30,
+    21,
     (
         Event(0, "nothing", label="no limits"),
-        Event(6, "enforce", label="limits in force"),
-        Event(16, "report", ("ac", "20000"), label="a→c has\n20 Mbit/s"),
-        Event(16.5, "line", ("ac", "20000")),
-        Event(21, "kill leader", label="leader\nkilled"),
-        Event(25, "kill agent", label="agent\nkilled"),
-        Event(28, "start agent"),
+        Event(4, "enforce", label="limits in force"),
+        Event(10, "report", ("ac", "20000"), label="a→c has\n20 Mbit/s"),
+        Event(10.5, "line", ("ac", "20000")),
+        Event(14, "kill leader", label="leader\nkilled"),
+        Event(17.5, "kill agent", label="agent\nkilled"),
+        Event(19, "start agent"),
     ),
+    idle=1,
+    settling=2,
 )
