@@ -72,7 +72,7 @@ def draw(reading: Reading, path: Path) -> None:
     plt.close(figure)
     # Few colours: the repository keeps the file.
     with Image.open(buffer) as image:
-        image.convert("P", palette=Image.Palette.ADAPTIVE, colors=64).save(path, optimize=True)
+        image.convert("RGB").quantize(64).save(path, optimize=True)
 
 
 def draw_phases(figure: Figure, panels: list[Axes], reading: Reading) -> None:

@@ -27,7 +27,7 @@ def why_no_kernel() -> str | None:
     """Why the tests with a kernel cannot run here, None where they can."""
     missing = [name for name in ("ip", "nft", "nsenter", "tc") if shutil.which(name) is None]
     if missing:
-        return f"needs {', '.join(missing)}: tools/packages"
+        return f"needs {', '.join(missing)}: tools/build/packages"
     if os.geteuid() != 0 or not may_change_network():
         return "needs root, for network namespaces"
     netlink = Netlink()
