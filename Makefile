@@ -7,6 +7,7 @@
 ## make plant-main  wrong bodies that proofs let through, each of which has to fail a case
 ## make cases    the whole cases alone, on the built program
 ## make tools    the tests of tools/
+## make pages    the tables of docs/PROMISES.md and docs/MUTATIONS.md, made of their data
 ## make chaos    faults on bwe-control over both stores, judged; SECONDS=60 SEED=1 STORE=both
 ## make chaos-mutants  broken allocators, each of which the judge of chaos has to find
 ## make look     a first table in a minute; nothing of it is proved
@@ -39,7 +40,7 @@ below     = $(filter $(subst $(comma), ,$(patsubst $1:%,%,$(filter $1:%,$(lines)
 sources   = $(filter crates/$1/src% crates/$1/specs% crates/$1/proofs%,$(files))
 built     = $(if $(filter $1,$(programs)),crates/$1/out/$1,crates/$1/out/rlib/stamp)
 
-.PHONY: build check edits plant-main cases tools look study study-references bench demo install deb release clean help $(programs)
+.PHONY: build check edits plant-main cases tools pages look study study-references bench demo install deb release clean help $(programs)
 .PHONY: chaos chaos-mutants
 build: $(programs)
 $(foreach it,$(programs),$(eval $(it): $(call built,$(it))))
@@ -76,6 +77,9 @@ tools:
 	@tools/build/packages
 	@/usr/bin/python3 -m pytest -q -p no:cacheprovider tools
 	@/usr/bin/python3 -m pytest -q -p no:cacheprovider control
+
+pages:
+	@tools/build/pages.py
 
 STORE   := both
 SECONDS := 60

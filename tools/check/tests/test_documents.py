@@ -3,6 +3,8 @@
 import re
 from pathlib import Path
 
+import pages
+
 TOP = Path(__file__).resolve().parents[3]
 
 
@@ -32,21 +34,31 @@ def test_each_crate_has_a_folder_and_each_folder_a_line():
     assert own == {source.parent.name for source in (TOP / "crates").glob("*/src")}
 
 
-def test_the_table_of_layers_has_the_order_of_crates_txt():
-    page = (TOP / "docs/ARCHITECTURE.md").read_text().split("## The layers\n")[1].split("\n## ")[0]
-    rows = re.findall(r"^\| *([a-z]*) *\| (`[^|]*) \|", page, re.MULTILINE)
-    found = {}
-    for layer, names in rows:
-        if layer:
-            found[layer] = []
-        list(found.values())[-1].extend(re.findall("`([a-z0-9_]+)`", names))
-    assert found == {layer: list(crates) for layer, crates in layers().items()}
+def test_made_tables_are_what_make_pages_writes():
+    assert [page.name for page, text in pages.pages().items() if page.read_text() != text] == []
+
+
+def test_what_is_said_of_crates_is_said_of_those_of_crates_txt():
+    own = [name for crates in layers().values() for name in crates]
+    assert list(pages.data("promises.toml")) == own
+    assert set(pages.data("mutations.toml")["plant"]) <= set(own)
+
+
+def test_each_mutant_case_and_test_of_the_report_is_there():
+    text = (TOP / "docs/mutations.toml").read_text()
+    mutants = {f"{edit.parent.parent.name}/{edit.stem}" for edit in edits()}
+    for name in re.findall(r"`([a-z_]+/[A-Za-z0-9_/-]+)`", text):
+        path = name if name.startswith("cases/") else f"cases/{name}"
+        assert name in mutants or (TOP / path).is_dir(), name
+    sources = "".join(file.read_text() for file in TOP.glob("crates/service_cases/src/**/*.rt"))
+    for name in re.findall(r"`([a-z]+(?:_[a-z]+){4,})`", text):
+        assert f"fn {name}(" in sources, name
 
 
 def test_each_link_between_documents_leads_somewhere():
-    pages = [*TOP.glob("*.md"), *TOP.glob("docs/*.md"), *TOP.glob("examples/**/*.md"),
-             *TOP.glob("cases/*.md")]
-    for page in pages:
+    found = [*TOP.glob("*.md"), *TOP.glob("docs/*.md"), *TOP.glob("examples/**/*.md")]
+    found += [*TOP.glob("cases/*.md"), *TOP.glob("tools/*.md"), *TOP.glob("control/chaos/*.md")]
+    for page in found:
         for target in re.findall(r"\]\(([^)#:]+)(?:#[^)]*)?\)", page.read_text()):
             assert (page.parent / target).exists(), f"{page.name}: {target}"
 
@@ -90,14 +102,6 @@ def test_no_crate_has_edits_of_both_kinds():
     folders = [edit.parent for edit in edits()]
     crates = [folder.parent.name for folder in dict.fromkeys(folders)]
     assert sorted(crates) == sorted(set(crates))
-
-
-def test_the_page_of_choices_names_the_crates_without_an_edit():
-    crates = {path.parent.name for path in (TOP / "crates").glob("*/src")}
-    without = crates - {edit.parent.parent.name for edit in edits()}
-    page = (TOP / "docs/DECISIONS.md").read_text()
-    paragraph = page.split("have no edit that has to be refused**")[1].split("\n\n")[0]
-    assert set(re.findall("`([a-z0-9_]+)`", paragraph)) & crates == without
 
 
 def words_of_sources():
