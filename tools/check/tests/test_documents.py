@@ -70,9 +70,9 @@ def test_pages_name_the_version_and_the_kit_of_their_files():
     assert set(named) == {(TOP / "KIT").read_text().strip()}
 
 
-def test_the_readme_names_each_crate_of_the_kit_that_is_trusted():
-    readme = " ".join((TOP / "README.md").read_text().split())
-    trusted = readme.split("the statements of the kit's crates that are used (")[1].split(")")[0]
+def test_each_crate_of_the_kit_that_is_trusted_is_named():
+    page = (TOP / "docs/PROMISES.md").read_text()
+    trusted = page.split("## Trusted\n")[1].split("\n## ")[0]
     own = {name for crates in layers().values() for name in crates}
     used = {name for crates in layers().values() for below in crates.values() for name in below}
     assert set(re.findall("`([a-z0-9_]+)`", trusted)) == used - own
