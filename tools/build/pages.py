@@ -88,9 +88,9 @@ def map_of_crates() -> list[str]:
 
 
 def planted() -> list[str]:
-    """What `rt plant` said, a row a crate in which it was run."""
+    """What `rt plant` said, a row a crate in which it was run; `memory` stands in the data alone."""
     plant = data("mutations.toml")["plant"]
-    rows = head("crate", "refused of tried", "not judged", "out of memory: refused by", "else")
+    rows = head("crate", "refused of tried", "not judged", "let through, but for out of memory")
     for crate in crates():
         said = plant.get(crate.name, {})
         if "tried" in said:
@@ -102,7 +102,6 @@ def planted() -> list[str]:
                     f"`{crate.name}`",
                     f"{said['refused']}/{said['tried']}",
                     str(said.get("left", "")),
-                    said.get("memory", ""),
                     "; ".join(other),
                 )
             )
