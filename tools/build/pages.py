@@ -142,10 +142,19 @@ def counted() -> list[str]:
     ]
 
 
-def named(topic: str) -> list[str]:
-    """The wrong bodies of a topic, each with what refuses it."""
-    rows = data("mutations.toml")["named"][topic]["rows"]
-    return [*head("body", "refused by"), *(row(body, refused) for body, refused in rows)]
+def named() -> list[str]:
+    """The wrong bodies that no proof refuses, by topic, each with what refuses it."""
+    topics = data("mutations.toml")["named"]
+    proved = sum(len(topic["by_proof"]) for topic in topics.values())
+    rows = [
+        f"A clause, a definition's literal or a type refuses {proved} of them. The others are these.",
+        "",
+        *head("body", "refused by"),
+    ]
+    for name, topic in topics.items():
+        rows.append(row(f"**{name}**", ""))
+        rows += [row(body, refused) for body, refused in topic["else"]]
+    return rows
 
 
 def wrapped(lines: list[str]) -> list[str]:
@@ -174,7 +183,7 @@ def pages() -> dict[Path, str]:
             "counts": counted(),
             "plant": planted(),
             "not-run": not_planted(),
-            **{topic: named(topic) for topic in data("mutations.toml")["named"]},
+            "named": named(),
         },
     }
     found: dict[Path, str] = {}
