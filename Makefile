@@ -2,10 +2,10 @@
 #
 ## make          proves and builds all, on all processors; what has not changed is left as it is
 ## make bwe      proves and builds bwe alone; make bwe_solve what a first table needs
-## make check    every proof, the edits that have to be refused, every test, then the whole cases
-## make edits    the edits that the gate leaves out, of crates whose proof is long
+## make check    every proof, the mutants that have to be refused, every test, then the cases
+## make edits    the slow mutants, which the gate leaves out, of crates whose proof is long
 ## make plant-main  wrong bodies that proofs let through, each of which has to fail a case
-## make cases    the whole cases alone, on the built program
+## make cases    the end-to-end cases alone, on the built programs
 ## make tools    the tests of tools/
 ## make pages    the tables of docs/PROMISES.md and docs/MUTATIONS.md, made of their data
 ## make chaos    faults on bwe-control over both stores, judged; SECONDS=60 SEED=1 STORE=both

@@ -57,9 +57,9 @@ def group(
 
     Options may stand in BWE_STORE, BWE_NETWORK, BWE_CA, BWE_CERT and BWE_KEY.
 
-    Status: 0 done, 1 lines of a report were refused, 2 words, a file or a package, 3 a document or
-    report cannot be taken, 4 the store is away or refuses and nothing was done, 5 it is not known
-    whether it was done.
+    Exit status: 0 done, 1 lines of a report were refused, 2 an argument, a file or a package, 3 a
+    document or report cannot be taken, 4 the store is away or refuses and nothing was done, 5 it is
+    not known whether it was done.
     """
     log_to_standard_error(logging.WARNING)
     if None in (ca, cert, key) and (ca, cert, key) != (None, None, None):

@@ -127,7 +127,8 @@ def wait_posted(
 ) -> Posted | None:
     """Waits for a table that holds what stands at a revision; None after so many seconds.
 
-    By linearizable readings alone: who is told and then reads sees this table or a later one.
+    By linearizable readings alone: a caller that is told and then reads sees this table or a
+    later one.
     StoreAway where the store did not answer for `patience` seconds.
     """
     now = time.monotonic()

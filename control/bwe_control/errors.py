@@ -52,7 +52,7 @@ class LeaseLost(StoreError):
 class OutcomeUnknown(ControlError):
     """A transaction was sent and its answer is lost: it was done, was not, or comes late.
 
-    Who meets this reads before it writes again.
+    A caller that meets this reads before it writes again.
     """
 
     status = 5

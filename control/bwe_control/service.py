@@ -274,7 +274,7 @@ class Service:
         self._pause = min(2 * self._pause, PAUSES[1])
 
     def _tell(self, status: str, is_ready: bool = True) -> None:
-        """Tells systemd what has changed: ready is who leads or stands by."""
+        """Tells systemd what has changed: an allocator that leads or stands by is ready."""
         if status != self._told:
             self._told = status
             notify(("READY=1\n" if is_ready else "") + f"STATUS={status}")

@@ -23,7 +23,7 @@ async def full_disk(world: World, rng: random.Random) -> None:
 
 
 async def read_only(world: World, rng: random.Random) -> None:
-    """Nobody may write the folder and its files who opens them now; all who had them are killed."""
+    """The folder and its files cannot be opened for writing; processes that had them are killed."""
     sqlite(world).forbid(True)
     if rng.random() < 0.5:
         await kill_everything(world, rng)

@@ -235,7 +235,7 @@ class ReaderJudge:
         self.verdict.count("reports of unknown outcome", call.status == 5)
 
     def judge_told(self, call: Call, prefixes: set[int]) -> None:
-        """Who was told `posted X` has a report in it, and X was posted."""
+        """A call that was told `posted X` has its report in it, and X was posted."""
         put, told = told_of(call, "put"), told_of(call, "posted")
         if told is None:
             return

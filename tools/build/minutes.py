@@ -6,7 +6,7 @@ The gate's log names no times. So each half second this looks at the prover's pr
 command: which crate each works on, whether on the crate itself, on its tests or on an edit, and
 its processor time so far. What a process did in its last half second is lost, so the table has a
 little less than the truth. The command's own output goes to standard error, the table, as
-Markdown, to standard output. The status is the command's.
+Markdown, to standard output. The exit status is the command's.
 
     minutes.py rt ci             all, from nothing
     minutes.py --process 4711    a command that runs already, by its number, till it ends

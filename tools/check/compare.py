@@ -1,5 +1,5 @@
 #!/usr/bin/python3
-"""tools/check/compare.py [PROGRAM [COUNT [SEED]]]: compares lines with a second, plain
+"""tools/check/compare.py [PROGRAM [COUNT [SEED]]]: compares commands with a second, plain
 implementation.
 
 Makes COUNT valid documents by chance (small shares, so that raising them one by one is quick),
@@ -8,7 +8,7 @@ rules of docs/DEFINITIONS.md as they are written there: one share after the othe
 searched by halves. The closings of that table have to be right for `check`, the groups' values
 for `levels` at a share by chance, at times above the top, the table of tiers by chance for
 `tiers`, and the world of regions after events by chance for `enforce`. The documents are compared
-side by side on all processors. The last line says how many agreed; the status is 0 where all did.
+side by side on all processors. The last line says how many agreed; the exit status is 0 where all did.
 """
 
 import json

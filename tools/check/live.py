@@ -248,7 +248,7 @@ def lines_from(source):
 
 
 def serve(source, sink):
-    """Answers what comes from the source until it ends; the status."""
+    """Answers what comes from the source until it ends; the exit status."""
     front = re.fullmatch(rb"([0-9]{1,20})\n", source.readline(21))
     length = int(front.group(1)) if front else 0
     if length > MOST_BYTES:
@@ -272,7 +272,7 @@ def serve(source, sink):
 
 
 def follow_text(given):
-    """All that is to be written for an input, and the status."""
+    """All that is to be written for an input, and the exit status."""
     sink = io.BytesIO()
     status = serve(io.BytesIO(given), sink)
     return sink.getvalue(), status

@@ -22,7 +22,7 @@ end. What is checked of a printed run:
 
 Over all runs, some read has to lie strictly between the first and the last prefix: a reader has
 seen a table of a part of the history. The runs are made side by side on all processors. The last
-line says how much was seen. The status is 0 where all runs passed.
+line says how much was seen. The exit status is 0 where all runs passed.
 """
 
 import argparse
@@ -160,7 +160,7 @@ def written(program, words, document):
     run = subprocess.run(
         [program, *words], input=json.dumps(document).encode(), capture_output=True, timeout=120
     )
-    need(run.returncode == 0 and not run.stderr, f"{words[0]} ends with status {run.returncode}")
+    need(run.returncode == 0 and not run.stderr, f"{words[0]} ends with exit status {run.returncode}")
     return run.stdout.decode()
 
 

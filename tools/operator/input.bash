@@ -29,7 +29,7 @@ joined() {
 }
 
 # Runs the program as a child, with standard input as it is, and hands on to it the signals that
-# would end a program; `status` is its status.
+# would end a program; `status` is its exit status.
 run_as_child() {
     local signal child
     # A child in the background would not hear the keys that end a program.
@@ -43,7 +43,7 @@ run_as_child() {
     trap - TERM HUP INT QUIT
 }
 
-# Ends as that program did, by its status or its signal.
+# Ends as that program did, by its exit status or its signal.
 end_as_child() {
     [ "$status" -le 128 ] || kill -s $((status - 128)) $$
     exit "$status"

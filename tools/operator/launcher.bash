@@ -86,7 +86,7 @@ to_come() {
     (cd "$here" && tools/build/left "$crate" | head -n 1)
 }
 
-# Builds the program where there is none, or ends with status 70.
+# Builds the program where there is none, or ends with exit status 70.
 build_first() {
     local why
     why=$(hindrance)

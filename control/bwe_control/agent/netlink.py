@@ -110,7 +110,7 @@ class Netlink:
     def get(self, kind: int, payload: bytes) -> memoryview | None:
         """The payload of the answer to a request that is no dump, None where there is none.
 
-        The kernel shows a qdisc to who asks only where an echo is asked for.
+        The kernel shows a qdisc to the caller only where an echo is asked for.
         """
         sequence = self._next()
         flags = REQUEST | ACK | ECHO

@@ -27,7 +27,7 @@ LONGEST_WAIT, PAUSE = 1.0, 0.005
 
 
 def make_device(device: str) -> None:
-    """A device of this name, which sends to all addresses without asking who has them."""
+    """A device of this name, which sends to all addresses without asking which host has them."""
     peer = "peer1" if device == "peer0" else "peer0"
     commands = f"""
         link add {device} type veth peer name {peer}

@@ -57,8 +57,8 @@ def run_command(session: Session, config: Path) -> None:
 def check_command(config: Path) -> None:
     """Say what this host has and what will be used, and try each match with a packet.
 
-    Packets are sent in a network namespace of their own, and nothing of the host is changed. Status
-    1 where the agent could not run, or a packet does not land in the class of its task.
+    Packets are sent in a network namespace of their own, and nothing of the host is changed. Exit
+    status 1 where the agent could not run, or a packet does not land in the class of its task.
     """
     is_good = True
     for finding in check(read_config(config)):
@@ -77,9 +77,9 @@ def clear_command(config: Path) -> None:
 
 @command.command("move")
 @config_argument
-@click.argument("moves", nargs=-1, required=True, metavar="TASK=PLACE...")
+@click.argument("moves", nargs=-1, required=True, metavar="TASK=NUMBER...")
 def move_command(config: Path, moves: tuple[str, ...]) -> None:
-    """Let the packets of TASK go by its path group of the number PLACE, from 0.
+    """Let the packets of TASK go by its path group of that NUMBER, from 0.
 
     They get that one's mark of `paths` in CONFIG, which the host's routes send another way. All
     moves are one change in the kernel.
@@ -88,6 +88,6 @@ def move_command(config: Path, moves: tuple[str, ...]) -> None:
     for text in moves:
         task, _, place = text.rpartition("=")
         if not place.isdecimal():
-            raise InputError(f"a move is TASK=PLACE, as web=1, and not {text!r}")
+            raise InputError(f"a move is TASK=NUMBER, as web=1, and not {text!r}")
         places[task] = int(place)
     move(read_config(config), places)

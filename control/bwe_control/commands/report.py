@@ -25,7 +25,7 @@ def command(session: Session, reporter: str, waits: bool) -> None:
     Lines are `demand TASK AMOUNT` and `capacity LINK AMOUNT`, in kilobits per second. They are all
     that it reports now: what they leave out falls to demand 0 and the document's capacity. Writes
     `put R`, the revision; with --wait then `posted X`, with X at least R, or what was refused and
-    status 1.
+    exit status 1.
 
     \b
         printf 'demand t0 80\\ndemand t1 80\\n' | bwe-control report r0 --wait

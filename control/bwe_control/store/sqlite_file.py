@@ -189,7 +189,7 @@ class SqliteFile:
             raise OutcomeUnknown(f"whether it is on disk is not known: {fault}") from fault
 
     def _lock(self, connection: sqlite3.Connection, patience: float) -> None:
-        """Asks for the one lock of writers again and again; who has waited longer asks more often.
+        """Asks for the one lock of writers, the more often the longer it has waited.
 
         SQLite's own waiting asks ever less often, and then some writers wait for a second.
         """

@@ -24,7 +24,7 @@ Raw = dict[str, Any]  # an object of JSON
 
 
 class ToolError(click.ClickException):
-    """A fault that is told in one sentence on standard error, with status 2."""
+    """A fault that is told in one sentence on standard error, with exit status 2."""
 
     exit_code = 2
 

@@ -18,11 +18,11 @@ ROOT = Path(__file__).resolve().parents[3]
 VARIABLES = {"bwe": "BWE", "bwe-live": "BWE_LIVE"}
 
 SENTENCES = {
-    2: "the program does not know the line `{line}`; is it older than these tools?",
+    2: "the program does not know the command `{line}`; is it older than these tools?",
     4: "the program could not read its input",
     5: "the program could not write its answer",
-    6: "the program found too little memory, and wrote nothing",
-    7: "the program could not read its own words",
+    6: "the program ran out of memory, and wrote nothing",
+    7: "the program could not read its own arguments",
     8: "the document is longer than 67108864 bytes, the most that the program reads",
     70: "the program could not be built, so there is none to run",
 }

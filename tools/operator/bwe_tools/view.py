@@ -1,4 +1,4 @@
-"""A document beside its table: what links carry, what groups and tasks got, and who holds them."""
+"""A document beside its table: what links carry, what groups and tasks got, and what holds them."""
 
 from __future__ import annotations
 

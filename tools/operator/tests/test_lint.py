@@ -21,7 +21,7 @@ REFUSED = re.compile(r"^\S*?(:(\d+):(\d+))?: fault: (.*) \(bwe: (refused .*)\)$"
 
 
 def solve_cases():
-    """The folders of the whole cases of the line solve."""
+    """The folders of the end-to-end cases of the command `solve`."""
     return sorted(
         args.parent for args in CASES.rglob("args") if args.read_bytes().split() == [b"solve"]
     )
@@ -492,7 +492,7 @@ def test_places_are_found_in_the_text():
 
 
 def test_a_trace_of_python_is_never_shown():
-    """The launcher itself, on words and files that are at fault."""
+    """The launcher itself, on arguments and files that are at fault."""
     tool = ROOT / "bwe-tools"
     for words in (
         ["lint", "/none"],

@@ -1,4 +1,4 @@
-"""Runs the tools on the words that a user gives, and says what they answered."""
+"""Runs the tools on the arguments that a user gives, and says what they answered."""
 
 import os
 import stat
@@ -24,7 +24,7 @@ class Answer:
 
 
 def run(*words, given: bytes = b"") -> Answer:
-    """What a tool answers; `given` is its standard input. A trace counts as status 1."""
+    """What a tool answers; `given` is its standard input. A trace counts as exit status 1."""
     runner = CliRunner(mix_stderr=False)
     result = runner.invoke(group, list(map(str, words)), input=given, prog_name="bwe-tools")
     err = result.stderr
@@ -34,7 +34,7 @@ def run(*words, given: bytes = b"") -> Answer:
 
 
 def fails(*words, given: bytes = b"") -> str:
-    """What a tool says of bad input: a sentence on standard error, with status 2 and no trace."""
+    """What a tool says of bad input: a sentence on standard error, with exit status 2 and no trace."""
     answer = run(*words, given=given)
     assert answer.status == 2, answer
     assert answer.out == ""

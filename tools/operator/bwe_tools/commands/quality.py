@@ -39,7 +39,7 @@ def command(document: str, table: str | None, groups: int, as_json: bool) -> Non
 
     Written are throughput, fairness (the geometric mean of min(x/x*, x*/x), where x is a group's
     amount and x* that of max-min), Jain's index of x/x*, and the groups that lose most: the link
-    that stopped each, and who loads that link more than under max-min and had another way.
+    that stopped each, and the groups that load it more than under max-min and had another way.
 
     \b
         bwe-tools quality examples/geant.json
