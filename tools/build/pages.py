@@ -71,41 +71,41 @@ def head(*cells: str) -> list[str]:
 def map_of_crates() -> list[str]:
     """A row a crate, by layer: what it is, what is proved of it and by which call, and the rest."""
     promises = data("promises.toml")
-    rows = head("crate", "what it is", "proved, and by which call", "tested, or *open*")
+    rows = head("crate", "what it is", "proved, and by which call")
     layer = ""
     for crate in crates():
         if crate.layer != layer:
             layer = crate.layer
-            rows.append(row(f"**{layer}**", "", "", ""))
+            rows.append(row(f"**{layer}**", "", ""))
         said = promises[crate.name]
         by = [f"({said['by']})"] if "by" in said else []
         proved = " ".join([said["proved"], *by] if "proved" in said else by)
-        tested = [said["tested"]] if "tested" in said else []
-        if "open" in said:
-            tested.append(f"*{said['open']}*")
-        rows.append(row(f"`{crate.name}`", crate.sentence, proved, "; ".join(tested)))
+        cells = [proved] if proved else []
+        cells += [f"**Tested:** {said['tested']}"] if "tested" in said else []
+        cells += [f"**Open:** {said['open']}"] if "open" in said else []
+        rows.append(row(f"`{crate.name}`", crate.sentence, ". ".join(cells)))
     return rows
 
 
 def planted() -> list[str]:
-    """What `rt plant` said, a row a crate in which it was run; `memory` stands in the data alone."""
+    """What `rt plant` said, by crate: how many bodies, and those that no clause refuses.
+
+    Bodies that are out of memory (`memory`) stand in the data alone.
+    """
     plant = data("mutations.toml")["plant"]
-    rows = head("crate", "refused of tried", "not judged", "let through, but for out of memory")
+    counts: list[str] = []
+    rows = head("crate", "let through")
     for crate in crates():
         said = plant.get(crate.name, {})
         if "tried" in said:
-            same = said.get("same", 0)
-            other = [f"{same} answer{'s' if same == 1 else ''} the same"] if same else []
-            other += [said["other"]] if "other" in said else []
-            rows.append(
-                row(
-                    f"`{crate.name}`",
-                    f"{said['refused']}/{said['tried']}",
-                    str(said.get("left", "")),
-                    "; ".join(other),
-                )
-            )
-    return rows
+            left = f" ({said['left']})" if "left" in said else ""
+            counts.append(f"`{crate.name}` {said['refused']}/{said['tried']}{left}")
+        same = said.get("same", 0)
+        other = [f"{same} answer{'s' if same == 1 else ''} the same"] if same else []
+        other += [said["other"]] if "other" in said else []
+        if other:
+            rows.append(row(f"`{crate.name}`", "; ".join(other)))
+    return [", ".join(counts) + ".", "", *rows]
 
 
 def not_planted() -> list[str]:
