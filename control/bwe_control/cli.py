@@ -69,7 +69,7 @@ def group(
 
 
 def main() -> None:
-    """Runs the command of the arguments; a fault is one sentence and a status."""
+    """Runs the command of the arguments; a fault is one sentence and an exit status."""
     try:
         group(prog_name="bwe-control")
     except ControlError as fault:

@@ -1,4 +1,4 @@
-"""What the control plane needs to know of a document: who reports what, and who keeps to what."""
+"""What the control plane needs to know of a document: which reporter has which tasks and links."""
 
 from __future__ import annotations
 

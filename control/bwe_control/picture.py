@@ -114,7 +114,7 @@ def empty_page(network: str) -> str:
 
 
 def standing(status: Status) -> str:
-    """One sentence of HTML on who leads, and what stands unposted or refused."""
+    """One sentence of HTML: the leader, and what stands unposted or refused."""
     refused = [it.name for it in status.reporters if it.refusals]
     missing = [it.name for it in status.reporters if it.report is None]
     parts = [f"Leader: {escape(status.leader)}" if status.leader else "No allocator leads"]

@@ -13,7 +13,7 @@ from pathlib import Path
 from chaos.log import Log, text_of
 
 PATIENCE = 90.0  # seconds that a single call has
-UNKNOWN = 5  # the status of a put of which nobody knows whether it was done
+UNKNOWN = 5  # the exit status of a put whose outcome is unknown
 
 
 def send(process: asyncio.subprocess.Process, what: signal.Signals) -> None:

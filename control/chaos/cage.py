@@ -68,7 +68,7 @@ def start(arguments: Sequence[str]) -> "subprocess.Popen[bytes]":
 
 
 def finish(child: "subprocess.Popen[bytes]") -> int:
-    """The status of a run, which has some time to end once its input is closed."""
+    """The exit status of a run, which has some time to end once its input is closed."""
     try:
         return child.wait(timeout=PATIENCE)
     except subprocess.TimeoutExpired:

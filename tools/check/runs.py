@@ -1,6 +1,6 @@
 #!/usr/bin/python3
 """tools/check/runs.py [--readers N] [--reads N] [--reporters N] [PROGRAM [RUNS [SEED]]]: makes
-documents, runs the built program's line `run` on them, and checks each text.
+documents, runs the command `run` on them, and checks each text.
 
 The reporters of each document are 4, if not so many as are asked for, and report demands of their
 tasks and capacities of their links. The readers are 64, and each makes 1,000 reads and one at the

@@ -42,7 +42,7 @@ def command(session: Session, reporter: str, waits: bool) -> None:
 
 
 def _outcome(store: Store, keys: Keys, reporter: str, revision: int) -> int:
-    """Says what came of the report; the status."""
+    """Says what came of the report; the exit status."""
     posted = wait_posted(store, keys, revision)
     refusals = read_refusals(store, keys, reporter)
     if refusals is not None and refusals.revision == revision:
