@@ -55,12 +55,21 @@ def test_each_mutant_case_and_test_of_the_report_is_there():
         assert f"fn {name}(" in sources, name
 
 
+def anchor_of(heading):
+    """The anchor by which a link leads to a heading."""
+    return re.sub(r"[^\w -]", "", heading.lower()).replace(" ", "-")
+
+
 def test_each_link_between_documents_leads_somewhere():
     found = [*TOP.glob("*.md"), *TOP.glob("docs/*.md"), *TOP.glob("examples/**/*.md")]
     found += [*TOP.glob("cases/*.md"), *TOP.glob("tools/*.md"), *TOP.glob("control/chaos/*.md")]
     for page in found:
-        for target in re.findall(r"\]\(([^)#:]+)(?:#[^)]*)?\)", page.read_text()):
-            assert (page.parent / target).exists(), f"{page.name}: {target}"
+        for target, anchor in re.findall(r"\]\(([^)#:]*)(?:#([^)]*))?\)", page.read_text()):
+            file = page.parent / target if target else page
+            assert file.exists(), f"{page.name}: {target}"
+            if anchor:
+                headings = re.findall(r"^#+ (.*)$", file.read_text(), re.MULTILINE)
+                assert anchor in map(anchor_of, headings), f"{page.name}: {target}#{anchor}"
 
 
 def test_pages_name_the_version_and_the_kit_of_their_files():
