@@ -3,6 +3,7 @@
 from __future__ import annotations
 
 import json
+from collections.abc import Callable, Iterator
 from dataclasses import dataclass
 from typing import Any
 
@@ -25,9 +26,13 @@ class Network:
     owners: dict[str, dict[str, str | None]]
 
 
-def network_of(revision: int, text: bytes) -> Network:
-    """The network of a document that `bwe` accepts; Refused where the control plane does not."""
+def network_of(revision: int, text: bytes, beat: Callable[[], None] = lambda: None) -> Network:
+    """The network of a document that `bwe` accepts; Refused where the control plane does not.
+
+    `beat` is called as it goes on: a million tasks take some seconds.
+    """
     document = json.loads(text)
+    beat()
     if document["script"]:
         raise Refused(
             f"refused script of {len(document['script'])} reports: it has to be empty, since reports"
@@ -36,32 +41,30 @@ def network_of(revision: int, text: bytes) -> Network:
     reporters = tuple(document["reporters"])
     tasks: dict[str, list[str]] = {name: [] for name in reporters}
     lines: dict[str, dict[bytes, tuple[bytes, int]]] = {name: {} for name in reporters}
-    for task in _tasks(document):
+    owners: dict[str, dict[str, str | None]] = {"demand": {}, "capacity": {}}
+    for number, task in enumerate(_tasks(document)):
+        if number % 50_000 == 0:
+            beat()
         owner, name = task["reporter"], task["name"]
+        owners["demand"][name] = owner
         tasks[owner].append(name)
         lines[owner][f"demand {name}".encode()] = (f"demand {owner} {name} ".encode(), 0)
     for link in document["links"]:
         owner, name = link.get("owner"), link["name"]
+        owners["capacity"][name] = owner
         if owner is not None:
             start = f"capacity {owner} {name} ".encode()
             lines[owner][f"capacity {name}".encode()] = (start, link["capacity"])
-    owners: dict[str, dict[str, str | None]] = {
-        "demand": {task["name"]: task["reporter"] for task in _tasks(document)},
-        "capacity": {link["name"]: link.get("owner") for link in document["links"]},
-    }
     of_each = {name: tuple(of_one) for name, of_one in tasks.items()}
     return Network(revision, reporters, of_each, lines, owners)
 
 
-def _tasks(document: Any) -> list[Any]:
+def _tasks(document: Any) -> Iterator[Any]:
     """All tasks, in the document's order."""
-    return [
-        task
-        for group in document["groups"]
-        for user in group["users"]
-        for job in user["jobs"]
-        for task in job["tasks"]
-    ]
+    for group in document["groups"]:
+        for user in group["users"]:
+            for job in user["jobs"]:
+                yield from job["tasks"]
 
 
 def is_reporter(network: Network, name: str) -> bool:

@@ -20,7 +20,8 @@ from bwe_control.reports import NO_REPORT, Report, changed_lines, read_report
 from bwe_control.store.interface import Select, Store
 from bwe_control.values import Posted, accepted_of, posted_of
 
-MOST_REPORTS = 200_000  # of a document's script
+MOST_REPORTS = {4: 4_194_304}  # of a document's script, by its version
+MOST_OF_OTHERS = 200_000
 MOST_READS, MOST_READERS = 1_000, 64
 
 
@@ -139,10 +140,11 @@ def _start(line: bytes) -> bytes:
 
 def _input(text: bytes, network: Network, steps: list[Step]) -> bytes:
     """The document with the reports as its script, and the run behind it."""
-    steps = _within(steps, MOST_REPORTS)
+    document = json.loads(text)
+    steps = _within(steps, MOST_REPORTS.get(document["version"], MOST_OF_OTHERS))
     revisions = [step.revision for step in steps for _ in step.lines]
     entries = [_entry(line) for step in steps for line in step.lines]
-    whole = json.dumps({**json.loads(text), "script": entries}, separators=(",", ":")).encode()
+    whole = json.dumps({**document, "script": entries}, separators=(",", ":")).encode()
     table = run_bwe(["solve"], whole)
     reads = [
         (bisect_right(revisions, it.posted.prefix), it.posted.total) for it in steps if it.posted

@@ -29,7 +29,7 @@ class Tables:
         self._program, self.text, self._beat, self._stuck = program, text, beat, stuck
         self._live: Live | None = Live(program, text, beat, stuck)
         try:
-            self.network = network = network_of(revision, text)
+            self.network = network = network_of(revision, text, beat)
         except BaseException:
             self.close()
             raise

@@ -70,7 +70,7 @@ def test_a_history_of_too_many_reports_begins_later(deployment, monkeypatch):
     deployment.allocate("a")
     run_for_a_while(deployment)
     whole = replay(deployment.store, deployment.keys)
-    monkeypatch.setattr(replays, "MOST_REPORTS", 15)
+    monkeypatch.setattr(replays, "MOST_OF_OTHERS", 15)
     monkeypatch.setattr(replays, "MOST_READS", 2)
     text = replay(deployment.store, deployment.keys)
     assert audit(text) == "legal" and len(text) < len(whole)
