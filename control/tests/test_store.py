@@ -1,6 +1,8 @@
 """One suite over both stores: what bwe_control.store.interface says."""
 
 import itertools
+import random
+import sqlite3
 import threading
 import time
 
@@ -261,3 +263,29 @@ def test_many_operations_and_much_in_one_transaction(store, top):
     large = b"v" * 6_000_000
     put(store, top + "large", large)
     assert entry(store, top + "large").value == large
+
+
+@pytest.mark.parametrize("seed", range(5))
+def test_what_stood_since_a_compaction_stands_behind_it(tmp_path, seed):
+    """Many writes and deletions of some keys in SQLite, which is compacted again and again."""
+    chance = random.Random(seed)
+    store = open_store(f"sqlite:{tmp_path / 'control'}", makes_folder=True)
+    keys, compacted = [f"/k{it}" for it in range(7)], 0
+    for _ in range(4):
+        for number in range(400):
+            some = chance.sample(keys, chance.randrange(1, 4))
+            store.transact([], [chance.choice([Put(it, b"%d" % number), Delete(it)]) for it in some])
+        last = store.read([]).revision
+        compacted = chance.randrange(compacted, last)
+        looks = [chance.randrange(compacted, last + 1) for _ in range(20)]
+        before = [store.read([Select("/", True)], at) for at in (compacted, *looks)]
+        changes = [it for it in store.history([Select("/", True)]).changes]
+        store.compact(compacted)
+        assert [store.read([Select("/", True)], at) for at in (compacted, *looks)] == before
+        history = store.history([Select("/", True)])
+        assert history.entries == before[0].found[0].entries
+        assert [*history.changes] == [it for it in changes if it.revision > compacted]
+    store.close()
+    with sqlite3.connect(tmp_path / "control/store.db") as connection:
+        [kept] = connection.execute("SELECT count(*) FROM writes WHERE revision <= ?", [compacted])
+        assert kept[0] <= len(keys)

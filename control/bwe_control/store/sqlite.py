@@ -41,11 +41,16 @@ THEN = """SELECT key, value, created, revision, lease FROM writes w
           WHERE key >= ? AND key < ? AND value IS NOT NULL AND revision =
                 (SELECT max(revision) FROM writes v WHERE v.key = w.key AND v.revision <= ?)
           ORDER BY key"""
+# What was written before a later write of its key that is past ?1, at ?2 at most; what was deleted.
 STALE = """DELETE FROM writes WHERE row IN (
-             SELECT w.row FROM writes w WHERE w.revision <= ?1 AND
-               (w.value IS NULL OR EXISTS (SELECT 1 FROM writes v WHERE v.key = w.key
-                                           AND v.revision > w.revision AND v.revision <= ?1))
-             LIMIT 500)"""
+             SELECT w.row FROM writes v INDEXED BY writes_by_revision
+             CROSS JOIN writes w ON w.key = v.key AND w.revision < v.revision
+             WHERE v.revision > ?1 AND v.revision <= ?2)"""
+GONE = """DELETE FROM writes INDEXED BY writes_by_revision
+          WHERE revision > ?1 AND revision <= ?2 AND value IS NULL"""
+# The revision of the last of so many writes past ?1; none where there are fewer up to ?2.
+MANY = """SELECT revision FROM writes INDEXED BY writes_by_revision
+          WHERE revision > ?1 AND revision <= ?2 ORDER BY revision LIMIT 1 OFFSET 500"""
 
 
 class SqliteStore:
@@ -130,10 +135,23 @@ class SqliteStore:
             if revision <= number_of(connection, "compacted"):
                 return
             connection.execute("UPDATE meta SET value = ? WHERE name='compacted'", [revision])
-        while True:
-            with self._file.writing() as connection:
-                if not connection.execute(STALE, [revision]).rowcount:
-                    return
+        while not self._has_swept():
+            pass
+
+    def _has_swept(self) -> bool:
+        """Throws away some of what is not kept any more; whether that was all.
+
+        It goes on where the last call ended, so it costs by what was written since, and holds the
+        lock for as long as some hundred writes take.
+        """
+        with self._file.writing() as connection:
+            last, since = number_of(connection, "compacted"), number_of(connection, "swept")
+            found = connection.execute(MANY, [since, last]).fetchone()
+            upto = found[0] if found else last
+            connection.execute(STALE, [since, upto])
+            connection.execute(GONE, [since, upto])
+            connection.execute("INSERT OR REPLACE INTO meta VALUES ('swept', ?)", [upto])
+            return bool(upto == last)
 
     def close(self) -> None:
         self._file.close()

@@ -259,9 +259,13 @@ class SqliteFile:
 
 
 def number_of(connection: sqlite3.Connection, name: str) -> int:
-    """The store's number of that name: its revision, or up to where its history was given up."""
+    """The store's number of that name; 0 where it has none yet.
+
+    `revision`; `compacted`, up to where its history was given up; `swept`, up to where the writes of
+    that history were thrown away.
+    """
     row = connection.execute("SELECT value FROM meta WHERE name = ?", [name]).fetchone()
-    return int(row[0])
+    return int(row[0]) if row else 0
 
 
 def _stays_read_only(connection: sqlite3.Connection) -> bool:
