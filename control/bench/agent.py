@@ -40,6 +40,17 @@ def batch_seconds() -> float:
     return float(text.split("\nbwe_agent_batch_seconds ")[1].split()[0])
 
 
+def tables(leader: Leader, names: list[str], count: int) -> Iterator[None]:
+    """Posts a table a second; each time, near the end of its second, the caller is asked."""
+    began = time.monotonic()
+    for number in range(count):
+        base = leader.prefix * 7 + 2001
+        leader.post({name: base + at % 7 for at, name in enumerate(names)})
+        time.sleep(max(0.0, began + number + 0.9 - time.monotonic()))
+        yield
+        time.sleep(max(0.0, began + number + 1 - time.monotonic()))
+
+
 def main() -> None:
     tasks, seconds = (int(word) for word in (sys.argv[1:] + ["1000", "20"][len(sys.argv) - 1 :]))
     names = [f"t{number}" for number in range(tasks)]
@@ -52,22 +63,12 @@ def main() -> None:
         agent = AgentChild(hosts, Path(folder), leader, text, metrics=PORT)
         agent.start()
         agent.wait_for(leader.post(dict.fromkeys(names, 2000)))
-        def tables(count: int) -> Iterator[None]:
-            """Posts a table a second; each time, near the end of its second, the caller is asked."""
-            began = time.monotonic()
-            for number in range(count):
-                base = leader.prefix * 7 + 2001
-                leader.post({name: base + at % 7 for at, name in enumerate(names)})
-                time.sleep(max(0.0, began + number + 0.9 - time.monotonic()))
-                yield
-                time.sleep(max(0.0, began + number + 1 - time.monotonic()))
-
         pid = hosts.children[-1].pid
         began, used = time.monotonic(), processor(pid)
-        for _ in tables(seconds):
+        for _ in tables(leader, names, seconds):
             pass
         share = (processor(pid) - used) / (time.monotonic() - began)
-        batches = [hosts.inside("a", batch_seconds) for _ in tables(seconds)]
+        batches = [hosts.inside("a", batch_seconds) for _ in tables(leader, names, seconds)]
         in_force = agent.in_force()
     load = Path("/proc/loadavg").read_text().split()[0]
     print(f"{tasks} tasks, {2 * seconds} tables, last one in force: {in_force == leader.prefix}")
