@@ -1,10 +1,10 @@
-//! The one answer that memory was wanting.
+//! The one answer that a call was out of memory.
 
 use std::alloc::{AllocError, AllocFailed};
 use thiserror::Error;
 
-/// Memory was wanting. Nothing ties this answer to a refused growth; every object that the call was
-/// lent is as it was.
+/// The call was out of memory. Nothing ties this answer to a refused growth; every object that the
+/// call was lent is as it was.
 #[derive(Clone, Copy, Debug, PartialEq, Eq, Error)]
 #[error("out of memory")]
 pub struct OutOfMemory;
