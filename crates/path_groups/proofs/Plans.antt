@@ -34,7 +34,7 @@ module _ (network : Network) (groups : List Group) (sound : All (IsSoundGroup ne
       subst (IsSoundPathGroup network (get_or groups group no_group)) (ap (λ path_groups. get_or path_groups place []) (sym row))
       ((sound-at group lt).each_place place [] (subst (λ path_groups. place < length path_groups) row within))
 
-  pub IsPlan-sound : length groups ≤ 1_024 → IsPlan (path_groups_of groups)
+  pub IsPlan-sound : length groups ≤ 65_536 → IsPlan (path_groups_of groups)
   IsPlan-sound few = record {
     few_groups = omega (arith, few, length-map groups (λ g. g.path_groups));
     few_places = λ group lt. subst (λ path_groups. length path_groups ≤ 16) (sym (path_groups-at groups group (inside group lt))) (sound-at group (inside group lt)).few_places;

@@ -110,23 +110,23 @@ length-task_numbers specs =
     ∙ idle_clusters-tasks specs
 
 -- with no node without children the number of tasks decides
-pub many_fault : (count : ℕ) → 20_000 < count → fault_by None count ≡ Some (TooManyTasks count)
-many_fault count many = rw (lt-ltb 20_000 count many) refl
+pub many_fault : (count : ℕ) → 1_048_576 < count → fault_by None count ≡ Some (TooManyTasks count)
+many_fault count many = rw (lt-ltb 1_048_576 count many) refl
 
-pub few_fault : (count : ℕ) → count ≤ 20_000 → fault_by None count ≡ None
-few_fault count few = go (nat_lt 20_000 count) refl where
-  go : (b : Bool) → nat_lt 20_000 count ≡ b → (if b then Some (TooManyTasks count) else None) ≡ None
-  go true e = absurd (omega (arith, ltb-true 20_000 count e))
+pub few_fault : (count : ℕ) → count ≤ 1_048_576 → fault_by None count ≡ None
+few_fault count few = go (nat_lt 1_048_576 count) refl where
+  go : (b : Bool) → nat_lt 1_048_576 count ≡ b → (if b then Some (TooManyTasks count) else None) ≡ None
+  go true e = absurd (omega (arith, ltb-true 1_048_576 count e))
   go false e = refl
 
-no_fault-few : (found : Option ℕ) (count : ℕ) → fault_by found count ≡ None → count ≤ 20_000
+no_fault-few : (found : Option ℕ) (count : ℕ) → fault_by found count ≡ None → count ≤ 1_048_576
 no_fault-few (Some node) count none = absurd (cc)
-no_fault-few None count none = go (nat_lt 20_000 count) refl none where
-  go : (b : Bool) → nat_lt 20_000 count ≡ b → (if b then Some (TooManyTasks count) else None) ≡ None → count ≤ 20_000
+no_fault-few None count none = go (nat_lt 1_048_576 count) refl none where
+  go : (b : Bool) → nat_lt 1_048_576 count ≡ b → (if b then Some (TooManyTasks count) else None) ≡ None → count ≤ 1_048_576
   go true e none = absurd (cc)
-  go false e none = ltb-false 20_000 count e
+  go false e none = ltb-false 1_048_576 count e
 
-pub weights-few : (specs : List ClusterSpec) → tree_fault (clusters_of specs) ≡ None → sum_by cluster_weights specs ≤ 20_000
+pub weights-few : (specs : List ClusterSpec) → tree_fault (clusters_of specs) ≡ None → sum_by cluster_weights specs ≤ 1_048_576
 weights-few specs none = omega (arith, length-task_numbers specs, no_fault-few (position is_childless (walk (clusters_of specs))) (length (task_numbers (clusters_of specs))) none)
 
 -- there are at least as many nodes as clusters

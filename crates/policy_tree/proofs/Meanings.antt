@@ -65,7 +65,7 @@ nodes-grow meaning P is (node ∷ nodes) all s t le =
 
 nodes-meaning : {X : Type 0} (meaning : X → ℕ → ℕ) (size : X → ℕ) (P : X → Type 0) → ((x : X) → P x → IsMeaning (meaning x))
     → ((x : X) → P x → (share : ℕ) → meaning x share ≤ size x * 1_000_000_000_000)
-    → (nodes : List X) → All P nodes → sum_by size nodes ≤ 20_000 → IsMeaning (children_sum (map meaning nodes))
+    → (nodes : List X) → All P nodes → sum_by size nodes ≤ 1_048_576 → IsMeaning (children_sum (map meaning nodes))
 nodes-meaning meaning size P is most nodes all few = record {
   starts = nodes-start meaning P is nodes all;
   grows = nodes-grow meaning P is nodes all;

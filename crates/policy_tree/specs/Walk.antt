@@ -37,7 +37,7 @@ is_childless (OfJob job) = length job.tasks == 0
 -- the fault, by the lowest node without children and the number of tasks
 abbrev pub fault_by : Option ℕ → ℕ → Option TreeFault
 fault_by (Some node) count = Some (EmptyNode node)
-fault_by None count = if nat_lt 20_000 count then Some (TooManyTasks count) else None
+fault_by None count = if nat_lt 1_048_576 count then Some (TooManyTasks count) else None
 
 -- what is wrong with a tree of these clusters: a node without children comes before too many tasks
 abbrev pub tree_fault : List Cluster → Option TreeFault

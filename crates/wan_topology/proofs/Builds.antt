@@ -31,7 +31,7 @@ network_held-with strings sites capacities network is spec =
     (map_push string_bytes strings spec.name) (map_push sites_held sites (record { from = spec.from; to = spec.to }))
     ∙ ap (λ n. network_with n (link_of spec)) is
 
-pub IsNetwork-with : (network : Network) (link : Link) → IsNetwork network → length network.capacities < 4_096 → link.capacity ≤ 1_000_000_000_000 → IsNetwork (network_with network link)
+pub IsNetwork-with : (network : Network) (link : Link) → IsNetwork network → length network.capacities < 65_536 → link.capacity ≤ 1_000_000_000_000 → IsNetwork (network_with network link)
 IsNetwork-with network link is room within = record {
   few_links = omega (arith, length-append network.capacities (link.capacity ∷ []));
   each_named = omega (arith, is.each_named, length-append network.names (link.name ∷ []), length-append network.capacities (link.capacity ∷ []));
@@ -63,9 +63,9 @@ network_then-with network link later =
 pub record IsUnderWay (network : Network) (later all : List Link) : Type 0 where
   pub together : network_then network later ≡ network_of all
   pub fault : first_link_fault network.names (length network.capacities) later ≡ first_link_fault [] 0 all
-  pub few : length network.capacities + length later ≤ 4_096
+  pub few : length network.capacities + length later ≤ 65_536
 
-pub IsUnderWay-start : (all : List Link) → length all ≤ 4_096 → IsUnderWay (network_of []) all all
+pub IsUnderWay-start : (all : List Link) → length all ≤ 65_536 → IsUnderWay (network_of []) all all
 IsUnderWay-start all few = record { together = refl; fault = refl; few = omega (arith, few) }
 
 pub IsUnderWay-with : (network : Network) (link : Link) (later all : List Link) → IsUnderWay network (link ∷ later) all → link_fault network.names (length network.capacities) link ≡ None
@@ -85,7 +85,7 @@ length_links (spec ∷ specs) = ap suc (length_links specs)
 -- the links are few, and their fault is that of the first link that has one
 pub IsUnderWay-fault : (network : Network) (later all : List Link) → IsUnderWay network later all → topology_fault all ≡ first_link_fault network.names (length network.capacities) later
 IsUnderWay-fault network later all under =
-    let few : length all ≤ 4_096 =
+    let few : length all ≤ 65_536 =
     omega (arith, under.few, ap (λ n. length n.capacities) under.together, length-append network.capacities (map (λ link. link.capacity) later), length-map later (λ link. link.capacity), length-map all (λ link. link.capacity)) in
     topology_fault-few all few ∙ sym under.fault
 

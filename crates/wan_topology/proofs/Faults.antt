@@ -59,10 +59,10 @@ pub first_link_fault-end : (names : List (List ℕ)) (number : ℕ) → first_li
 unfolding first_link_fault
 first_link_fault-end names number = refl
 
-pub topology_fault-many : (links : List Link) → 4_096 < length links → topology_fault links ≡ Some (TooManyLinks (length links))
+pub topology_fault-many : (links : List Link) → 65_536 < length links → topology_fault links ≡ Some (TooManyLinks (length links))
 unfolding topology_fault
-topology_fault-many links many = let e = lt-ltb 4_096 (length links) many in rw e
+topology_fault-many links many = let e = lt-ltb 65_536 (length links) many in rw e
 
-pub topology_fault-few : (links : List Link) → length links ≤ 4_096 → topology_fault links ≡ first_link_fault [] 0 links
+pub topology_fault-few : (links : List Link) → length links ≤ 65_536 → topology_fault links ≡ first_link_fault [] 0 links
 unfolding topology_fault
-topology_fault-few links few = let e = le-ltb 4_096 (length links) few in rw e
+topology_fault-few links few = let e = le-ltb 65_536 (length links) few in rw e

@@ -26,7 +26,7 @@ first_link_fault names number (link ∷ later) =
 -- the fault of the links of an input: their number is looked at first
 unfoldable pub topology_fault : List Link → Option TopologyFault
 topology_fault links =
-    if nat_lt 4_096 (length links) then Some (TooManyLinks (length links))
+    if nat_lt 65_536 (length links) then Some (TooManyLinks (length links))
     else first_link_fault [] 0 links
 
 -- the error names this fault, or says that memory was wanting

@@ -19,13 +19,13 @@ tasks_of-count-requires c = omega (arith, length-task_numbers c.args.clusters.no
 pub returns-then-count-gt-MAX_TASKS : goal.returns-then-count-gt-MAX_TASKS
 returns-then-count-gt-MAX_TASKS c =
     let specs = c.args.clusters.now in
-    let many : 20_000 < c.tasks_of-count.result = c.if-count-gt-MAX_TASKS.true in
+    let many : 1_048_576 < c.tasks_of-count.result = c.if-count-gt-MAX_TASKS.true in
     sym (many_fault c.tasks_of-count.result many)
     ∙ ap₂ fault_by (sym (position-walk specs ∙ c.in_default.ensures.1)) (c.tasks_of-count.ensures ∙ sym (length-task_numbers specs))
 
 pub returns : goal.returns
 returns c =
     let specs = c.args.clusters.now in
-    let few : c.tasks_of-count.result ≤ 20_000 = c.if-count-gt-MAX_TASKS.false in
+    let few : c.tasks_of-count.result ≤ 1_048_576 = c.if-count-gt-MAX_TASKS.false in
     sym (few_fault c.tasks_of-count.result few)
     ∙ ap₂ fault_by (sym (position-walk specs ∙ c.in_default.ensures.1)) (c.tasks_of-count.ensures ∙ sym (length-task_numbers specs))

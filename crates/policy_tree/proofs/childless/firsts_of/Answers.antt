@@ -7,18 +7,18 @@ use Rattle.policy_tree.proofs.childless.firsts_of.Goals as goal
 
 pub overflow_cast-first : goal.overflow_cast-first
 overflow_cast-first c =
-    let few : sum_by cluster_weights c.args.clusters.now ≤ 20_000 = c.requires in
+    let few : sum_by cluster_weights c.args.clusters.now ≤ 1_048_576 = c.requires in
     omega (arith, few, sum_by-take-le cluster_weights c.args.clusters.now c.loop-cluster.cluster-index, c.loop-cluster.invariant.first)
 
 pub tasks-first-requires : goal.tasks-first-requires
 tasks-first-requires c =
-    let few : sum_by cluster_weights c.args.clusters.now ≤ 20_000 = c.requires in
+    let few : sum_by cluster_weights c.args.clusters.now ≤ 1_048_576 = c.requires in
     let part = sum_by_more_le cluster_weights c.args.clusters.now c.loop-cluster.cluster-index c.cluster-item.result c.loop-cluster-test.true in
     omega (arith, few, part, ap cluster_weights c.cluster-item.is)
 
 pub overflow_add-first : goal.overflow_add-first
 overflow_add-first c =
-    let few : sum_by cluster_weights c.args.clusters.now ≤ 20_000 = c.requires in
+    let few : sum_by cluster_weights c.args.clusters.now ≤ 1_048_576 = c.requires in
     let part = sum_by_more_le cluster_weights c.args.clusters.now c.loop-cluster.cluster-index c.cluster-item.result c.loop-cluster-test.true in
     omega (arith, few, part, ap cluster_weights c.cluster-item.is, c.loop-cluster.invariant.first, c.tasks-first.ensures)
 

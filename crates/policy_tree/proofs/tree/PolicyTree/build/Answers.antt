@@ -15,7 +15,7 @@ use Rattle.policy_tree.proofs.Idle.{idle_clusters-tasks, idle_clusters-top, idle
 use Rattle.policy_tree.proofs.tree.PolicyTree.build.Goals as goal
 use Rattle.policy_tree.proofs.tree.PolicyTree.build.Goals.{In_default}
 
-few : (c : In_default) → sum_by cluster_weights c.args.spec.clusters.items ≤ 20_000
+few : (c : In_default) → sum_by cluster_weights c.args.spec.clusters.items ≤ 1_048_576
 few c =
     weights-few c.args.spec.clusters.items
     (ap (λ (specs : List ClusterSpec). tree_fault (clusters_of specs)) (sym c.as_slice.ensures.value) ∙ sym c.fault_of.ensures ∙ c.in_default.is)
@@ -24,7 +24,7 @@ pub cluster_nodes-requires-clause-few : goal.cluster_nodes-requires-clause-few
 cluster_nodes-requires-clause-few c = few (goal.at.cluster_nodes-requires-clause-few c).In_default
 
 pub firsts_of-requires : goal.firsts_of-requires
-firsts_of-requires c = subst (λ (specs : List ClusterSpec). sum_by cluster_weights specs ≤ 20_000) (sym c.as_slice-2.ensures.value) (few (goal.at.firsts_of-requires c).In_default)
+firsts_of-requires c = subst (λ (specs : List ClusterSpec). sum_by cluster_weights specs ≤ 1_048_576) (sym c.as_slice-2.ensures.value) (few (goal.at.firsts_of-requires c).In_default)
 
 pub invariant_of-result : goal.invariant_of-result
 invariant_of-result c =
