@@ -1,7 +1,10 @@
--- Counts above their limits, in the order of the list and not of the walk. The limits stand here as
--- numbers, so that a constant of the code cannot move them.
+-- Counts above their limits, in the order of the list and not of the walk. The limits that the
+-- version decides are those of `DocumentLimits`; that of points stands here as a number, so that a
+-- constant of the code cannot move it.
 use Rattle.std.specs.Prelude.{ℕ, ◌+◌, List, [], ◌∷◌, length, Option, Some, None, nat_lt, if◌then◌else◌}
 use Rattle.std.specs.Option.{option_or}
+use Rattle.bwe_specs.specs.declared.document_limits.DocumentLimits.{DocumentLimits}
+use Rattle.bwe_specs.specs.DocumentLimits.{limits_of}
 use Rattle.doc_passes.specs.declared.limit.What.{What}
 use Rattle.doc_passes.specs.declared.limit.What.TheVariants as counts
 use Rattle.doc_passes.specs.declared.limit.Overrun.{Overrun}
@@ -54,15 +57,19 @@ hops groups = sum_of group_hops groups
 
 -- ---- the first count above its limit
 
-abbrev pub lists_overrun : Raw → Option Overrun
-lists_overrun raw =
-    option_or (overrun_of counts.Reporters 64 (length raw.reporters))
-    (option_or (overrun_of counts.Script 200_000 (length raw.script))
-    (overrun_of counts.Closings 4_096 (length raw.closings)))
+abbrev pub lists_overrun : DocumentLimits → Raw → Option Overrun
+lists_overrun limits raw =
+    option_or (overrun_of counts.Reporters limits.reporters (length raw.reporters))
+    (option_or (overrun_of counts.Script limits.reports (length raw.script))
+    (overrun_of counts.Closings limits.closings (length raw.closings)))
 
-unfoldable pub overrun : Raw → Option Overrun
-overrun raw =
-    option_or (overrun_of counts.Groups 1_024 (length raw.groups))
+unfoldable pub overrun_within : DocumentLimits → Raw → Option Overrun
+overrun_within limits raw =
+    option_or (overrun_of counts.Groups limits.groups (length raw.groups))
     (option_or (first_some group_overrun raw.groups)
-    (option_or (overrun_of counts.Hops 1_000_000 (hops raw.groups))
-    (lists_overrun raw)))
+    (option_or (overrun_of counts.Hops limits.hops (hops raw.groups))
+    (lists_overrun limits raw)))
+
+-- the limits are those of the document's version, also of one that is out of its range
+unfoldable pub overrun : Raw → Option Overrun
+overrun raw = overrun_within (limits_of raw.version) raw

@@ -1,6 +1,6 @@
 -- What the passes on names and numbers show of a document that they let through.
 use Rattle.std.specs.Prelude.{◌≡◌, ℕ, ◌<◌, ◌≤◌, length, Option, Some, None, All}
-use Rattle.bwe_specs.specs.declared.limits.TheConstants.{MAX_GROUPS, MAX_REPORTERS, MAX_REPORTS, MAX_SHARE}
+use Rattle.bwe_specs.specs.declared.limits.TheConstants.{MAX_CLOSINGS, MAX_GROUPS, MAX_REPORTERS, MAX_REPORTS, MAX_SHARE}
 use Rattle.bwe_specs.specs.declared.network.Closing.{Closing}
 use Rattle.bwe_specs.specs.declared.report.Report.{Report}
 use Rattle.demand_book.specs.Fit.{IsFit}
@@ -16,7 +16,7 @@ pub record AreFew (raw : Raw) : Type 0 where
   pub groups : length raw.groups ≤ MAX_GROUPS
   pub reporters : length raw.reporters ≤ MAX_REPORTERS
   pub script : length raw.script ≤ MAX_REPORTS
-  pub closings : length raw.closings ≤ 4096
+  pub closings : length raw.closings ≤ MAX_CLOSINGS
 
 -- there is a name for each link, group, task and reporter
 pub record AreNamesOf (raw : Raw) (names : NameTexts) : Type 0 where

@@ -95,7 +95,7 @@ closing_range closing = do
 
 unfoldable pub ranges : Raw → Result ⊤ (List PathStep)
 ranges raw = do
-  version ← member_range keys.Version (is_within 1 3 raw.version)
+  version ← member_range keys.Version (is_within 1 4 raw.version)
   top ← member_range keys.Top (is_within 1 1_000_000_000 raw.top)
   links ← items_range keys.Links link_range raw.links
   groups ← items_range keys.Groups group_range raw.groups

@@ -4,17 +4,8 @@ ghost use Rattle.std.specs.Prelude.{◌≡◌, ◌+◌, map, IfOk, IfSome};
 ghost use Rattle.raw_document.specs.Raw.{path_view, path_group_view, function_view, job_view, user_view, group_view, raw_view};
 ghost use Rattle.doc_passes.specs.Limits as limits;
 
-use bwe_specs::{MAX_GROUPS, MAX_REPORTERS, MAX_REPORTS, OutOfMemory};
+use bwe_specs::{DocumentLimits, MAX_POINTS, OutOfMemory};
 use raw_document::{RawDocument, RawGroup, RawJob, RawPath, RawUser};
-
-/// The greatest number of points of one function.
-const MAX_POINTS: u64 = 256;
-
-/// The greatest number of links over all paths, repeated ones too.
-const MAX_ALL_HOPS: u64 = 1_000_000;
-
-/// The greatest number of closings.
-const MAX_CLOSINGS: u64 = 4096;
 
 /// What there are too many of. `Points` are those of one function, `Hops` all entries of all lists
 /// of links of paths.
@@ -156,45 +147,50 @@ fn count_hops(groups: &[RawGroup]) -> Option<u64>
     Some(total)
 }
 
-fn hops_overrun(groups: &[RawGroup]) -> Result<Option<Overrun>, OutOfMemory>
+fn hops_overrun(most: u64, groups: &[RawGroup]) -> Result<Option<Overrun>, OutOfMemory>
     ensures { IfOk result (λ overrun. overrun ≡
-        limits.overrun_of What.Hops 1_000_000 (limits.hops (map group_view groups.now))) }
+        limits.overrun_of What.Hops most (limits.hops (map group_view groups.now))) }
 {
     match count_hops(groups) {
-        Some(total) => Ok(overrun_of(What::Hops, MAX_ALL_HOPS, total)),
+        Some(total) => Ok(overrun_of(What::Hops, most, total)),
         None => Err(OutOfMemory),
     }
 }
 
-fn lists_overrun(raw: &RawDocument) -> Option<Overrun>
-    ensures { result ≡ limits.lists_overrun (raw_view raw.now) }
+fn lists_overrun(most: DocumentLimits, raw: &RawDocument) -> Option<Overrun>
+    ensures { result ≡ limits.lists_overrun most (raw_view raw.now) }
 {
-    match overrun_of(
-        What::Reporters,
-        MAX_REPORTERS as u64,
-        raw.reporters.len() as u64,
-    ) {
+    match overrun_of(What::Reporters, most.reporters, raw.reporters.len() as u64) {
         Some(overrun) => Some(overrun),
-        None => match overrun_of(What::Script, MAX_REPORTS, raw.script.len() as u64) {
+        None => match overrun_of(What::Script, most.reports, raw.script.len() as u64) {
             Some(overrun) => Some(overrun),
-            None => overrun_of(What::Closings, MAX_CLOSINGS, raw.closings.len() as u64),
+            None => overrun_of(What::Closings, most.closings, raw.closings.len() as u64),
         },
     }
 }
 
-/// The first count that is above its limit, in the order of the list and not of the walk.
-#[tactic(auto, unfolding(crate::specs::Limits::overrun))]
-pub fn find_overrun(raw: &RawDocument) -> Result<Option<Overrun>, OutOfMemory>
-    ensures { IfOk result (λ overrun. overrun ≡ limits.overrun (raw_view raw.now)) }
+#[tactic(auto, unfolding(crate::specs::Limits::overrun_within))]
+fn overrun_within(most: DocumentLimits, raw: &RawDocument) -> Result<Option<Overrun>, OutOfMemory>
+    ensures { IfOk result (λ overrun. overrun ≡ limits.overrun_within most (raw_view raw.now)) }
 {
-    if let Some(overrun) = overrun_of(What::Groups, MAX_GROUPS, raw.groups.len() as u64) {
+    if let Some(overrun) = overrun_of(What::Groups, most.groups, raw.groups.len() as u64) {
         return Ok(Some(overrun));
     }
     if let Some(overrun) = groups_overrun(&raw.groups) {
         return Ok(Some(overrun));
     }
-    if let Some(overrun) = hops_overrun(&raw.groups)? {
+    if let Some(overrun) = hops_overrun(most.hops, &raw.groups)? {
         return Ok(Some(overrun));
     }
-    Ok(lists_overrun(raw))
+    Ok(lists_overrun(most, raw))
+}
+
+/// The first count that is above its limit, in the order of the list and not of the walk.
+///
+/// The version decides the limits, also one that is out of its range.
+#[tactic(auto, unfolding(crate::specs::Limits::overrun))]
+pub fn find_overrun(raw: &RawDocument) -> Result<Option<Overrun>, OutOfMemory>
+    ensures { IfOk result (λ overrun. overrun ≡ limits.overrun (raw_view raw.now)) }
+{
+    overrun_within(DocumentLimits::of(raw.version), raw)
 }

@@ -290,7 +290,7 @@ impl<'a> InRange for RawClosing<'a> {
 pub fn check_ranges(alloc: Global, raw: &RawDocument) -> Result<(), Fault>
     ensures { Gives (λ nothing. nothing) result (ranges (raw_view raw.now)) }
 {
-    check(alloc, DocKey::Version, is_in(1, 3, raw.version))?;
+    check(alloc, DocKey::Version, is_in(1, 4, raw.version))?;
     check(alloc, DocKey::Top, is_in(1, MAX_SHARE, raw.top))?;
     check_list(alloc, DocKey::Links, &raw.links)?;
     check_list(alloc, DocKey::Groups, &raw.groups)?;
