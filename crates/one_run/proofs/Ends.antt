@@ -4,20 +4,13 @@ use Rattle.std.specs.Prelude.{MatchResult, vec_len}
 use Rattle.std.specs.Io.KnownBytes.{Consumes, IsAtEnd, Keeps}
 use Rattle.bwe_io.specs.Bytes.{Takes}
 use Rattle.bwe_io.specs.Faults.{HasRisen}
-use Rattle.bwe_io.specs.declared.source.ReadError.{ReadError}
-use Rattle.bwe_io.specs.declared.source.ReadError.TheVariants.{ReadFault, TooLong, OutOfMemory}
-use Rattle.one_run.specs.Endings.{Reply, Lines, Served, IsInput, whole, IsDue, answered, too_long, no_line, reads_input, Ending, done, read_fault, write_fault, out_of_memory, Writes, entirely, partly, IsSilent, max_input, too_long_line, usage_line}
+use Rattle.one_run.specs.declared.InputError.{InputError}
+use Rattle.one_run.specs.declared.InputError.TheVariants.{ReadFault, TooLong, FarTooLong, OutOfMemory}
+use Rattle.one_run.specs.Endings.{Reply, Lines, Served, IsInput, whole, IsDue, answered, too_long, far_too_long, no_line, reads_input, Ending, done, read_fault, write_fault, out_of_memory, Writes, entirely, partly, IsSilent, max_long_input, too_long_line, far_too_long_line, usage_line}
 
 pub Keeps-same : (known : Option (List ℕ)) → Keeps known known
 Keeps-same None = tt
 Keeps-same (Some bytes) = refl
-
--- all bytes to the end of input are an input
-pub read-whole : {S : Type 0} (left : S → Option (List ℕ)) (source source_after : S) (result : Result (Vec ℕ Global) ReadError)
-    → IfOk result (λ input. Consumes (left source) (left source_after) input.items) → OnOk result (IsAtEnd (left source_after)) → IfOk result (λ input. vec_len input ≤ max_input)
-    → IfOk result (λ input. IsInput left source source_after true input.items)
-read-whole left source source_after (Ok input) consumed end within = whole consumed end (rw input.ok.0 at within)
-read-whole left source source_after (Err error) consumed end within = tt
 
 module _ {Line S K : Type 0} (lines : Lines Line) (line : Option Line) (served : Served S K) where
   abbrev WritesAll : ℕ → List ℕ → ℕ → Type 0
@@ -46,24 +39,27 @@ module _ {Line S K : Type 0} (lines : Lines Line) (line : Option Line) (served :
 
     -- the answer for an input, or want of memory for it
     pub ending-finished : {E : Type 0} {input : List ℕ} {result : ℕ} → (lines.reads is ≡ false → served.source_after ≡ served.source)
-        → IsInput served.left served.source served.source_after (lines.reads is) input
+        → IsInput served.left served.source served.source_after (lines.reads is) input → lines.is_too_long is input ≡ false
         → (answer : Result Reply E) → IfOk answer (λ reply. lines.replies is input reply)
         → MatchResult answer (λ reply. WritesAll reply.status reply.text result) (λ _. IsStill 6 result)
         → Ending lines line served result
-    ending-finished untouched input (Ok reply) replied writes = ending-writes (answered same input replied) writes
-    ending-finished untouched input (Err error) replied still =
+    ending-finished untouched input short (Ok reply) replied writes = ending-writes (answered same input short replied) writes
+    ending-finished untouched input short (Err error) replied still =
         subst (λ status. Ending lines line served status) (sym still.status_is) (out_of_memory (unread untouched) still.keeps)
 
-    -- an input that could not be read
-    pub ending-refused : {result : ℕ} → (lines.reads is ≡ false → served.source_after ≡ served.source) → (error : ReadError)
+    -- an input that could not be read, or is too long
+    pub ending-refused : {result : ℕ} → (lines.reads is ≡ false → served.source_after ≡ served.source) → (error : InputError)
         → (error ≡ ReadFault → (lines.reads is ≡ true) × HasRisen (served.read_faults served.source) (served.read_faults served.source_after))
-        → (error ≡ TooLong → (lines.reads is ≡ true) × Takes (max_input + 1) (served.left served.source) (served.left served.source_after))
-        → (error ≡ ReadFault → IsStill 4 result) → (error ≡ TooLong → WritesAll 8 too_long_line result) → (error ≡ OutOfMemory → IsStill 6 result)
-        → Ending lines line served result
-    ending-refused untouched ReadFault risen taken fault long memory =
+        → (error ≡ TooLong → (input : List ℕ) × IsInput served.left served.source served.source_after (lines.reads is) input × (lines.is_too_long is input ≡ true))
+        → (error ≡ FarTooLong → (lines.reads is ≡ true) × Takes (max_long_input + 1) (served.left served.source) (served.left served.source_after))
+        → (error ≡ ReadFault → IsStill 4 result) → (error ≡ TooLong → WritesAll 8 too_long_line result) → (error ≡ FarTooLong → WritesAll 8 far_too_long_line result)
+        → (error ≡ OutOfMemory → IsStill 6 result) → Ending lines line served result
+    ending-refused untouched ReadFault risen long taken fault longer far memory =
         subst (λ status. Ending lines line served status) (sym (fault refl).status_is)
         (read_fault same (risen refl).0 (risen refl).1 (fault refl).keeps)
-    ending-refused untouched TooLong risen taken fault long memory =
-        ending-writes (too_long same (taken refl).0 (taken refl).1) (long refl)
-    ending-refused untouched OutOfMemory risen taken fault long memory =
+    ending-refused untouched TooLong risen long taken fault longer far memory =
+        ending-writes (too_long same (long refl).1 (long refl).2) (longer refl)
+    ending-refused untouched FarTooLong risen long taken fault longer far memory =
+        ending-writes (far_too_long same (taken refl).0 (taken refl).1) (far refl)
+    ending-refused untouched OutOfMemory risen long taken fault longer far memory =
         subst (λ status. Ending lines line served status) (sym (memory refl).status_is) (out_of_memory (unread untouched) (memory refl).keeps)

@@ -1,5 +1,5 @@
 -- How a call may end: a row of the table of statuses for each way.
-use Rattle.std.specs.Prelude.{◌≡◌, ℕ, ◌+◌, ◌≤◌, Bool, true, false, List, [], length, codes, Option, Some, None}
+use Rattle.std.specs.Prelude.{◌≡◌, ℕ, ◌+◌, ◌≤◌, ◌&&◌, nat_lt, not, Bool, true, false, List, [], length, codes, Option, Some, None}
 use Rattle.std.specs.Io.KnownBytes.{Appends, Consumes, IsAtEnd, Keeps}
 use Rattle.bwe_io.specs.Faults.{HasRisen}
 use Rattle.bwe_io.specs.Bytes.{AppendsPrefix, Takes}
@@ -9,22 +9,36 @@ pub record Reply : Type 0 where
   pub status : ℕ
   pub text : List ℕ
 
--- the most bytes of an input
+-- the most bytes of an input whose document is not of version 4
 abbrev pub max_input : ℕ
 max_input = 67_108_864
+
+-- the most bytes of any input
+abbrev pub max_long_input : ℕ
+max_long_input = 1_073_741_824
+
+-- more bytes than an input may have, by whether its document is of version 4
+abbrev pub is_above : Bool → List ℕ → Bool
+is_above of_version_4 input = nat_lt max_input (length input) && not of_version_4
 
 -- the line for words that are no command line
 abbrev pub usage_line : List ℕ
 usage_line =
     codes "usage: bwe solve | check | run [--readers N] [--reads N] | make SEED GROUPS TASKS | bulk SEED GROUPS TASKS | audit | tiers | enforce | estimate WINDOW HEADROOM | levels SHARE\n"
 
--- the line for an input that has more bytes
+-- the line for an input that has more bytes than one whose document is not of version 4 may have
 abbrev pub too_long_line : List ℕ
 too_long_line = codes "refused input longer than 67108864 bytes\n"
 
--- the lines of a program: which of them read an input, and what one may get for its input
+-- the line for an input that has more bytes than any may have
+abbrev pub far_too_long_line : List ℕ
+far_too_long_line = codes "refused input longer than 1073741824 bytes\n"
+
+-- the lines of a program: which of them read an input, which input is too long for one, by the
+-- version of its document, and what one may get for its input
 pub record Lines (Line : Type 0) : Type 1 where
   pub reads : Line → Bool
+  pub is_too_long : Line → List ℕ → Bool
   pub replies : Line → List ℕ → Reply → Type 0
 
 -- a call as it is seen from outside: its source and its sink before and after, and what they tell
@@ -45,7 +59,7 @@ pub data IsInput {S
   nothing : source_after ≡ source → IsInput left source source_after false []
   whole : {input : List ℕ} → Consumes (left source) (left source_after) input
       → IsAtEnd (left source_after)
-      → length input ≤ max_input → IsInput left source source_after true input
+      → length input ≤ max_long_input → IsInput left source source_after true input
 
 -- a text and a status were due
 pub data IsDue {Line S K : Type 0}
@@ -56,12 +70,17 @@ pub data IsDue {Line S K : Type 0}
   -- what the line may get for its input
   answered : {is : Line} {input : List ℕ} {reply : Reply} → line ≡ Some is
       → IsInput served.left served.source served.source_after (lines.reads is) input
-      → lines.replies is input reply
+      → lines.is_too_long is input ≡ false → lines.replies is input reply
       → IsDue lines line served reply.status reply.text
-  -- the source gave a byte more than an input may have, and that was all that was taken
-  too_long : {is : Line} → line ≡ Some is → lines.reads is ≡ true
-      → Takes (max_input + 1) (served.left served.source) (served.left served.source_after)
+  -- the whole input was taken in, and it is too long for what its document is
+  too_long : {is : Line} {input : List ℕ} → line ≡ Some is
+      → IsInput served.left served.source served.source_after (lines.reads is) input
+      → lines.is_too_long is input ≡ true
       → IsDue lines line served 8 too_long_line
+  -- the source gave a byte more than any input may have, and that was all that was taken
+  far_too_long : {is : Line} → line ≡ Some is → lines.reads is ≡ true
+      → Takes (max_long_input + 1) (served.left served.source) (served.left served.source_after)
+      → IsDue lines line served 8 far_too_long_line
 
 -- whether there is an input to read
 abbrev pub reads_input : {Line : Type 0} → Lines Line → Option Line → Bool

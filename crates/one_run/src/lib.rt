@@ -1,18 +1,19 @@
 //! One call: what it may read, what it writes, and its status.
 //!
-//! A program has its words by `words_of`. The top call reads by `read_input` and ends by `finish`,
-//! by `refuse_input` or by `write_usage`; `Ending` says of a whole call how it may end, for the
-//! line that its words are. The whole text is made before its first byte is written. Nothing is
-//! promised of which answer a line has, nor that memory is there.
+//! A program has its words by `words_of`. The top call reads by `read_input`, asks of an input above
+//! 67,108,864 bytes whether its document is of version 4, and ends by `finish`, by `refuse_input`
+//! or by `write_usage`; `Ending` says of a whole call how it may end, for the line that its words
+//! are. The whole text is made before its first byte is written. Nothing is promised of which
+//! answer a line has, nor that memory is there.
 #![tactic(auto)]
 
-ghost use Rattle.std.specs.Prelude.{◌≡◌, ◌+◌, true, false, IfOk, IsErrOf, MatchResult};
+ghost use Rattle.std.specs.Prelude.{◌≡◌, ◌≢◌, ◌+◌, Err, true, false, IfOk, IsErrOf, MatchResult};
 ghost use Rattle.bwe_io.specs.Bytes.{Takes};
 ghost use Rattle.bwe_io.specs.Faults.{HasRisen};
-ghost use Rattle.one_run.specs.Endings.{IsInput, IsSilent, Writes, max_input, too_long_line, usage_line};
+ghost use Rattle.one_run.specs.Endings.{IsInput, IsSilent, Writes, far_too_long_line, max_long_input, too_long_line, usage_line};
 
 use bwe_io::{ReadError, Sink, Source, read_all, write_all};
-use bwe_specs::OutOfMemory;
+use bwe_specs::{MAX_LONG_INPUT, OutOfMemory};
 use std::alloc::Global;
 use std::marker::Model;
 
@@ -20,15 +21,38 @@ mod words;
 
 pub use words::words_of;
 
-/// The most bytes of an input.
-pub const MAX_INPUT: u64 = 67_108_864;
-
 /// The line for words that are no command line.
 pub const USAGE: &str =
     "usage: bwe solve | check | run [--readers N] [--reads N] | make SEED GROUPS TASKS | bulk SEED GROUPS TASKS | audit | tiers | enforce | estimate WINDOW HEADROOM | levels SHARE\n";
 
-/// The line for an input that has more bytes.
+/// The line for an input that has more bytes than one whose document is not of version 4 may have.
 pub const TOO_LONG: &str = "refused input longer than 67108864 bytes\n";
+
+/// The line for an input that has more bytes than any may have.
+pub const FAR_TOO_LONG: &str = "refused input longer than 1073741824 bytes\n";
+
+/// Why there is no input to answer.
+#[derive(Clone, Copy, Debug, PartialEq, Eq, Drop)]
+pub enum InputError {
+    /// A read failed.
+    ReadFault,
+    /// The input has more than 67,108,864 bytes, and its document is not of version 4.
+    TooLong,
+    /// The input goes on after 1,073,741,824 bytes.
+    FarTooLong,
+    /// Memory is wanting.
+    OutOfMemory,
+}
+
+impl From<OutOfMemory> for InputError {
+    ghost use Rattle.one_run.specs.declared.InputError.TheVariants.{OutOfMemory as wanting};
+
+    ghost from_gives = { λ _ e. e ≡ wanting };
+
+    fn from(_: OutOfMemory) -> InputError {
+        InputError::OutOfMemory
+    }
+}
 
 /// What a line has to write: a text, and the status to end with.
 #[derive(Debug, Drop)]
@@ -45,25 +69,31 @@ impl Model for Answer {
     ghost view = { λ answer. record { status = answer.status; text = answer.text.items } };
 }
 
-/// The whole input, where there is one to read, and nothing else.
+/// The whole input, where there is one to read, and nothing else: up to 1,073,741,824 bytes, of
+/// whatever version its document is.
 ///
 /// It returns provided that the source returns. What was taken in before a fault is gone.
 pub fn read_input<S: Source>(
     alloc: Global,
     reads: bool,
     source: &mut S,
-) -> Result<Vec<u8>, ReadError>
+) -> Result<Vec<u8>, InputError>
     ensures input { IfOk result (λ input. IsInput S.left source.old source.new reads input.items) }
     ensures untouched { reads ≡ false → source.new ≡ source.old }
-    ensures fault { IsErrOf result ReadError.ReadFault
+    ensures fault { IsErrOf result InputError.ReadFault
         → (reads ≡ true) × HasRisen (S.faults source.old) (S.faults source.new) }
-    ensures too_long { IsErrOf result ReadError.TooLong
-        → (reads ≡ true) × Takes (max_input + 1) (S.left source.old) (S.left source.new) }
+    ensures too_long { IsErrOf result InputError.FarTooLong
+        → (reads ≡ true) × Takes (max_long_input + 1) (S.left source.old) (S.left source.new) }
+    ensures not_judged { result ≢ Err InputError.TooLong }
 {
-    if reads {
-        read_all(alloc, source, MAX_INPUT)
-    } else {
-        Ok(Vec::new(alloc))
+    if !reads {
+        return Ok(Vec::new(alloc));
+    }
+    match read_all(alloc, source, MAX_LONG_INPUT) {
+        Ok(input) => Ok(input),
+        Err(ReadError::ReadFault) => Err(InputError::ReadFault),
+        Err(ReadError::TooLong) => Err(InputError::FarTooLong),
+        Err(ReadError::OutOfMemory) => Err(InputError::OutOfMemory),
     }
 }
 
@@ -89,21 +119,25 @@ pub fn finish<K: Sink>(sink: &mut K, answer: Result<Answer, OutOfMemory>) -> u8
     }
 }
 
-/// Ends a call whose input could not be read: 4 where the source failed, 6 where memory was
-/// wanting, and 8 with its line for an input that is too long.
-pub fn refuse_input<K: Sink>(sink: &mut K, error: ReadError) -> u8
-    ensures fault { error ≡ ReadError.ReadFault
+/// Ends a call that has no input to answer: 4 where the source failed, 6 where memory was wanting,
+/// and 8 with its line for an input that is too long.
+pub fn refuse_input<K: Sink>(sink: &mut K, error: InputError) -> u8
+    ensures fault { error ≡ InputError.ReadFault
         → IsSilent 4 (K.written sink.old) (K.written sink.new) result }
-    ensures too_long { error ≡ ReadError.TooLong
+    ensures too_long { error ≡ InputError.TooLong
         → Writes 8 too_long_line (K.written sink.old) (K.written sink.new)
         (K.faults sink.old) (K.faults sink.new) result }
-    ensures memory { error ≡ ReadError.OutOfMemory
+    ensures far_too_long { error ≡ InputError.FarTooLong
+        → Writes 8 far_too_long_line (K.written sink.old) (K.written sink.new)
+        (K.faults sink.old) (K.faults sink.new) result }
+    ensures memory { error ≡ InputError.OutOfMemory
         → IsSilent 6 (K.written sink.old) (K.written sink.new) result }
 {
     match error {
-        ReadError::ReadFault => 4,
-        ReadError::TooLong => write_text(sink, TOO_LONG.as_bytes(), 8),
-        ReadError::OutOfMemory => 6,
+        InputError::ReadFault => 4,
+        InputError::TooLong => write_text(sink, TOO_LONG.as_bytes(), 8),
+        InputError::FarTooLong => write_text(sink, FAR_TOO_LONG.as_bytes(), 8),
+        InputError::OutOfMemory => 6,
     }
 }
 
