@@ -1,0 +1,4 @@
+pub mod Loops
+pub mod Named
+pub mod Reading
+pub mod Tokens
