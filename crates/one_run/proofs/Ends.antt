@@ -1,12 +1,12 @@
 -- What was read and what was written end a call.
-use Rattle.std.proofs.Common.{◌≡◌, ◌∙◌, ℕ, ◌+◌, ◌≤◌, true, false, ap, refl, subst, sym, List, Option, Some, None, Result, Ok, Err, Vec, Global, IfOk, OnOk}
-use Rattle.std.specs.Prelude.{MatchResult, vec_len}
-use Rattle.std.specs.Io.KnownBytes.{Consumes, IsAtEnd, Keeps}
+use Rattle.std.proofs.Common.{◌≡◌, ◌∙◌, ℕ, ◌+◌, true, false, ap, refl, subst, sym, List, Option, Some, None, Result, Ok, Err, IfOk}
+use Rattle.std.specs.Prelude.{MatchResult}
+use Rattle.std.specs.Io.KnownBytes.{Keeps}
 use Rattle.bwe_io.specs.Bytes.{Takes}
 use Rattle.bwe_io.specs.Faults.{HasRisen}
 use Rattle.one_run.specs.declared.InputError.{InputError}
 use Rattle.one_run.specs.declared.InputError.TheVariants.{ReadFault, TooLong, FarTooLong, OutOfMemory}
-use Rattle.one_run.specs.Endings.{Reply, Lines, Served, IsInput, whole, IsDue, answered, too_long, far_too_long, no_line, reads_input, Ending, done, read_fault, write_fault, out_of_memory, Writes, entirely, partly, IsSilent, max_long_input, too_long_line, far_too_long_line, usage_line}
+use Rattle.one_run.specs.Endings.{Reply, Lines, Served, IsInput, IsDue, answered, too_long, far_too_long, no_line, reads_input, Ending, done, read_fault, write_fault, out_of_memory, Writes, entirely, partly, IsSilent, max_long_input, too_long_line, far_too_long_line, usage_line}
 
 pub Keeps-same : (known : Option (List ℕ)) → Keeps known known
 Keeps-same None = tt
