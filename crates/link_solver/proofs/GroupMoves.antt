@@ -1,10 +1,8 @@
 -- What is looked at again where a group moves comes out of its moves to come.
 use Rattle.std.proofs.Common.{◌≡◌, ℕ, ◌+◌, ◌*◌, ◌≤◌, Bool, true, false, List, [], ◌∷◌, length, Option, Some, None, refl, sym, ◌∙◌, ap, arith, if◌then◌else◌, slice_index_or}
 use Rattle.bwe_specs.specs.declared.network.Closing.{Closing}
-use Rattle.bwe_specs.specs.Bounded.{sum_below}
-use Rattle.bwe_specs.specs.Paths.{path_group_at, path_group_count, uses}
+use Rattle.bwe_specs.specs.Paths.{path_group_at, uses}
 use Rattle.bwe_specs.specs.Filling.{Wan, closed_links, current_path_group_of}
-use Rattle.bwe_specs.proofs.Bounds.{sum_below-mono}
 use Rattle.bwe_specs.proofs.Loads.{current-open}
 use Rattle.bwe_specs.proofs.StopShares.{none-more}
 use Rattle.mpfa_fill.specs.declared.standing.Standing.{Standing}

@@ -1,9 +1,8 @@
 -- The groups move on at a closing, one after the other.
-use Rattle.std.proofs.Common.{◌≡◌, ℕ, ◌+◌, ◌*◌, ◌<◌, ◌≤◌, false, List, ◌∷◌, length, reverse, refl, sym, ◌∙◌, ap, arith, subst, inl, inr, slice_index_or}
-use Rattle.std.proofs.lemmas.Bool.{cases_eq}
+use Rattle.std.proofs.Common.{◌≡◌, ℕ, ◌+◌, ◌*◌, ◌<◌, ◌≤◌, false, List, ◌∷◌, length, refl, arith, subst, slice_index_or}
 use Rattle.bwe_specs.specs.declared.network.Closing.{Closing}
 use Rattle.bwe_specs.specs.Bounded.{sum_below}
-use Rattle.bwe_specs.specs.Paths.{PathGroups, path_group_at, uses}
+use Rattle.bwe_specs.specs.Paths.{path_group_at, uses}
 use Rattle.bwe_specs.specs.Filling.{Wan, closed_links}
 use Rattle.bwe_specs.specs.RightClosings.{last_share}
 use Rattle.bwe_specs.specs.Values.{NeverFalls}

@@ -1,12 +1,14 @@
 //! Looks at links, and closings that mark what is known of them.
 
-ghost use Rattle.std.specs.Prelude.{◌≡◌, ℕ, ◌+◌, ◌-◌, ◌<◌, ◌≤◌, ◌∷◌, true, length, IfOk, OnOk, OnErr, None};
+ghost use Rattle.std.specs.Prelude.{◌≡◌, ℕ, ◌+◌, ◌*◌, ◌-◌, ◌<◌, ◌≤◌, ◌^◌, ◌∷◌, true, length, reverse, IfOk, OnOk, OnErr, None};
 ghost use Rattle.bwe_specs.specs.RightClosings.{last_share, over_at, AreRight, IsRightAfter};
 ghost use Rattle.mpfa_fill.specs.GroupValues.{Values};
 ghost use Rattle.mpfa_fill.specs.LastFit.{is_over_at};
 ghost use Rattle.mpfa_fill.specs.Growth.{AreTermsOn};
 ghost use Rattle.mpfa_fill.specs.Filling.{IsFilling};
 ghost use Rattle.link_front.specs.Front.{wan_in, closings_in, added_in, AreKnown, IsFront};
+ghost use Rattle.link_front.specs.Moves.{moves_ahead};
+ghost use Rattle.link_solver.specs.Counts.{places_ahead};
 ghost use Rattle.link_solver.specs.Dues.{due_at, load_at, AreDues, IsHalved, IsLooked};
 ghost use Rattle.link_solver.specs.Looks.{halvings, looks_at, looks_ahead};
 
@@ -48,6 +50,7 @@ pub(crate) fn looked<V: GroupValues, L: Ledger>(
         (IsLooked (wan_in V.meaning front.now) (closings_in front.now) link due) }
     ensures ticks { IfOk result
         (λ new. steps.new + looks_at top new ≤ steps.old + looks_at top due) }
+    ensures some { OnOk result (steps.old < steps.new) }
     ensures none { OnErr result (steps.new ≡ steps.old) }
 {
     let terms = front.terms_on(alloc, link, known)?;
@@ -74,11 +77,13 @@ pub(crate) fn looked<V: GroupValues, L: Ledger>(
 
 /// Closes a link. A group that grew over it goes on with its next open path group. `never` is
 /// any share above the top.
-pub(crate) fn close<V: GroupValues>(
+pub(crate) fn close<V: GroupValues, P: Ledger, M: Ledger>(
     front: &mut Front<V>,
     closing: Closing,
     dues: &mut Winners,
     never: u64,
+    plays: &mut Steps<P>,
+    moves: &mut Steps<M>,
 ) -> Result<(), OutOfMemory>
     requires front { IsFront V.meaning front.old }
     requires right { IsRightAfter (wan_in V.meaning front.old) (closings_in front.old) closing }
@@ -94,13 +99,30 @@ pub(crate) fn close<V: GroupValues>(
     ensures ahead { OnOk result
         (looks_ahead (wan_in V.meaning front.old) (closing ∷ closings_in front.old) dues.new
         ≤ looks_ahead (wan_in V.meaning front.old) (closings_in front.old) dues.old) }
+    ensures plays { OnOk result ((levels : ℕ) → length dues.old ≤ 2 ^ levels → plays.new
+        + levels * moves_ahead (wan_in V.meaning front.old) (closing ∷ closings_in front.old)
+        ≤ plays.old + levels * moves_ahead (wan_in V.meaning front.old) (closings_in front.old)) }
+    ensures moves { OnOk result (moves.new
+        + places_ahead (wan_in V.meaning front.old) (closing ∷ closings_in front.old)
+        ≤ moves.old + places_ahead (wan_in V.meaning front.old) (closings_in front.old)) }
+    ensures none { OnErr result ((plays.new ≡ plays.old) × (moves.new ≡ moves.old)) }
 {
     front.bring_up(closing.link, closing.share);
     front.growth.close(closing)?;
     let by_link = front.by_link;
     for group in by_link.on(closing.link) {
         let (before, after) = front.growth.move_on(*group, closing);
-        mark(dues, &front.growth, *group, before, after, closing, never);
+        mark(
+            dues,
+            &front.growth,
+            *group,
+            before,
+            after,
+            closing,
+            never,
+            plays,
+            moves,
+        );
     }
     Ok(())
 }
@@ -115,7 +137,9 @@ pub(crate) fn into_filling<V: GroupValues>(
     requires top { top ≡ (wan_in V.meaning front).top }
     requires right { AreRight (wan_in V.meaning front) (closings_in front) }
     requires fits { over_at (wan_in V.meaning front) (closings_in front) top ≡ None }
-    ensures { IfOk result (IsFilling (wan_in V.meaning front.entry)) }
+    ensures filling { IfOk result (IsFilling (wan_in V.meaning front.entry)) }
+    ensures closings { IfOk result
+        (λ filling. filling.closings.items ≡ reverse (closings_in front.entry)) }
 {
     let mut growth = front.growth;
     growth.bring_all_up(top);
@@ -167,6 +191,8 @@ fn halved<V: GroupValues, L: Ledger>(
         due.over due result }
     ensures ticks { steps.new + halvings 30 (result.over - result.share)
         ≤ steps.old + halvings 30 (due.over - due.share) }
+    ensures some { due.share + 1 < due.over → steps.old < steps.new }
+    ensures more { steps.old ≤ steps.new }
 {
     let capacity = front.growth.capacity(link) as u128;
     let mut low = due.share;

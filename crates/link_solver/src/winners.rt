@@ -14,8 +14,8 @@ use crate::due::Due;
 use bwe_specs::OutOfMemory;
 use mono_search::Steps;
 use std::alloc::Global;
-use std::marker::{Brand, Model};
-use std::sync::ledger::{Blank, Ledger};
+use std::marker::Model;
+use std::sync::ledger::Ledger;
 
 /// The lowest link of those that have the least due, and the least due of the others, or the top.
 #[derive(Clone, Copy)]
@@ -78,13 +78,15 @@ impl Winners {
         Some(LeastDue { link, beside })
     }
 
-    /// Gives a link another due.
-    pub(crate) fn set(&mut self, link: u32, due: Due)
+    /// Gives a link another due, and plays the nodes above it again.
+    pub(crate) fn set<P: Ledger>(&mut self, link: u32, due: Due, plays: &mut Steps<P>)
         requires { link < length self.old }
-        ensures { self.new ≡ slice_set self.old link due }
+        ensures dues { self.new ≡ slice_set self.old link due }
+        ensures plays { (levels : ℕ) → length self.old ≤ 2 ^ levels
+            → plays.new ≤ plays.old + levels }
     {
         self.dues[link as usize] = due;
-        climb_uncounted(&self.dues, &mut self.best, link);
+        climb(&self.dues, &mut self.best, link, plays);
     }
 
     /// Gives a link a due with another share from which on it is over. Nothing is played again.
@@ -155,27 +157,6 @@ fn climb<L: Ledger>(dues: &[Due], best: &mut [u32], link: u32, steps: &mut Steps
         best[node] = play(dues, best, node);
         node /= 2;
     }
-}
-
-// The same on a counter of its own.
-fn climb_uncounted(dues: &[Due], best: &mut [u32], link: u32)
-    requires link { link < length dues.now }
-    requires climbed { IsClimbed dues.now best.old ((length dues.now + link) / 2) }
-    ensures { IsTournament dues.now best.new }
-{
-    climb_on::<Brand>(dues, best, link, Blank::new(1));
-}
-
-fn climb_on<L: Ledger>(dues: &[Due], best: &mut [u32], link: u32, blank: Blank)
-    requires link { link < length dues.now }
-    requires climbed { IsClimbed dues.now best.old ((length dues.now + link) / 2) }
-    requires name { blank.name ≡ L.name }
-    requires parts { blank.parts ≡ L.parts }
-    requires some { 0 < L.parts }
-    ensures { IsTournament dues.now best.new }
-{
-    let mut steps: Steps<L> = Steps::new(blank);
-    climb(dues, best, link, &mut steps);
 }
 
 // The least due of the links beside one, or the top. It reads the nodes beside its way to the root.

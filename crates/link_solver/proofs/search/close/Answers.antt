@@ -1,4 +1,4 @@
-use Rattle.std.proofs.Common.{◌≡◌, ℕ, ◌+◌, ◌<◌, sym, ◌∙◌, ap, ap₂, refl, subst, arith, length, reverse, List, [], ◌∷◌, ◌++◌, set, slice_index, slice_index_or}
+use Rattle.std.proofs.Common.{◌≡◌, ℕ, ◌+◌, ◌*◌, ◌<◌, sym, ◌∙◌, ap, ap₂, refl, subst, arith, length, reverse, List, [], ◌∷◌, ◌++◌, set, slice_index, slice_index_or}
 use Rattle.std.proofs.lemmas.List.{length-set}
 use Rattle.bwe_specs.specs.declared.network.Closing.{Closing}
 use Rattle.bwe_specs.specs.Filling.{Wan, closed_links}
@@ -20,6 +20,8 @@ use Rattle.link_solver.proofs.Changes.{due-after, IsAhead}
 use Rattle.link_solver.proofs.Closes.{marked-more, marked-start, marks-length}
 use Rattle.link_front.proofs.Moving.{growth-after}
 use Rattle.link_solver.proofs.Moving.{AreMoved, moved-unused, looks-start, looks-next}
+use Rattle.link_solver.specs.Counts.{moves_now, links_reached}
+use Rattle.link_solver.proofs.Counting.{AreCounted, counted-start, counted-unused, counted-next}
 use Rattle.link_front.proofs.Walks.{reached, walk-start, walk-here, walk-next, walk-end}
 use Rattle.link_solver.proofs.search.close.Goals as goal
 
@@ -64,6 +66,9 @@ loop-group-init g c =
           (λ group lt unused so.
           moved-unused wan never earlier closing c.requires.right.share_keeps (omega (arith, c.requires.right.below_top)) added growth.elsewhere rests c.args.dues.now ahead
           c.close.new.self.standings.items c.args.dues.now group lt unused so);
+      counted = walk-start wan.groups closing.link items are (AreCounted wan earlier closing (length c.args.dues.now) c.args.plays.now c.args.plays.now c.args.moves.now c.args.moves.now)
+          (counted-start wan earlier closing (length c.args.dues.now) c.args.plays.now c.args.moves.now)
+          (λ group lt unused so. counted-unused wan earlier closing (length c.args.dues.now) c.args.plays.now c.args.plays.now c.args.moves.now c.args.moves.now group unused so);
     }
 
 pub move_on-before-requires-clause-group : goal.move_on-before-requires-clause-group
@@ -200,7 +205,17 @@ loop-group-preserved g c =
     subst (λ w. Marks w added group closing standing under c.loop-group.dues c.mark.new.dues) same
     (subst (λ x. Marks (growth_wan g.V.GroupValues.meaning c.move_on-before.new.self) x group closing standing under c.loop-group.dues c.mark.new.dues) sums
     (subst (λ s. Marks (growth_wan g.V.GroupValues.meaning c.move_on-before.new.self) (growth_added c.move_on-before.new.self) group closing s under c.loop-group.dues c.mark.new.dues) e.before
-    (subst (λ s. Marks (growth_wan g.V.GroupValues.meaning c.move_on-before.new.self) (growth_added c.move_on-before.new.self) group closing c.move_on-before.result.0 s c.loop-group.dues c.mark.new.dues) found c.mark.ensures))) in
+    (subst (λ s. Marks (growth_wan g.V.GroupValues.meaning c.move_on-before.new.self) (growth_added c.move_on-before.new.self) group closing c.move_on-before.result.0 s c.loop-group.dues c.mark.new.dues) found c.mark.ensures.marks))) in
+    let links : ℕ = length wan.capacities in
+    let reaches : links_reached (length c.loop-group.dues) c.move_on-before.new.self.plan.now group closing c.move_on-before.result.0 c.move_on-before.result.1 ≡ links_reached links wan.groups group closing standing under =
+    ap (λ n. links_reached n c.move_on-before.new.self.plan.now group closing c.move_on-before.result.0 c.move_on-before.result.1) (i.each_link ∙ c.requires.dues.each_link)
+    ∙ ap (λ (groups : List PathGroups). links_reached links groups group closing c.move_on-before.result.0 c.move_on-before.result.1) plan
+    ∙ ap (λ (s : Standing). links_reached links wan.groups group closing s c.move_on-before.result.1) e.before
+    ∙ ap (λ (s : Standing). links_reached links wan.groups group closing standing s) found in
+    let moved : moves_now c.move_on-before.new.self.plan.now group closing c.move_on-before.result.0 ≡ moves_now wan.groups group closing standing =
+    ap (λ (groups : List PathGroups). moves_now groups group closing c.move_on-before.result.0) plan ∙ ap (λ (s : Standing). moves_now wan.groups group closing s) e.before in
+    let counted : AreCounted wan earlier closing (length c.args.dues.now) c.args.plays.now c.loop-group.plays c.args.moves.now c.loop-group.moves group =
+    walk-here wan.groups closing.link items are (AreCounted wan earlier closing (length c.args.dues.now) c.args.plays.now c.loop-group.plays c.args.moves.now c.loop-group.moves) at c.loop-group-test.true i.counted in
     record {
       network = network;
       closings = e.closings ∙ i.closings;
@@ -221,6 +236,12 @@ loop-group-preserved g c =
           (λ k kl unused so.
           moved-unused wan never earlier closing c.requires.right.share_keeps (omega (arith, c.requires.right.below_top)) added growth.elsewhere rests c.args.dues.now ahead
           (set standings group c.move_on-before.result.1) c.mark.new.dues k kl unused so));
+      counted = walk-next wan.groups closing.link items are (AreCounted wan earlier closing (length c.args.dues.now) c.args.plays.now c.mark.new.plays c.args.moves.now c.mark.new.moves) at c.loop-group-test.true
+          (counted-next wan earlier closing (length c.args.dues.now) c.args.plays.now c.loop-group.plays c.mark.new.plays c.args.moves.now c.loop-group.moves c.mark.new.moves group added standing before
+          (λ levels le. omega (arith, c.mark.ensures.plays levels (omega (arith, le, i.each_link)), ap (λ n. levels * n) reaches))
+          (omega (arith, c.mark.ensures.moves, moved))
+          counted)
+          (λ k kl unused so. counted-unused wan earlier closing (length c.args.dues.now) c.args.plays.now c.mark.new.plays c.args.moves.now c.mark.new.moves k unused so);
     }
 
 pub returns-clause-front : goal.returns-clause-front
@@ -290,3 +311,27 @@ returns-clause-ahead g c =
     let all : AreMoved wan earlier closing added c.args.dues.now c.loop-group.front.growth.standings.items c.loop-group.dues (length wan.groups) =
     walk-end wan.groups closing.link items are (AreMoved wan earlier closing added c.args.dues.now c.loop-group.front.growth.standings.items c.loop-group.dues) c.loop-group.group-index c.loop-group-test.false i.moved in
     all.looks
+
+pub returns-clause-plays : goal.returns-clause-plays
+returns-clause-plays g c =
+    let wan : Wan = wan_in g.V.GroupValues.meaning c.args.front.now in
+    let earlier : List Closing = closings_in c.args.front.now in
+    let closing : Closing = c.args.closing in
+    let parts = c.bring_up.ensures.parts in
+    let items : List ℕ = c.on-group-items.result.now in
+    let are : AreGroupsOn wan.groups closing.link items = subst (λ groups. AreGroupsOn groups closing.link items) (parts.by_link ∙ c.requires.front.listed) c.on-group-items.ensures in
+    let all : AreCounted wan earlier closing (length c.args.dues.now) c.args.plays.now c.loop-group.plays c.args.moves.now c.loop-group.moves (length wan.groups) =
+    walk-end wan.groups closing.link items are (AreCounted wan earlier closing (length c.args.dues.now) c.args.plays.now c.loop-group.plays c.args.moves.now c.loop-group.moves) c.loop-group.group-index c.loop-group-test.false c.loop-group.invariant.counted in
+    all.plays
+
+pub returns-clause-moves : goal.returns-clause-moves
+returns-clause-moves g c =
+    let wan : Wan = wan_in g.V.GroupValues.meaning c.args.front.now in
+    let earlier : List Closing = closings_in c.args.front.now in
+    let closing : Closing = c.args.closing in
+    let parts = c.bring_up.ensures.parts in
+    let items : List ℕ = c.on-group-items.result.now in
+    let are : AreGroupsOn wan.groups closing.link items = subst (λ groups. AreGroupsOn groups closing.link items) (parts.by_link ∙ c.requires.front.listed) c.on-group-items.ensures in
+    let all : AreCounted wan earlier closing (length c.args.dues.now) c.args.plays.now c.loop-group.plays c.args.moves.now c.loop-group.moves (length wan.groups) =
+    walk-end wan.groups closing.link items are (AreCounted wan earlier closing (length c.args.dues.now) c.args.plays.now c.loop-group.plays c.args.moves.now c.loop-group.moves) c.loop-group.group-index c.loop-group-test.false c.loop-group.invariant.counted in
+    all.moves

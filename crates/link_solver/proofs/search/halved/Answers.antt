@@ -19,6 +19,8 @@ loop-high-preserved-then-load-capacity g c =
       over = lt-ltb (slice_index wan.capacities c.args.link) (load_at wan (closings_in c.args.front.now) (low + (high - low) / 2) c.args.link) (omega (arith, c.load_at-load.ensures.load, c.capacity-capacity.ensures, c.if-load-capacity.true));
       low_load = i.low_load;
       over_load = λ _. omega (arith, c.load_at-load.ensures.load);
+      more = omega (arith, i.more, c.load_at-load.ensures.ticks);
+      some = λ _. omega (arith, i.more, c.load_at-load.ensures.ticks);
       ticks = omega (
         arith,
         i.ticks,
@@ -42,6 +44,8 @@ loop-high-preserved g c =
       over = i.over;
       low_load = λ _. omega (arith, c.load_at-load.ensures.load);
       over_load = i.over_load;
+      more = omega (arith, i.more, c.load_at-load.ensures.ticks);
+      some = λ _. omega (arith, i.more, c.load_at-load.ensures.ticks);
       ticks = omega (
         arith,
         i.ticks,

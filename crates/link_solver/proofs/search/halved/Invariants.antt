@@ -15,6 +15,8 @@ invariant-loop-high g l = record {
   over : is_over_at (wan_in g.V.GroupValues.meaning l.front) (closings_in l.front) l.high l.link ≡ true;
   low_load : load_at (wan_in g.V.GroupValues.meaning l.front) (closings_in l.front) l.fn.due.share l.link ≤ l.fn.due.low_load → load_at (wan_in g.V.GroupValues.meaning l.front) (closings_in l.front) l.low l.link ≤ l.low_load;
   over_load : l.fn.due.over_load ≤ load_at (wan_in g.V.GroupValues.meaning l.front) (closings_in l.front) l.fn.due.over l.link → l.over_load ≤ load_at (wan_in g.V.GroupValues.meaning l.front) (closings_in l.front) l.high l.link;
+  more : l.initial.steps ≤ l.steps;
+  some : l.high - l.low < l.fn.due.over - l.fn.due.share → l.initial.steps < l.steps;
   ticks : l.steps + halvings 30 (l.high - l.low) ≤ l.initial.steps + halvings 30 (l.fn.due.over - l.fn.due.share);
 }
 
