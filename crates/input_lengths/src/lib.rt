@@ -1,0 +1,44 @@
+//! Inputs that have more bytes than they may, by what stands in them as the document.
+//!
+//! Whoever reads an input asks one of the two calls before anything else is looked at: for an input
+//! that is one document, or for one of two parts. The answers are exact (`specs/Lengths.antt`). An
+//! input of up to 67,108,864 bytes is not looked at, so its answer is what it was before version 4.
+//! Nothing is promised of time, nor that memory is there.
+#![tactic(auto)]
+
+ghost use Rattle.std.specs.Prelude.{◌≡◌, IfOk};
+ghost use Rattle.input_lengths.specs.Lengths.{document_is_too_long, parts_are_too_long};
+
+use bwe_specs::{MAX_INPUT, OutOfMemory};
+use std::alloc::Global;
+use two_part::find_parts;
+use version_scan::is_of_version_4;
+
+/// Whether an input that is one document is too long: it has more than 67,108,864 bytes, and is not
+/// of version 4. A shorter one is not looked at.
+///
+/// A longer one is passed over once, in as much memory as it has bytes.
+pub fn document_is_too_long(alloc: Global, input: &[u8]) -> Result<bool, OutOfMemory>
+    ensures { IfOk result (λ is. is ≡ document_is_too_long input.now) }
+{
+    if input.len() as u64 <= MAX_INPUT {
+        return Ok(false);
+    }
+    let of_version_4 = is_of_version_4(alloc, input)?;
+    Ok(!of_version_4)
+}
+
+/// The same of an input of two parts, by the version of its document. One without parts is too long.
+pub fn parts_are_too_long(alloc: Global, input: &[u8]) -> Result<bool, OutOfMemory>
+    ensures { IfOk result (λ is. is ≡ parts_are_too_long input.now) }
+{
+    if input.len() as u64 <= MAX_INPUT {
+        return Ok(false);
+    }
+    let Some(parts) = find_parts(input) else {
+        return Ok(true);
+    };
+    let front = &input[..parts.end as usize];
+    let is_long = is_of_version_4(alloc, &front[parts.start as usize..])?;
+    Ok(!is_long)
+}
