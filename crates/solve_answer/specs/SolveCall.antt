@@ -1,6 +1,7 @@
 -- A call that serves the line `solve` alone.
 use Rattle.std.specs.Prelude.{◌≡◌, ℕ, ⊤, true, Some}
 use Rattle.one_run.specs.Endings.{Ending, Served}
+use Rattle.input_lengths.specs.Lengths.{document_is_too_long}
 use Rattle.opened_document.specs.Refused.{document_reply}
 use Rattle.solve_answer.specs.SolveReply.{solve_accepted}
 
@@ -10,5 +11,6 @@ abbrev pub IsSolved : {S K : Type 0} → Served S K → ℕ → Type 0
 IsSolved served status =
     Ending (record {
       reads = λ (_ : ⊤). true;
+      is_too_long = λ _ input. document_is_too_long input;
       replies = λ _ input given. given ≡ document_reply solve_accepted input;
     }) (Some tt) served status

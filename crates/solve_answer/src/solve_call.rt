@@ -1,10 +1,16 @@
 //! A call that serves the line `solve` alone.
 
+ghost use Rattle.std.specs.Prelude.{◌≡◌, ◌+◌, true, false, List, ℕ, IfOk, IsErrOf};
+ghost use Rattle.bwe_io.specs.Bytes.{Takes};
+ghost use Rattle.bwe_io.specs.Faults.{HasRisen};
+ghost use Rattle.one_run.specs.Endings.{IsInput, max_long_input};
+ghost use Rattle.input_lengths.specs.Lengths.{document_is_too_long};
 ghost use Rattle.solve_answer.specs.SolveCall.{IsSolved};
 
 use crate::solve_line::solve;
 use bwe_io::{Sink, Source};
-use one_run::{finish, read_input, refuse_input};
+use input_lengths::document_is_too_long;
+use one_run::{InputError, finish, read_input, refuse_input};
 use std::alloc::Global;
 
 /// Reads a document, writes its table of limits or the line of its refusal, and answers the status
@@ -26,8 +32,27 @@ pub fn solve_once<S: Source, K: Sink>(alloc: Global, source: &mut S, sink: &mut 
       write_faults = K.faults;
     }) result }
 {
-    match read_input(alloc, true, source) {
+    match read_document_of(alloc, source) {
         Ok(input) => finish(sink, solve(alloc, &input)),
         Err(error) => refuse_input(sink, error),
     }
+}
+
+// The whole input, where it is not too long for what it is.
+fn read_document_of<S: Source>(alloc: Global, source: &mut S) -> Result<Vec<u8>, InputError>
+    ensures input { IfOk result (λ input. IsInput S.left source.old source.new true input.items) }
+    ensures short { IfOk result (λ input. document_is_too_long input.items ≡ false) }
+    ensures fault { IsErrOf result InputError.ReadFault
+        → HasRisen (S.faults source.old) (S.faults source.new) }
+    ensures too_long { IsErrOf result InputError.TooLong
+        → (input : List ℕ) × IsInput S.left source.old source.new true input
+        × (document_is_too_long input ≡ true) }
+    ensures far_too_long { IsErrOf result InputError.FarTooLong
+        → Takes (max_long_input + 1) (S.left source.old) (S.left source.new) }
+{
+    let input = read_input(alloc, true, source)?;
+    if document_is_too_long(alloc, &input)? {
+        return Err(InputError::TooLong);
+    }
+    Ok(input)
 }

@@ -1,5 +1,6 @@
 -- Which statuses a call may end with.
-use Rattle.std.proofs.Common.{◌≡◌, ◌≢◌, ◌⊎◌, inl, inr, ℕ, ◌≤◌, List, drop, Option, Some, None, Result, Ok, Err, refl, sym, subst, arith}
+use Rattle.std.proofs.Common.{◌≡◌, ◌≢◌, ◌⊎◌, ◌∙◌, inl, inr, ℕ, ◌≤◌, true, List, drop, Option, Some, None, Result, Ok, Err, refl, sym, subst, arith}
+use Rattle.std.proofs.lemmas.Bool.{false≢true}
 use Rattle.std.specs.Io.KnownBytes.{Appends}
 use Rattle.bwe_specs.specs.declared.network.Verdict.{Verdict}
 use Rattle.bwe_specs.specs.declared.network.Verdict.TheVariants as judged
@@ -8,7 +9,7 @@ use Rattle.bwe_specs.specs.Allocation.{Plan}
 use Rattle.command_line.specs.declared.CommandLine.{CommandLine}
 use Rattle.command_line.specs.declared.CommandLine.TheVariants.{Solve, Check, Run, Make, Bulk, Audit, Tiers, Enforce, Estimate, Levels}
 use Rattle.enforce_run.specs.declared.event.EventLine.{EventLine}
-use Rattle.one_run.specs.Endings.{IsDue, IsInput, Reply, Served, answered, done, no_line, out_of_memory, read_fault, too_long, write_fault}
+use Rattle.one_run.specs.Endings.{IsDue, IsInput, Reply, Served, answered, done, far_too_long, no_line, out_of_memory, read_fault, too_long, write_fault}
 use Rattle.plan_doc.specs.Document.{Accepted, document}
 use Rattle.plan_doc.specs.Plans.{plan_of}
 use Rattle.plan_doc.specs.Refusals.{Refusal}
@@ -28,7 +29,7 @@ use Rattle.solve_answer.specs.SolveReply.{solve_accepted}
 use Rattle.top_call.specs.RunLine.{IsRunReply}
 use Rattle.top_call.specs.Statuses.{AcceptedIsAnswered, AnAnswerIsWhole, IsAnswered, IsOfAnswer, IsSilent, IsTakenIn, IsWithoutFault, NothingIsWritten}
 use Rattle.line_answers.specs.TiersReply.{tiers_accepted, unless_refused}
-use Rattle.top_call.specs.TopCall.{IsServed, reads, replies}
+use Rattle.top_call.specs.TopCall.{IsServed, is_too_long, reads, replies}
 
 -- ---- the status of what a line may get
 
@@ -113,20 +114,22 @@ two (inr (inr e)) = omega (arith, e)
 
 module _ {S K : Type 0} (line : Option CommandLine) (served : Served S K) where
   -- a text that was due with the status of an answer is an answer
-  due : {status : ℕ} {text : List ℕ} → IsDue (record { reads = reads; replies = replies }) line served status text → IsOfAnswer status
+  due : {status : ℕ} {text : List ℕ} → IsDue (record { reads = reads; is_too_long = is_too_long; replies = replies }) line served status text → IsOfAnswer status
       → Appends (served.written served.sink) (served.written served.sink_after) text → IsAnswered line served status
   due (no_line none kept) of written = absurd (two of)
-  due (answered same input given) of written = record {
+  due (answered same input short given) of written = record {
     is = _;
     input = _;
     reply = _;
     line_is = same;
     taken_in = input;
+    short = short;
     replied = given;
     status_is = refl;
     written = written;
   }
-  due (too_long same read taken) of written = absurd (other 8 (omega arith) of)
+  due (too_long same taken long) of written = absurd (other 8 (omega arith) of)
+  due (far_too_long same read taken) of written = absurd (other 8 (omega arith) of)
 
   whole : {status : ℕ} → IsServed line served status → IsOfAnswer status → IsAnswered line served status
   whole (done is written) of = due is of written
@@ -135,16 +138,18 @@ module _ {S K : Type 0} (line : Option CommandLine) (served : Served S K) where
   whole (out_of_memory unread keeps) of = absurd (other 6 (omega arith) of)
 
   back : (status : ℕ) → IsAnswered line served status → IsServed line served status
-  back status is = subst (λ status. IsServed line served status) is.status_is (done (answered is.line_is is.taken_in is.replied) is.written)
+  back status is = subst (λ status. IsServed line served status) is.status_is (done (answered is.line_is is.taken_in is.short is.replied) is.written)
 
   -- what is due has no status of a call that wrote nothing
-  spoken : {status : ℕ} {text : List ℕ} → IsDue (record { reads = reads; replies = replies }) line served status text → (status ≡ 4) ⊎ (status ≡ 6) → ⊥
+  spoken : {status : ℕ} {text : List ℕ} → IsDue (record { reads = reads; is_too_long = is_too_long; replies = replies }) line served status text → (status ≡ 4) ⊎ (status ≡ 6) → ⊥
   spoken (no_line none kept) (inl e) = omega (arith, e)
   spoken (no_line none kept) (inr e) = omega (arith, e)
-  spoken (answered {is = is} {input = input} {reply = reply} same taken given) (inl e) = other reply.status (omega (arith, e)) (replied is input reply given)
-  spoken (answered {is = is} {input = input} {reply = reply} same taken given) (inr e) = other reply.status (omega (arith, e)) (replied is input reply given)
-  spoken (too_long same read taken) (inl e) = omega (arith, e)
-  spoken (too_long same read taken) (inr e) = omega (arith, e)
+  spoken (answered {is = is} {input = input} {reply = reply} same taken short given) (inl e) = other reply.status (omega (arith, e)) (replied is input reply given)
+  spoken (answered {is = is} {input = input} {reply = reply} same taken short given) (inr e) = other reply.status (omega (arith, e)) (replied is input reply given)
+  spoken (too_long same taken long) (inl e) = omega (arith, e)
+  spoken (too_long same taken long) (inr e) = omega (arith, e)
+  spoken (far_too_long same read taken) (inl e) = omega (arith, e)
+  spoken (far_too_long same read taken) (inr e) = omega (arith, e)
 
   silent : {status : ℕ} → IsServed line served status → (status ≡ 4) ⊎ (status ≡ 6) → IsSilent served
   silent (done is written) of = absurd (spoken is of)
@@ -168,12 +173,15 @@ module _ {S K : Type 0} (is : CommandLine) (served : Served S K) where
   one : (line other : CommandLine) → Some line ≡ Some other → other ≡ line
   one line other e = cc
 
-  due-good : {status : ℕ} {text : List ℕ} → IsDue (record { reads = reads; replies = replies }) (Some is) served status text → IsWithoutFault served → IsTakenIn is served → IsGood status
+  due-good : {status : ℕ} {text : List ℕ} → IsDue (record { reads = reads; is_too_long = is_too_long; replies = replies }) (Some is) served status text → IsWithoutFault served → IsTakenIn is served → IsGood status
   due-good (no_line none kept) without taken_in = absurd (not-none none)
-  due-good (answered {is = line} {input = input} {reply = reply} same taken given) without taken_in =
+  due-good (answered {is = line} {input = input} {reply = reply} same taken short given) without taken_in =
       good reply.status (replied line input reply given)
-      (taken_in input reply (subst (λ line. IsInput served.left served.source served.source_after (reads line) input) (one is line same) taken) (subst (λ line. replies line input reply) (one is line same) given))
-  due-good (too_long same read taken) without taken_in = absurd (without.length taken)
+      ((taken_in input (subst (λ line. IsInput served.left served.source served.source_after (reads line) input) (one is line same) taken)).1 reply (subst (λ line. replies line input reply) (one is line same) given))
+  due-good (too_long {is = line} {input = input} same taken long) without taken_in =
+      let short = (taken_in input (subst (λ line. IsInput served.left served.source served.source_after (reads line) input) (one is line same) taken)).0 in
+      absurd (false≢true (sym short ∙ subst (λ line. is_too_long line input ≡ true) (one is line same) long))
+  due-good (far_too_long same read taken) without taken_in = absurd (without.length taken)
 
   accepted : {status : ℕ} → IsServed (Some is) served status → IsWithoutFault served → IsTakenIn is served → IsGood status
   accepted (done said written) without taken_in = due-good said without taken_in

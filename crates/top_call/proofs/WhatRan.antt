@@ -1,6 +1,7 @@
 -- A call for `audit` finds legal what a call for `run` wrote, by how the two ended.
 use Rattle.std.proofs.Common.{◌≡◌, ◌≤◌, ◌<◌, ◌+◌, ◌++◌, ℕ, Bool, true, false, List, length, Option, Some, None, IfSome, codes, cond, inl, refl, sym, ap, subst, ◌∙◌, arith, append-nil, length-append}
 use Rattle.std.specs.List.{list_any}
+use Rattle.std.proofs.lemmas.Bool.{false≢true}
 use Rattle.std.proofs.lemmas.List.{append_cancel_left}
 use Rattle.std.specs.Io.KnownBytes.{Appends, Consumes, IsAtEnd}
 use Rattle.bwe_io.specs.Bytes.{AppendsPrefix, Takes}
@@ -9,12 +10,12 @@ use Rattle.command_line.specs.Ranges.{IsInRange}
 use Rattle.command_line.specs.declared.CommandLine.{CommandLine}
 use Rattle.command_line.specs.declared.CommandLine.TheVariants.{Audit, Run}
 use Rattle.command_line.proofs.Ranges.{texts-in_range}
-use Rattle.one_run.specs.Endings.{IsDue, IsInput, Reply, Served, answered, done, max_input, no_line, out_of_memory, read_fault, too_long, whole, write_fault}
+use Rattle.one_run.specs.Endings.{IsDue, IsInput, Reply, Served, answered, done, far_too_long, max_long_input, no_line, out_of_memory, read_fault, too_long, whole, write_fault}
 use Rattle.two_part.specs.TwoPart.{IsTwoPart}
 use Rattle.top_call.specs.Laws.{HasGot, IsFoundLegal, WhatRanIsFoundLegal}
 use Rattle.top_call.specs.Laws as found
 use Rattle.top_call.specs.Statuses.{IsAnswered}
-use Rattle.top_call.specs.TopCall.{IsServed, reads as reads_of, replies}
+use Rattle.top_call.specs.TopCall.{IsServed, is_too_long, reads as reads_of, replies}
 use Rattle.top_call.proofs.RunsAreLegal.{runs-are-legal}
 use Rattle.top_call.proofs.Statuses.{an-answer-is-whole}
 
@@ -88,7 +89,7 @@ module _ {S K : Type 0} (line : Option CommandLine) (readers reads : ℕ) (ran :
 -- ---- the law
 
 module _ {T L : Type 0} (readers reads : ℕ) (document text digits input : List ℕ) (range : IsInRange (Run readers reads)) (run : HasRun readers reads document text)
-    (two : IsTwoPart input digits document text) (few : length input ≤ max_input) (audited : Served T L) (given : audited.left audited.source ≡ Some input) where
+    (two : IsTwoPart input digits document text) (few : length input ≤ max_long_input) (short : is_too_long Audit input ≡ false) (audited : Served T L) (given : audited.left audited.source ≡ Some input) where
   legal_reply : Reply
   legal_reply = record { status = 0; text = codes "legal\n" }
 
@@ -99,15 +100,19 @@ module _ {T L : Type 0} (readers reads : ℕ) (document text digits input : List
       (subst (λ (wrote : List ℕ). IsTwoPart input digits document wrote) (sym run.text_is) two)
       (subst (λ (input : List ℕ). replies Audit input reply) same replied)
 
-  due-legal : {status : ℕ} {due : List ℕ} → IsDue (record { reads = reads_of; replies = replies }) (Some Audit) audited status due → (status ≡ 0) × (due ≡ codes "legal\n")
+  due-legal : {status : ℕ} {due : List ℕ} → IsDue (record { reads = reads_of; is_too_long = is_too_long; replies = replies }) (Some Audit) audited status due → (status ≡ 0) × (due ≡ codes "legal\n")
   unfolding legal_reply
   due-legal (no_line none kept) = absurd (let f : Some Audit ≡ None = none in cc)
-  due-legal (answered {is = is} {input = bytes} {reply = reply} same taken replied) =
+  due-legal (answered {is = is} {input = bytes} {reply = reply} same taken within replied) =
       let line : is ≡ Audit = sym (some_line Audit is same) in
       let all : bytes ≡ input = input-is audited.left audited.source audited.source_after (reads_of is) input bytes (ap reads_of line) given taken in
       let legal : reply ≡ legal_reply = replied-legal bytes reply all (subst (λ (line : CommandLine). replies line bytes reply) line replied) in
       (ap (λ (reply : Reply). reply.status) legal, ap (λ (reply : Reply). reply.text) legal)
-  due-legal (too_long same read taken) = absurd (not-taken (audited.left audited.source) (audited.left audited.source_after) input (max_input + 1) given (omega (arith, few)) taken)
+  due-legal (too_long {is = is} {input = bytes} same taken long) =
+      let line : is ≡ Audit = sym (some_line Audit is same) in
+      let all : bytes ≡ input = input-is audited.left audited.source audited.source_after (reads_of is) input bytes (ap reads_of line) given taken in
+      absurd (false≢true (sym short ∙ subst (λ (bytes : List ℕ). is_too_long Audit bytes ≡ true) all (subst (λ line. is_too_long line bytes ≡ true) line long)))
+  due-legal (far_too_long same read taken) = absurd (not-taken (audited.left audited.source) (audited.left audited.source_after) input (max_long_input + 1) given (omega (arith, few)) taken)
 
   found-legal : {status : ℕ} → IsServed (Some Audit) audited status → IsFoundLegal audited status
   found-legal (done due written) =
@@ -120,5 +125,5 @@ module _ {T L : Type 0} (readers reads : ℕ) (document text digits input : List
 
 module _ (S K T L : Type 0) where
   pub what-ran-is-found-legal : WhatRanIsFoundLegal S K T L
-  what-ran-is-found-legal words readers reads ran document text is served got digits input audited status two few given ended =
-      found-legal readers reads document text digits input (in-range words (Run readers reads) is) (has-run (command_line_of words) readers reads ran document text is served got) two few audited given ended
+  what-ran-is-found-legal words readers reads ran document text is served got digits input audited status two few short given ended =
+      found-legal readers reads document text digits input (in-range words (Run readers reads) is) (has-run (command_line_of words) readers reads ran document text is served got) two few short audited given ended

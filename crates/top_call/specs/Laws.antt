@@ -1,15 +1,15 @@
 -- The laws that join two lines, and two calls.
-use Rattle.std.specs.Prelude.{◌≡◌, ◌↔◌, ℕ, ◌≤◌, ◌++◌, List, length, codes, Some}
+use Rattle.std.specs.Prelude.{◌≡◌, ◌↔◌, ℕ, ◌≤◌, ◌++◌, false, List, length, codes, Some}
 use Rattle.std.specs.Io.KnownBytes.{Appends, Keeps}
 use Rattle.bwe_io.specs.Bytes.{AppendsPrefix}
 use Rattle.bwe_io.specs.Faults.{HasRisen}
 use Rattle.command_line.specs.Lines.{Text, command_line_of}
 use Rattle.command_line.specs.Ranges.{IsInRange}
 use Rattle.command_line.specs.declared.CommandLine.TheVariants.{Audit, Run, Solve}
-use Rattle.one_run.specs.Endings.{Reply, Served, max_input}
+use Rattle.one_run.specs.Endings.{Reply, Served, max_long_input}
 use Rattle.solve_answer.specs.SolveCall.{IsSolved}
 use Rattle.two_part.specs.TwoPart.{IsTwoPart}
-use Rattle.top_call.specs.TopCall.{IsServed, replies}
+use Rattle.top_call.specs.TopCall.{IsServed, is_too_long, replies}
 
 -- What `run` wrote with status 0, behind its document, gets `legal` and status 0 from `audit`.
 abbrev pub RunsAreLegal : Type 0
@@ -44,15 +44,16 @@ pub data IsFoundLegal {S K : Type 0} (served : Served S K) : ℕ → Type 0 wher
       → IsFoundLegal served 6
 
 -- Where a call for `run` ended with status 0, a call for `audit` on its document and what it wrote,
--- no more together than an input may have, finds that legal.
+-- together no longer than an input with that document may be, finds that legal.
 abbrev pub WhatRanIsFoundLegal : Type 0 → Type 0 → Type 0 → Type 0 → Type 0
 WhatRanIsFoundLegal S K T L =
     (words : List Text) (readers reads : ℕ) (ran : Served S K) (document text : List ℕ)
     → command_line_of words ≡ Some (Run readers reads) → IsServed (command_line_of words) ran 0
     → HasGot ran document text
     → (digits input : List ℕ) (audited : Served T L) (status : ℕ)
-    → IsTwoPart input digits document text → length input ≤ max_input
-    → audited.left audited.source ≡ Some input → IsServed (Some Audit) audited status
+    → IsTwoPart input digits document text → length input ≤ max_long_input
+    → is_too_long Audit input ≡ false → audited.left audited.source ≡ Some input
+    → IsServed (Some Audit) audited status
     → IsFoundLegal audited status
 
 -- ---- the call that serves `solve` alone

@@ -1,18 +1,18 @@
 -- What a status tells of a call, whatever its line was.
-use Rattle.std.specs.Prelude.{◌≡◌, ◌≢◌, ◌↔◌, ◌⊎◌, ℕ, ◌+◌, List, Option, Some}
+use Rattle.std.specs.Prelude.{◌≡◌, ◌≢◌, ◌↔◌, ◌⊎◌, ℕ, ◌+◌, false, List, Option, Some}
 use Rattle.std.specs.Io.KnownBytes.{Appends, Keeps}
 use Rattle.bwe_io.specs.Bytes.{Takes}
 use Rattle.bwe_io.specs.Faults.{HasRisen}
 use Rattle.command_line.specs.declared.CommandLine.{CommandLine}
-use Rattle.one_run.specs.Endings.{IsInput, Reply, Served, max_input}
-use Rattle.top_call.specs.TopCall.{IsServed, reads, replies}
+use Rattle.one_run.specs.Endings.{IsInput, Reply, Served, max_long_input}
+use Rattle.top_call.specs.TopCall.{IsServed, is_too_long, reads, replies}
 
 -- the statuses of an answer: 0 done, 1 the verdict is no, 3 refused
 abbrev pub IsOfAnswer : ℕ → Type 0
 IsOfAnswer status = (status ≡ 0) ⊎ ((status ≡ 1) ⊎ (status ≡ 3))
 
--- the words are a line, its whole input was taken in, and what the line may get for it, with this
--- status, was written whole
+-- the words are a line, its whole input was taken in and is not too long, and what the line may get
+-- for it, with this status, was written whole
 pub record IsAnswered {S K : Type 0} (line : Option CommandLine) (served : Served S K) (status : ℕ)
     : Type 0 where
   pub is : CommandLine
@@ -20,6 +20,7 @@ pub record IsAnswered {S K : Type 0} (line : Option CommandLine) (served : Serve
   pub reply : Reply
   pub line_is : line ≡ Some is
   pub taken_in : IsInput served.left served.source served.source_after (reads is) input
+  pub short : is_too_long is input ≡ false
   pub replied : replies is input reply
   pub status_is : reply.status ≡ status
   pub written : Appends (served.written served.sink) (served.written served.sink_after) reply.text
@@ -28,19 +29,20 @@ pub record IsAnswered {S K : Type 0} (line : Option CommandLine) (served : Serve
 abbrev pub IsSilent : {S K : Type 0} → Served S K → Type 0
 IsSilent served = Keeps (served.written served.sink) (served.written served.sink_after)
 
--- neither the source nor the sink failed, and the source gave no more than an input may have
+-- neither the source nor the sink failed, and the source gave no more than any input may have
 pub record IsWithoutFault {S K : Type 0} (served : Served S K) : Type 0 where
   pub source : HasRisen (served.read_faults served.source) (served.read_faults served.source_after)
       → ⊥
   pub sink : HasRisen (served.write_faults served.sink) (served.write_faults served.sink_after) → ⊥
-  pub length : Takes (max_input + 1) (served.left served.source) (served.left served.source_after)
+  pub length : Takes (max_long_input + 1) (served.left served.source) (served.left served.source_after)
       → ⊥
 
--- nothing that the line may get for what was taken in is a refusal
+-- what was taken in is not too long, and nothing that the line may get for it is a refusal
 abbrev pub IsTakenIn : {S K : Type 0} → CommandLine → Served S K → Type 0
-IsTakenIn is served = (input : List ℕ) (reply : Reply)
+IsTakenIn is served = (input : List ℕ)
     → IsInput served.left served.source served.source_after (reads is) input
-    → replies is input reply → reply.status ≢ 3
+    → (is_too_long is input ≡ false)
+    × ((reply : Reply) → replies is input reply → reply.status ≢ 3)
 
 -- An answer is whole: the status is 0, 1 or 3 exactly where the answer with that status was written
 -- whole

@@ -9,6 +9,7 @@ use Rattle.solve_answer.specs.SolveReply.{solve_accepted}
 use Rattle.opened_document.specs.Refused.{document_reply}
 use Rattle.top_call.specs.RunLine.{IsRunReply}
 use Rattle.line_answers.specs.MadeLines.{bulk_reply, make_reply}
+use Rattle.input_lengths.specs.Lengths.{document_is_too_long, parts_are_too_long}
 use Rattle.opened_document.specs.Parted.{IsReplyBehind, accepted_parts, parts_reply}
 use Rattle.audit_answer.specs.AuditReply.{IsAuditReply}
 use Rattle.line_answers.specs.EnforceReply.{enforce_accepted}
@@ -43,11 +44,25 @@ reads (Make seed groups tasks) = false
 reads (Bulk seed groups tasks) = false
 reads _ = true
 
+-- an input that is too long for the line, by what stands in it as the document
+abbrev pub is_too_long : CommandLine → List ℕ → Bool
+is_too_long Solve input = document_is_too_long input
+is_too_long Check input = document_is_too_long input
+is_too_long (Levels share) input = document_is_too_long input
+is_too_long (Run readers reads) input = document_is_too_long input
+is_too_long (Make seed groups tasks) input = false
+is_too_long (Bulk seed groups tasks) input = false
+is_too_long (Estimate window headroom) input = parts_are_too_long input
+is_too_long Audit input = parts_are_too_long input
+is_too_long Tiers input = parts_are_too_long input
+is_too_long Enforce input = parts_are_too_long input
+
 -- For the line that the words are, source and sink went from here to there as an ending with this
 -- status allows.
 abbrev pub IsServed : {S K : Type 0} → Option CommandLine → Served S K → ℕ → Type 0
 IsServed line served status =
-    Ending (record { reads = reads; replies = replies }) line served status
+    Ending (record { reads = reads; is_too_long = is_too_long; replies = replies }) line served
+    status
 
 -- `run` alone needs threads
 abbrev pub needs_threads : CommandLine → Bool

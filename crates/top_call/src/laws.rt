@@ -6,8 +6,7 @@ ghost use Rattle.top_call.specs.Laws.{RunsAreLegal, SolvedIsServed, WhatRanIsFou
 ghost use Rattle.top_call.specs.Statuses.{AcceptedIsAnswered, AnAnswerIsWhole, NothingIsWritten};
 
 use bwe_io::{Sink, Source};
-use bwe_specs::{MAX_READERS, MAX_READS, MAX_REPORTERS, MAX_REPORTS};
-use one_run::MAX_INPUT;
+use bwe_specs::{MAX_INPUT, MAX_LONG_INPUT, MAX_READERS, MAX_READS, MAX_REPORTERS, MAX_REPORTS};
 
 /// An answer is whole: the status is 0, 1 or 3 exactly where the words are a line, its whole input
 /// was taken in, and what the line may get for it with that status was written whole ("Statuses",
@@ -54,4 +53,5 @@ pub fn limits_are_those_of_the_format()
     ensures reporters { MAX_REPORTERS ≡ 64 }
     ensures reports { MAX_REPORTS ≡ 200_000 }
     ensures input { MAX_INPUT ≡ 67_108_864 }
+    ensures long_input { MAX_LONG_INPUT ≡ 1_073_741_824 }
 {}

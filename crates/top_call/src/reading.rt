@@ -1,32 +1,43 @@
 //! The input of a line.
 
-ghost use Rattle.std.specs.Prelude.{◌≡◌, ◌+◌, true, false, IfOk, IsErrOf};
+ghost use Rattle.std.specs.Prelude.{◌≡◌, ◌+◌, true, false, List, ℕ, IfOk, IsErrOf};
 ghost use Rattle.bwe_io.specs.Bytes.{Takes};
 ghost use Rattle.bwe_io.specs.Faults.{HasRisen};
-ghost use Rattle.one_run.specs.Endings.{IsInput, max_input};
-ghost use Rattle.top_call.specs.TopCall.{reads};
+ghost use Rattle.one_run.specs.Endings.{IsInput, max_long_input};
+ghost use Rattle.top_call.specs.TopCall.{is_too_long, reads};
 
-use bwe_io::{ReadError, Source};
+use bwe_io::Source;
+use bwe_specs::OutOfMemory;
 use command_line::CommandLine;
-use one_run::read_input;
+use input_lengths::{document_is_too_long, parts_are_too_long};
+use one_run::{InputError, read_input};
 use std::alloc::Global;
 
 /// The whole input of a line that reads one, and nothing for another. An input is refused where the
-/// source fails, where it is above 67,108,864 bytes, and where memory is wanting.
+/// source fails, where it is too long (above 67,108,864 bytes with a document that is not of version
+/// 4, or above 1,073,741,824 bytes), and where memory is wanting.
 pub fn read_input_of<S: Source>(
     alloc: Global,
     line: CommandLine,
     source: &mut S,
-) -> Result<Vec<u8>, ReadError>
+) -> Result<Vec<u8>, InputError>
     ensures input { IfOk result (λ input.
         IsInput S.left source.old source.new (reads line) input.items) }
+    ensures short { IfOk result (λ input. is_too_long line input.items ≡ false) }
     ensures untouched { reads line ≡ false → source.new ≡ source.old }
-    ensures fault { IsErrOf result ReadError.ReadFault
+    ensures fault { IsErrOf result InputError.ReadFault
         → (reads line ≡ true) × HasRisen (S.faults source.old) (S.faults source.new) }
-    ensures too_long { IsErrOf result ReadError.TooLong
-        → (reads line ≡ true) × Takes (max_input + 1) (S.left source.old) (S.left source.new) }
+    ensures too_long { IsErrOf result InputError.TooLong
+        → (input : List ℕ) × IsInput S.left source.old source.new (reads line) input
+        × (is_too_long line input ≡ true) }
+    ensures far_too_long { IsErrOf result InputError.FarTooLong → (reads line ≡ true)
+        × Takes (max_long_input + 1) (S.left source.old) (S.left source.new) }
 {
-    read_input(alloc, has_input(line), source)
+    let input = read_input(alloc, has_input(line), source)?;
+    if is_too_long(alloc, line, &input)? {
+        return Err(InputError::TooLong);
+    }
+    Ok(input)
 }
 
 // Whether the line reads an input.
@@ -34,4 +45,21 @@ fn has_input(line: CommandLine) -> bool
     ensures { result ≡ reads line }
 {
     !matches!(line, CommandLine::Make { .. } | CommandLine::Bulk { .. })
+}
+
+// Whether the input is too long for the line, by what stands in it as the document.
+fn is_too_long(alloc: Global, line: CommandLine, input: &[u8]) -> Result<bool, OutOfMemory>
+    ensures { IfOk result (λ is. is ≡ is_too_long line input.now) }
+{
+    match line {
+        CommandLine::Solve
+        | CommandLine::Check
+        | CommandLine::Run { .. }
+        | CommandLine::Levels { .. } => document_is_too_long(alloc, input),
+        CommandLine::Make { .. } | CommandLine::Bulk { .. } => Ok(false),
+        CommandLine::Audit
+        | CommandLine::Tiers
+        | CommandLine::Enforce
+        | CommandLine::Estimate { .. } => parts_are_too_long(alloc, input),
+    }
 }

@@ -13,11 +13,11 @@ returns-in_default g c =
 pub returns-in-Ok-read_input_of : goal.returns-in-Ok-read_input_of
 returns-in-Ok-read_input_of g c =
     ending-finished _ _ _ c.in-Some.line (ap of_one_thread (sym c.in-Ok.ensures.line) ∙ sym c.in-Some.ensures.line)
-    c.in-Ok-read_input_of.ensures.untouched c.in-Ok-read_input_of.ensures.input
+    c.in-Ok-read_input_of.ensures.untouched c.in-Ok-read_input_of.ensures.input c.in-Ok-read_input_of.ensures.short
     c.answer_in_turn.result (rw c.deref.ensures.value at c.answer_in_turn.ensures) c.finish.ensures
 
 pub returns-in-Err-read_input_of : goal.returns-in-Err-read_input_of
 returns-in-Err-read_input_of g c =
     ending-refused _ _ _ c.in-Some.line (ap of_one_thread (sym c.in-Ok.ensures.line) ∙ sym c.in-Some.ensures.line) c.in-Err-read_input_of.ensures.untouched
-    c.in-Err-read_input_of.error (λ is. c.in-Err-read_input_of.ensures.fault (ap Err is)) (λ is. c.in-Err-read_input_of.ensures.too_long (ap Err is))
-    c.refuse_input.ensures.fault c.refuse_input.ensures.too_long c.refuse_input.ensures.memory
+    c.in-Err-read_input_of.error (λ is. c.in-Err-read_input_of.ensures.fault (ap Err is)) (λ is. c.in-Err-read_input_of.ensures.too_long (ap Err is)) (λ is. c.in-Err-read_input_of.ensures.far_too_long (ap Err is))
+    c.refuse_input.ensures.fault c.refuse_input.ensures.too_long c.refuse_input.ensures.far_too_long c.refuse_input.ensures.memory
