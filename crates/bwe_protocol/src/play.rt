@@ -8,11 +8,11 @@ ghost use Rattle.control_core.specs.World.{IsMeant};
 use crate::echo::EchoMaker;
 use crate::line::{ALLOCATORS, READERS, TASKS, event_of};
 use crate::text::push_state;
-use bwe_io::{Sink, Source};
-use bwe_specs::{MAX_REPORTS, OutOfMemory};
+use bwe_io::{ReadError, Sink, Source, read_all};
+use bwe_specs::{MAX_INPUT, MAX_REPORTS, OutOfMemory};
 use control_core::{Control, ControlEvent};
 use demand_book::Maker;
-use one_run::{Answer, finish, read_input, refuse_input};
+use one_run::{Answer, InputError, finish, refuse_input};
 use std::alloc::Global;
 use text_scan::Lines;
 
@@ -105,8 +105,10 @@ fn refused_at(alloc: Global, line: u64) -> Result<Answer, OutOfMemory> {
 
 /// Reads the events, writes the states or the refusal, and answers the status.
 pub(crate) fn play_once<S: Source, K: Sink>(alloc: Global, source: &mut S, sink: &mut K) -> u8 {
-    match read_input(alloc, true, source) {
+    match read_all(alloc, source, MAX_INPUT) {
         Ok(input) => finish(sink, play(alloc, &input)),
-        Err(error) => refuse_input(sink, error),
+        Err(ReadError::ReadFault) => refuse_input(sink, InputError::ReadFault),
+        Err(ReadError::TooLong) => refuse_input(sink, InputError::TooLong),
+        Err(ReadError::OutOfMemory) => refuse_input(sink, InputError::OutOfMemory),
     }
 }
