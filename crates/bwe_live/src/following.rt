@@ -5,6 +5,7 @@ ghost use Rattle.live_run.specs.Endings.{IsServed};
 ghost use Rattle.bwe_live.specs.Live.{live};
 
 use bwe_specs::OutOfMemory;
+use input_lengths::document_is_too_long;
 use live_run::{Follower, Opened, serve};
 use live_session::LiveSession;
 use live_stream::Stream;
@@ -31,6 +32,10 @@ impl Follower for Following {
     ghost follow = { live };
 
     ghost has_followed = { HasFollowed };
+
+    fn is_too_long(alloc: Global, document: &[u8]) -> Result<bool, OutOfMemory> {
+        document_is_too_long(alloc, document)
+    }
 
     fn open(alloc: Global, document: &[u8]) -> Result<Opened<Following>, OutOfMemory> {
         let opened = LiveSession::open(alloc, document)?;

@@ -13,7 +13,7 @@ use Rattle.live_run.specs.declared.ending.Stop.TheVariants.{ReadFault, WriteFaul
 use Rattle.live_run.specs.Follow.{Follow, answers, called_for, text_at}
 use Rattle.live_run.specs.Conversation.{Passed, Converses}
 use Rattle.live_run.specs.Answers.{AnswersPiece, Brings, Gives, GivesFirst, IsAtEnd, IsBefore, IsBehind, IsUpTo, answers_to}
-use Rattle.live_run.specs.Endings.{AreWhole, Ending, GoesOn, no_words, ended, refused, no_document, too_long, read_fault, write_fault, out_of_memory, HasStopped, IsDue, IsFirstOfDue, IsJudged, IsServed, so_far, stop_status}
+use Rattle.live_run.specs.Endings.{AreWhole, Ending, GoesOn, no_words, ended, refused, no_document, cut_short, too_long, far_too_long, read_fault, write_fault, out_of_memory, HasStopped, IsDue, IsFirstOfDue, IsJudged, IsServed, so_far, stop_status}
 use Rattle.live_run.proofs.Conversing.{Converses-append, Converses-gives}
 use Rattle.live_run.proofs.Fronts.{before-parts}
 use Rattle.live_run.proofs.LinesBehind.{calls-behind, calls-more}
@@ -46,12 +46,13 @@ unfolding lines_from held_after
 behind-nothing has_followed document follower held followed same = record { followed = followed; held_so = same }
 
 -- an accepted document whose front this is, is judged so whatever comes behind it
-pub judged : (follow : Follow) (front document behind read : List ℕ) → IsBefore follow front document → length document ≤ 67_108_864 → read ≡ front ++ behind → IsJudged true follow read
-judged follow front document behind read before few same =
+pub judged : (follow : Follow) (front document behind read : List ℕ) → IsBefore follow front document → length document ≤ 1_073_741_824 → follow.is_too_long document ≡ false → read ≡ front ++ behind → IsJudged true follow read
+judged follow front document behind read before few short same =
     subst (λ r. IsJudged true follow r) (sym same) (record {
       parts = before.parts;
       found = before.found behind;
-      few = subst (λ (d : List ℕ). length d ≤ 67_108_864) (sym (before.document_so behind)) few;
+      few = subst (λ (d : List ℕ). length d ≤ 1_073_741_824) (sym (before.document_so behind)) few;
+      short = ap follow.is_too_long (before.document_so behind) ∙ short;
       judged = ap follow.accepts (before.document_so behind) ∙ before.accepted;
     })
 
@@ -119,27 +120,27 @@ module _ (follow : Follow) (bytes : List ℕ) (parts : Parts) (found : parts_of 
     written_so = sym (ap (called_for follow) same ∙ opened-called follow front document before-opened piece text brings);
   }
 
-  ends-behind : (after : Passed) (talk : Option Talk) (a b c : Faults) (result : Result ℕ Stop) → length document ≤ 67_108_864 → NeverFall a b
+  ends-behind : (after : Passed) (talk : Option Talk) (a b c : Faults) (result : Result ℕ Stop) → length document ≤ 1_073_741_824 → follow.is_too_long document ≡ false → NeverFall a b
       → MatchResult result (λ status. (status ≡ 0) × IsOver talk × IsAtEnd follow front after) (HasStopped follow 0 b c after)
       → MatchResult result (Ending follow 0 talk a c after) (HasStopped follow 0 a c after)
-  ends-behind after talk a b c (Ok status) few never end =
+  ends-behind after talk a b c (Ok status) few short never end =
       subst (λ (s : ℕ). Ending follow 0 talk a c after s) (sym end.0)
-      (ended refl end.1 (judged follow front document end.2.behind after.read before-opened few end.2.read_so) end.2.written_so)
-  ends-behind after talk a b c (Err stop) few never stopped = HasStopped-after follow a b c after stop never stopped
+      (ended refl end.1 (judged follow front document end.2.behind after.read before-opened few short end.2.read_so) end.2.written_so)
+  ends-behind after talk a b c (Err stop) few short never stopped = HasStopped-after follow a b c after stop never stopped
 
   -- what follows the answers to these lines follows the first text
   pub goes-behind : {F : Type 0} (has_followed : F → List ℕ → List Held → Type 0) (follower : F) (held : Held) (first then last : Option Talk) (a b c : Faults) (piece : List ℕ) (result : Result ℕ Stop)
-      → length document ≤ 67_108_864 → bytes ≡ front ++ piece → IsBehind has_followed document follower held piece → AnswersPiece follow document first then [] piece → NeverFall a b
+      → length document ≤ 1_073_741_824 → follow.is_too_long document ≡ false → bytes ≡ front ++ piece → IsBehind has_followed document follower held piece → AnswersPiece follow document first then [] piece → NeverFall a b
       → ((passed : Passed) → IsUpTo follow has_followed front document follower held passed
       → (after : Passed) × Converses follow then last passed after × MatchResult result (λ status. (status ≡ 0) × IsOver last × IsAtEnd follow front after) (HasStopped follow 0 b c after))
       → GoesOn follow first last a c (record { read = bytes; written = follow.first_text document }) result
-  goes-behind has_followed follower held first then last a b c piece result few same behind done never lines =
+  goes-behind has_followed follower held first then last a b c piece result few short same behind done never lines =
       let text : List ℕ = follow.first_text document in
       let passed : Passed = record { read = bytes; written = text ++ done.text } in
       let ends = lines passed (up-to-opened has_followed follower held piece done.text same behind done.brings) in (
         ends.0,
         Converses-append follow first then last _ passed ends.0 (Converses-gives follow first then bytes text done.text (text ++ done.text) done.gives refl) ends.1,
-        ends-behind ends.0 last a b c result few never ends.2,
+        ends-behind ends.0 last a b c result few short never ends.2,
       )
 
 -- a first part of the first text
@@ -162,7 +163,9 @@ Ending-after follow talk a b c p status never (no_words some read written) = no_
 Ending-after follow talk a b c p status never (ended none over accepted written) = ended none over accepted written
 Ending-after follow talk a b c p status never (refused none judged written) = refused none judged written
 Ending-after follow talk a b c p status never (no_document none parts short why written) = no_document none parts short why written
-Ending-after follow talk a b c p status never (too_long none says written) = too_long none says written
+Ending-after follow talk a b c p status never (cut_short none parts long short over written) = cut_short none parts long short over written
+Ending-after follow talk a b c p status never (too_long none is written) = too_long none is written
+Ending-after follow talk a b c p status never (far_too_long none says written) = far_too_long none says written
 Ending-after follow talk a b c p status never (read_fault risen written) = read_fault (HasRisen-after a.reads b.reads c.reads never.reads risen) written
 Ending-after follow talk a b c p status never (write_fault risen first) = write_fault (HasRisen-after a.writes b.writes c.writes never.writes risen) first
 Ending-after follow talk a b c p status never (out_of_memory whole) = out_of_memory whole
@@ -191,6 +194,26 @@ refused-line follow t a b f0 f1 f2 read line status (Err stop) never first given
   Converses-append follow t a b _ _ _ first (Converses-gives follow a b read [] (take partly.2.count line) (take partly.2.count line) partly.2.gives refl),
   subst (λ s. HasStopped follow 0 f0 f2 (record { read = read; written = take partly.2.count line }) s) (sym partly.0) (
     HasRisen-after f0.writes f1.writes f2.writes never.writes partly.1,
+    record { text = line; due = due; count = partly.2.count; within = partly.2.within; written_so = refl },
+  ),
+)
+
+-- the same, where the front has been read already
+pub refused-here : (follow : Follow) (a b : Option Talk) (f1 f2 : Faults) (read line : List ℕ) (status : ℕ) (result : Result ℕ Stop)
+    → IfOk result (λ value. (value ≡ status) × Gives a b line)
+    → IfErr result (λ stop. (stop ≡ WriteFault) × HasRisen f1.writes f2.writes × GivesFirst a b line)
+    → IsDue follow 0 read line → (Gives a b line → Ending follow 0 b f1 f2 (record { read = read; written = line }) status)
+    → GoesOn follow a b f1 f2 (record { read = read; written = [] }) result
+refused-here follow a b f1 f2 read line status (Ok value) given partly due ends = (
+  record { read = read; written = line },
+  Converses-gives follow a b read [] line line given.1 refl,
+  subst (λ s. Ending follow 0 b f1 f2 (record { read = read; written = line }) s) (sym given.0) (ends given.1),
+)
+refused-here follow a b f1 f2 read line status (Err stop) given partly due ends = (
+  record { read = read; written = take partly.2.count line },
+  Converses-gives follow a b read [] (take partly.2.count line) (take partly.2.count line) partly.2.gives refl,
+  subst (λ s. HasStopped follow 0 f1 f2 (record { read = read; written = take partly.2.count line }) s) (sym partly.0) (
+    partly.1,
     record { text = line; due = due; count = partly.2.count; within = partly.2.within; written_so = refl },
   ),
 )

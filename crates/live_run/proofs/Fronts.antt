@@ -15,7 +15,7 @@ use Rattle.two_part.specs.TwoPart.{IsTwoPart, AreParts, document_in, parts_behin
 use Rattle.two_part.proofs.PartsFacts.{behind_digits, parts_found, parts_complete}
 use Rattle.live_run.specs.Follow.{Follow}
 use Rattle.live_run.specs.Answers.{IsBefore}
-use Rattle.live_run.specs.Front.{HasDocument, HasNoDocument, SaysNotTooLong, SaysTooLong}
+use Rattle.live_run.specs.Front.{HasDocument, HasNoDocument, SaysAbove, SaysNotTooLong}
 
 abbrev is_line_feed : ℕ → Bool
 is_line_feed byte = byte == 10
@@ -125,13 +125,13 @@ missing-unended bytes e some wrong = λ more. no_parts (bytes ++ more) (λ digit
 
 -- ---- a number that is too great
 
-above : (digits : List ℕ) → is_number digits ≡ true → number_of digits ≡ None → 67_108_864 < digits_value 10 digits
+above : (limit : ℕ) (digits : List ℕ) → limit ≤ 1_073_741_824 → is_number digits ≡ true → number_of digits ≡ None → limit < digits_value 10 digits
 unfolding number_of
-above digits number none = go (nat_lt (digits_value 10 digits) 18446744073709551616) refl
+above limit digits small number none = go (nat_lt (digits_value 10 digits) 18446744073709551616) refl
   where
-    go : (b : Bool) → nat_lt (digits_value 10 digits) 18446744073709551616 ≡ b → 67_108_864 < digits_value 10 digits
+    go : (b : Bool) → nat_lt (digits_value 10 digits) 18446744073709551616 ≡ b → limit < digits_value 10 digits
     go true h = absurd (let f : Some (digits_value 10 digits) ≡ None = sym (rw (number, h) refl) ∙ none in cc)
-    go false h = omega (arith, ltb-false (digits_value 10 digits) 18446744073709551616 h)
+    go false h = omega (arith, small, ltb-false (digits_value 10 digits) 18446744073709551616 h)
 
 exactly : (digits : List ℕ) (number : ℕ) → is_number digits ≡ true → number_of digits ≡ Some number → digits_value 10 digits ≡ number
 unfolding number_of
@@ -141,8 +141,8 @@ exactly digits number is some = go (nat_lt (digits_value 10 digits) 184467440737
     go false h = absurd (let f : None ≡ Some number = sym (rw (is, h) refl) ∙ some in cc)
     go true h = let f : Some (digits_value 10 digits) ≡ Some number = sym (rw (is, h) refl) ∙ some in cc
 
-too_long : (bytes : List ℕ) (at : ℕ) → position is_line_feed bytes ≡ Some at → is_number (take at bytes) ≡ true → 67_108_864 < digits_value 10 (take at bytes) → SaysTooLong bytes
-too_long bytes at e number great =
+too_long : (limit : ℕ) (bytes : List ℕ) (at : ℕ) → position is_line_feed bytes ≡ Some at → is_number (take at bytes) ≡ true → limit < digits_value 10 (take at bytes) → SaysAbove limit bytes
+too_long limit bytes at e number great =
     let stands = position-Some is_line_feed bytes at 0 e in
     record {
       digits = take at bytes;
@@ -153,38 +153,38 @@ too_long bytes at e number great =
       above = great;
     }
 
-pub too_long-none : (bytes : List ℕ) (at : ℕ) → position is_line_feed bytes ≡ Some at → is_number (take at bytes) ≡ true → number_of (take at bytes) ≡ None → SaysTooLong bytes
-too_long-none bytes at e number none = too_long bytes at e number (above (take at bytes) number none)
+pub too_long-none : (limit : ℕ) (bytes : List ℕ) (at : ℕ) → limit ≤ 1_073_741_824 → position is_line_feed bytes ≡ Some at → is_number (take at bytes) ≡ true → number_of (take at bytes) ≡ None → SaysAbove limit bytes
+too_long-none limit bytes at small e number none = too_long limit bytes at e number (above limit (take at bytes) small number none)
 
-pub too_long-some : (bytes : List ℕ) (at great : ℕ) → position is_line_feed bytes ≡ Some at → is_number (take at bytes) ≡ true → number_of (take at bytes) ≡ Some great → 67_108_864 < great → SaysTooLong bytes
-too_long-some bytes at great e number some more =
-    too_long bytes at e number (omega (arith, exactly (take at bytes) great number some, more))
+pub too_long-some : (limit : ℕ) (bytes : List ℕ) (at great : ℕ) → position is_line_feed bytes ≡ Some at → is_number (take at bytes) ≡ true → number_of (take at bytes) ≡ Some great → limit < great → SaysAbove limit bytes
+too_long-some limit bytes at great e number some more =
+    too_long limit bytes at e number (omega (arith, exactly (take at bytes) great number some, more))
 
 -- ---- a number that is not
 
-digits-stand : (bytes : List ℕ) (says : SaysTooLong bytes) → position_or_len is_line_feed bytes ≡ length says.digits
-digits-stand bytes says =
+digits-stand : (limit : ℕ) (bytes : List ℕ) (says : SaysAbove limit bytes) → position_or_len is_line_feed bytes ≡ length says.digits
+digits-stand limit bytes says =
     let alone = and_parts (all_ascii_digits says.digits) (nat_le 1 (length says.digits) && nat_le (length says.digits) 20) says.number in
     ap (position_or_len is_line_feed) says.in_order ∙ behind_digits says.digits says.rest alone.0
 
-digits-are : (bytes : List ℕ) (at : ℕ) → position is_line_feed bytes ≡ Some at → (says : SaysTooLong bytes) → take at bytes ≡ says.digits
-digits-are bytes at e says =
-    let same : at ≡ length says.digits = sym (is_first bytes at e).0 ∙ digits-stand bytes says in
+digits-are : (limit : ℕ) (bytes : List ℕ) (at : ℕ) → position is_line_feed bytes ≡ Some at → (says : SaysAbove limit bytes) → take at bytes ≡ says.digits
+digits-are limit bytes at e says =
+    let same : at ≡ length says.digits = sym (is_first bytes at e).0 ∙ digits-stand limit bytes says in
     ap (take at) says.in_order ∙ take_at says.digits (10 ∷ says.rest) at (sym same)
 
-pub short-unended : (bytes : List ℕ) → position is_line_feed bytes ≡ None → SaysNotTooLong bytes
-short-unended bytes e says =
+pub short-unended : (limit : ℕ) (bytes : List ℕ) → position is_line_feed bytes ≡ None → SaysAbove limit bytes → ⊥
+short-unended limit bytes e says =
     let whole : length bytes ≡ length says.digits + length (10 ∷ says.rest) = ap length says.in_order ∙ length-append says.digits (10 ∷ says.rest) in
-    omega (arith, is_none bytes e, digits-stand bytes says, whole)
+    omega (arith, is_none bytes e, digits-stand limit bytes says, whole)
 
-pub short-missing : (bytes : List ℕ) (at : ℕ) → position is_line_feed bytes ≡ Some at → is_number (take at bytes) ≡ false → SaysNotTooLong bytes
-short-missing bytes at e wrong says =
-    let right : is_number (take at bytes) ≡ true = ap is_number (digits-are bytes at e says) ∙ says.number in
+pub short-missing : (limit : ℕ) (bytes : List ℕ) (at : ℕ) → position is_line_feed bytes ≡ Some at → is_number (take at bytes) ≡ false → SaysAbove limit bytes → ⊥
+short-missing limit bytes at e wrong says =
+    let right : is_number (take at bytes) ≡ true = ap is_number (digits-are limit bytes at e says) ∙ says.number in
     let clash : true ≡ false = sym right ∙ wrong in cc
 
-pub short-number : (bytes : List ℕ) (at number : ℕ) → position is_line_feed bytes ≡ Some at → is_number (take at bytes) ≡ true → number_of (take at bytes) ≡ Some number → number ≤ 67_108_864 → SaysNotTooLong bytes
-short-number bytes at number e is some few says =
-    omega (arith, exactly (take at bytes) number is some, ap (digits_value 10) (digits-are bytes at e says), says.above, few)
+pub short-number : (limit : ℕ) (bytes : List ℕ) (at number : ℕ) → position is_line_feed bytes ≡ Some at → is_number (take at bytes) ≡ true → number_of (take at bytes) ≡ Some number → number ≤ limit → SaysAbove limit bytes → ⊥
+short-number limit bytes at number e is some few says =
+    omega (arith, exactly (take at bytes) number is some, ap (digits_value 10) (digits-are limit bytes at e says), says.above, few)
 
 -- ---- a whole document
 
@@ -242,7 +242,7 @@ parts-within bytes parts e =
       omega (arith, whole, length-append are.document are.rest, ap (λ (p : Parts). p.end) are.are),
     )
 
--- a document that is in front is no longer than one may be
+-- a document that is in front is no longer than any may be
 pub has-document : (bytes : List ℕ) (parts : Parts) → parts_of bytes ≡ Some parts → SaysNotTooLong bytes → HasDocument bytes parts
 has-document bytes parts e short =
     let are = parts_found bytes (Some parts) (sym e) in
@@ -250,20 +250,20 @@ has-document bytes parts e short =
       found = e;
       start = lies.0;
       end = lies.1;
-      few = subst (λ (document : List ℕ). length document ≤ 67_108_864) (sym (document-lies bytes parts are)) (few bytes parts are short);
+      few = subst (λ (document : List ℕ). length document ≤ 1_073_741_824) (sym (document-lies bytes parts are)) (few bytes parts are short);
     }
   where
-    few : (bytes : List ℕ) (parts : Parts) (are : AreParts bytes parts) → SaysNotTooLong bytes → length are.document ≤ 67_108_864
-    few bytes parts are short = go (nat_le (length are.document) 67_108_864) refl
+    few : (bytes : List ℕ) (parts : Parts) (are : AreParts bytes parts) → SaysNotTooLong bytes → length are.document ≤ 1_073_741_824
+    few bytes parts are short = go (nat_le (length are.document) 1_073_741_824) refl
       where
-        go : (b : Bool) → nat_le (length are.document) 67_108_864 ≡ b → length are.document ≤ 67_108_864
-        go true h = leb-true (length are.document) 67_108_864 h
+        go : (b : Bool) → nat_le (length are.document) 1_073_741_824 ≡ b → length are.document ≤ 1_073_741_824
+        go true h = leb-true (length are.document) 1_073_741_824 h
         go false h = absurd (short (record {
           digits = are.digits;
           rest = are.document ++ are.rest;
           in_order = are.two_part.in_order;
           number = number-so are.digits are.two_part.digits_alone are.two_part.some_digit are.two_part.few_digits;
-          above = omega (arith, leb-false (length are.document) 67_108_864 h, are.two_part.says_length);
+          above = omega (arith, leb-false (length are.document) 1_073_741_824 h, are.two_part.says_length);
         }))
 
 pub some-of : (n : ℕ) → (n == 0) ≡ false → 1 ≤ n

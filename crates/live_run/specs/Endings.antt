@@ -2,25 +2,33 @@
 use Rattle.std.specs.Prelude.{◌≡◌, ◌⊎◌, ℕ, ◌<◌, ◌≤◌, Bool, true, false, List, [], length, take, codes, Option, Some, None, Result, MatchResult}
 use Rattle.bwe_io.specs.Faults.{HasRisen}
 use Rattle.live_stream.specs.Talk.{Talk, Faults, IsOver}
-use Rattle.one_run.specs.Endings.{max_input, too_long_line}
+use Rattle.one_run.specs.Endings.{far_too_long_line, max_long_input, too_long_line}
 use Rattle.two_part.specs.declared.Parts.{Parts}
 use Rattle.live_run.specs.declared.ending.Stop.{Stop}
 use Rattle.live_run.specs.declared.ending.Stop.TheVariants.{ReadFault, WriteFault, OutOfMemory}
 use Rattle.two_part.specs.TwoPart.{document_in, no_parts_line, parts_of}
 use Rattle.live_run.specs.Follow.{Follow, called_for, follow_text}
 use Rattle.live_run.specs.Conversation.{Passed, Converses}
-use Rattle.live_run.specs.Front.{HasNoDocument, SaysNotTooLong, SaysTooLong}
+use Rattle.live_run.specs.Front.{HasNoDocument, SaysLong, SaysNotLong, SaysNotTooLong, SaysTooLong}
 
 -- the line for words, of which there are none
 abbrev pub usage_line : List ℕ
 usage_line = codes "usage: bwe-live\n"
 
--- the document in front is whole and of at most 67,108,864 bytes, and is accepted or is not
+-- the document in front is whole and not too long, and is accepted or is not
 pub record IsJudged (verdict : Bool) (follow : Follow) (read : List ℕ) : Type 0 where
   pub parts : Parts
   pub found : parts_of read ≡ Some parts
-  pub few : length (document_in read parts) ≤ max_input
+  pub few : length (document_in read parts) ≤ max_long_input
+  pub short : follow.is_too_long (document_in read parts) ≡ false
   pub judged : follow.accepts (document_in read parts) ≡ verdict
+
+-- the document in front is whole, and too long for what it is
+pub record IsTooLong (follow : Follow) (read : List ℕ) : Type 0 where
+  pub parts : Parts
+  pub found : parts_of read ≡ Some parts
+  pub few : length (document_in read parts) ≤ max_long_input
+  pub long : follow.is_too_long (document_in read parts) ≡ true
 
 -- a text that may be due after these bytes, or at their end
 pub data IsDue (follow : Follow) (words : ℕ) (read : List ℕ) : List ℕ → Type 0 where
@@ -28,7 +36,9 @@ pub data IsDue (follow : Follow) (words : ℕ) (read : List ℕ) : List ℕ → 
   so_far : IsDue follow words read (called_for follow read)
   at_end : IsDue follow words read (follow_text follow read)
   no_front : parts_of read ≡ None → IsDue follow words read no_parts_line
-  front_too_long : SaysTooLong read → IsDue follow words read too_long_line
+  long_front : SaysLong read → parts_of read ≡ None → IsDue follow words read too_long_line
+  long_document : IsTooLong follow read → IsDue follow words read too_long_line
+  front_too_long : SaysTooLong read → IsDue follow words read far_too_long_line
 
 -- a first part of a text that may be due is written
 pub record IsFirstOfDue (follow : Follow) (words : ℕ) (passed : Passed) : Type 0 where
@@ -71,13 +81,21 @@ pub data Ending (follow : Follow) (words : ℕ) (talk_after : Option Talk)
   refused : words ≡ 0 → IsJudged false follow passed.read
       → passed.written ≡ called_for follow passed.read
       → Ending follow words talk_after faults faults_after passed 3
-  -- there is no document in front, nor the number of one that is too long: the input has ended, or
+  -- there is no document in front, nor the number of a long one: the input has ended, or
   -- nothing that follows would make one
-  no_document : words ≡ 0 → parts_of passed.read ≡ None → SaysNotTooLong passed.read
+  no_document : words ≡ 0 → parts_of passed.read ≡ None → SaysNotLong passed.read
       → IsOver talk_after ⊎ HasNoDocument passed.read
       → passed.written ≡ no_parts_line → Ending follow words talk_after faults faults_after passed 3
-  -- the document in front is to have more than 67,108,864 bytes
-  too_long : words ≡ 0 → SaysTooLong passed.read → passed.written ≡ too_long_line
+  -- the document in front is to have more than 67,108,864 bytes, and the input has ended before so
+  -- many follow
+  cut_short : words ≡ 0 → parts_of passed.read ≡ None → SaysLong passed.read
+      → SaysNotTooLong passed.read → IsOver talk_after → passed.written ≡ too_long_line
+      → Ending follow words talk_after faults faults_after passed 8
+  -- it is whole, and has more bytes than it may
+  too_long : words ≡ 0 → IsTooLong follow passed.read → passed.written ≡ too_long_line
+      → Ending follow words talk_after faults faults_after passed 8
+  -- it is to have more than 1,073,741,824 bytes, whatever follows
+  far_too_long : words ≡ 0 → SaysTooLong passed.read → passed.written ≡ far_too_long_line
       → Ending follow words talk_after faults faults_after passed 8
   -- a read failed, and all that the bytes so far call for is written
   read_fault : HasRisen faults.reads faults_after.reads

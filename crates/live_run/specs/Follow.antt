@@ -4,9 +4,10 @@ use Rattle.live_lines.specs.Cutting.{Held, all_lines, lines_from}
 use Rattle.two_part.specs.declared.Parts.{Parts}
 use Rattle.two_part.specs.TwoPart.{document_in, parts_of}
 
--- which documents are accepted, what is written first for one, and the answer to a line behind it
--- after the lines before that
+-- which documents have more bytes than they may, which of the others are accepted, what is written
+-- first for one, and the answer to a line behind it after the lines before that
 pub record Follow : Type 0 where
+  pub is_too_long : List ℕ → Bool
   pub accepts : List ℕ → Bool
   pub first_text : List ℕ → List ℕ
   pub answer_of : List ℕ → List Held → Held → List ℕ

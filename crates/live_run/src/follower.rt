@@ -22,6 +22,10 @@ pub trait Follower: Drop + Sized {
     /// It follows this document, and has answered these lines in their order.
     ghost has_followed: { Self → List ℕ → List Held → Type 0 };
 
+    /// Whether a document has more bytes than it may.
+    fn is_too_long(alloc: Global, document: &[u8]) -> Result<bool, OutOfMemory>
+        ensures { IfOk result (λ is. is ≡ follow.is_too_long document.now) };
+
     /// The follower of a document's bytes, with the text that is due first.
     fn open(alloc: Global, document: &[u8]) -> Result<Opened<Self>, OutOfMemory>
         ensures text { IfOk result (λ opened. opened.text.items ≡ follow.first_text document.now) }

@@ -1,10 +1,10 @@
 //! The document in front of the input, as its bytes come.
 
-ghost use Rattle.std.specs.Prelude.{◌≡◌, ◌==◌, None, position};
+ghost use Rattle.std.specs.Prelude.{◌≡◌, ◌==◌, None, true, false, position};
 ghost use Rattle.two_part.specs.TwoPart.{parts_of};
-ghost use Rattle.live_run.specs.Front.{IsFront, SaysNotTooLong};
+ghost use Rattle.live_run.specs.Front.{IsFront, SaysLong, SaysNotLong, SaysNotTooLong};
 
-use one_run::MAX_INPUT;
+use bwe_specs::{MAX_INPUT, MAX_LONG_INPUT};
 use text_scan::{is_number, number_of};
 use two_part::{Parts, find_parts, first_line_feed};
 
@@ -17,7 +17,7 @@ pub(crate) enum Front {
     Found(Parts),
     /// There is none, whatever follows.
     Missing,
-    /// It is to have more bytes than a document may.
+    /// It is to have more bytes than any document may.
     TooLong,
 }
 
@@ -35,10 +35,29 @@ pub(crate) fn front_of(bytes: &[u8]) -> Front
     let Some(number) = number_of(digits) else {
         return Front::TooLong;
     };
-    if number > MAX_INPUT {
+    if number > MAX_LONG_INPUT {
         return Front::TooLong;
     }
     whole(bytes)
+}
+
+/// Whether a number above 67,108,864 is in front, the most bytes of a document that is not of
+/// version 4.
+pub(crate) fn says_long(bytes: &[u8]) -> bool
+    ensures yes { result ≡ true → SaysLong bytes.now }
+    ensures no { result ≡ false → SaysNotLong bytes.now }
+{
+    let Some(line_feed) = first_line_feed(bytes) else {
+        return false;
+    };
+    let digits = &bytes[..line_feed];
+    if !is_number(digits) {
+        return false;
+    }
+    let Some(number) = number_of(digits) else {
+        return true;
+    };
+    number > MAX_INPUT
 }
 
 // The front where no line has ended yet.

@@ -12,13 +12,14 @@ ghost use Rattle.live_run.specs.Front.{HasDocument, IsFront};
 
 use crate::behind::follow_lines;
 use crate::ending::status_of;
-use crate::front::{Front, front_of};
+use crate::front::{Front, front_of, says_long};
 use crate::line::answer_piece;
 use crate::{Follower, Stop};
 use bwe_io::{Failed, zeros};
+use bwe_specs::OutOfMemory;
 use live_lines::LineCutter;
 use live_stream::Stream;
-use one_run::TOO_LONG;
+use one_run::{FAR_TOO_LONG, TOO_LONG};
 use std::alloc::Global;
 use two_part::{NO_PARTS, Parts};
 
@@ -65,10 +66,25 @@ fn converse<F: Follower, S: Stream>(alloc: Global, stream: &mut S) -> Result<u8,
         Err(stop) => return Err(stop),
     };
     match front {
-        Front::Found(parts) => follow_document::<F, S>(alloc, bytes, parts, &mut buffer, stream),
-        Front::Open => refuse(NO_PARTS.as_bytes(), 3, stream),
+        Front::Found(parts) => serve_document::<F, S>(alloc, bytes, parts, &mut buffer, stream),
+        Front::Open => refuse_open(&bytes, stream),
         Front::Missing => refuse(NO_PARTS.as_bytes(), 3, stream),
-        Front::TooLong => refuse(TOO_LONG.as_bytes(), 8, stream),
+        Front::TooLong => refuse(FAR_TOO_LONG.as_bytes(), 8, stream),
+    }
+}
+
+// Refuses an input that has ended before its document was whole.
+fn refuse_open<S: Stream>(bytes: &[u8], stream: &mut S) -> Result<u8, Stop>
+    requires open { IsFront bytes.now Front.Open }
+    requires end { IsOver (S.talk stream.old) }
+    ensures { (follow : Follow) → GoesOn follow (S.talk stream.old) (S.talk stream.new)
+        (S.faults stream.old) (S.faults stream.new) (record { read = bytes.now; written = [] })
+        result }
+{
+    if says_long(bytes) {
+        refuse(TOO_LONG.as_bytes(), 8, stream)
+    } else {
+        refuse(NO_PARTS.as_bytes(), 3, stream)
     }
 }
 
@@ -138,6 +154,39 @@ fn read_front<S: Stream>(
     Err(Stop::OutOfMemory)
 }
 
+// Refuses the document that lies in the bytes where it is too long, and else follows it.
+fn serve_document<F: Follower, S: Stream>(
+    alloc: Global,
+    bytes: Vec<u8>,
+    parts: Parts,
+    buffer: &mut [u8],
+    stream: &mut S,
+) -> Result<u8, Stop>
+    requires some { 0 < length buffer.old }
+    requires document { HasDocument bytes.items parts }
+    ensures { GoesOn F.follow (S.talk stream.old) (S.talk stream.new)
+        (S.faults stream.old) (S.faults stream.new) (record { read = bytes.items; written = [] })
+        result }
+{
+    let long = match is_too_long::<F>(alloc, &bytes, parts) {
+        Ok(long) => long,
+        Err(_) => return Err(Stop::OutOfMemory),
+    };
+    if long {
+        return refuse(TOO_LONG.as_bytes(), 8, stream);
+    }
+    follow_document::<F, S>(alloc, bytes, parts, buffer, stream)
+}
+
+// Whether the document that lies in the bytes has more bytes than it may.
+fn is_too_long<F: Follower>(alloc: Global, bytes: &[u8], parts: Parts) -> Result<bool, OutOfMemory>
+    requires { HasDocument bytes.now parts }
+    ensures { IfOk result (λ is. is ≡ F.follow.is_too_long (document_in bytes.now parts)) }
+{
+    let front = &bytes[..parts.end as usize];
+    F::is_too_long(alloc, &front[parts.start as usize..])
+}
+
 // Opens the document that lies in the bytes, and follows the lines behind it.
 fn follow_document<F: Follower, S: Stream>(
     alloc: Global,
@@ -148,6 +197,7 @@ fn follow_document<F: Follower, S: Stream>(
 ) -> Result<u8, Stop>
     requires some { 0 < length buffer.old }
     requires document { HasDocument bytes.items parts }
+    requires short { F.follow.is_too_long (document_in bytes.items parts) ≡ false }
     ensures { GoesOn F.follow (S.talk stream.old) (S.talk stream.new)
         (S.faults stream.old) (S.faults stream.new) (record { read = bytes.items; written = [] })
         result }
@@ -173,6 +223,7 @@ fn follow_opened<F: Follower, S: Stream>(
 ) -> Result<u8, Stop>
     requires some { 0 < length buffer.old }
     requires document { HasDocument bytes.items parts }
+    requires short { F.follow.is_too_long (document_in bytes.items parts) ≡ false }
     requires accepted { F.follow.accepts (document_in bytes.items parts) ≡ true }
     requires followed { F.has_followed follower (document_in bytes.items parts) [] }
     ensures { GoesOn F.follow (S.talk stream.old) (S.talk stream.new)

@@ -1,6 +1,6 @@
 //! Answers are written before the next byte is asked for.
 
-ghost use Rattle.std.specs.Prelude.{true, [], unwrap_or};
+ghost use Rattle.std.specs.Prelude.{true, false, [], unwrap_or};
 
 use bwe_specs::OutOfMemory;
 use live_run::{Follower, Opened, serve};
@@ -14,12 +14,17 @@ struct Echo;
 
 impl Follower for Echo {
     ghost follow = { record {
+      is_too_long = λ _. false;
       accepts = λ _. true;
       first_text = λ document. document;
       answer_of = λ _ _ line. unwrap_or line [];
     } };
 
     ghost has_followed = { λ _ _ _. Unit {0} };
+
+    fn is_too_long(_alloc: Global, _document: &[u8]) -> Result<bool, OutOfMemory> {
+        Ok(false)
+    }
 
     fn open(alloc: Global, document: &[u8]) -> Result<Opened<Echo>, OutOfMemory> {
         Ok(Opened {

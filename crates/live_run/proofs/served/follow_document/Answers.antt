@@ -54,5 +54,5 @@ returns-in-None g c =
     subst (λ (b : List ℕ). Gives (g.S.Stream.talk c.args.stream.now) (g.S.Stream.talk c.open_document.new.stream) (g.F.Follower.follow.first_text (document_in b c.args.parts))) c.deref.ensures.value c.in-Ok.ensures.given in (
       record { read = c.args.bytes.items; written = first },
       Converses-gives g.F.Follower.follow _ _ c.args.bytes.items [] first first given refl,
-      refused refl (record { parts = c.args.parts; found = c.requires.document.found; few = c.requires.document.few; judged = refuses }) (sym (refused-text g.F.Follower.follow c.args.bytes.items c.args.parts c.requires.document.found refuses)),
+      refused refl (record { parts = c.args.parts; found = c.requires.document.found; few = c.requires.document.few; short = c.requires.short; judged = refuses }) (sym (refused-text g.F.Follower.follow c.args.bytes.items c.args.parts c.requires.document.found refuses)),
     )

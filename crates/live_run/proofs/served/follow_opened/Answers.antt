@@ -58,7 +58,7 @@ returns-in-Ok-follow_lines g c =
     let read : List ℕ = c.deref.result.now in
     let nothing = behind-nothing g.F.Follower.has_followed document c.args.follower c.in-Ok.cutter c.requires.followed c.in-Ok.ensures in
     goes-behind g.F.Follower.follow c.args.bytes.items c.args.parts found c.requires.accepted g.F.Follower.has_followed c.answer_piece.new.follower c.answer_piece.new.cutter _ _ _ _ _ _
-    (take (length read - c.args.parts.end) (drop c.args.parts.end read)) (Ok 0) c.requires.document.few
+    (take (length read - c.args.parts.end) (drop c.args.parts.end read)) (Ok 0) c.requires.document.few c.requires.short
     (behind-opened g.F.Follower.follow c.args.bytes.items c.args.parts found c.requires.accepted read c.deref.ensures.value)
     (c.in-Ok-answer_piece.ensures.behind document [] nothing) (c.in-Ok-answer_piece.ensures.given document [] nothing) c.in-Ok-answer_piece.ensures.counted
     (λ passed upto. let last = c.in-Ok-follow_lines.ensures front document passed (before-opened g.F.Follower.follow c.args.bytes.items c.args.parts found c.requires.accepted) upto in (last.0, last.1, (refl, last.2.0, last.2.1)))
@@ -71,7 +71,7 @@ returns g c =
     let read : List ℕ = c.deref.result.now in
     let nothing = behind-nothing g.F.Follower.has_followed document c.args.follower c.in-Ok.cutter c.requires.followed c.in-Ok.ensures in
     goes-behind g.F.Follower.follow c.args.bytes.items c.args.parts found c.requires.accepted g.F.Follower.has_followed c.answer_piece.new.follower c.answer_piece.new.cutter _ _ _ _ _ _
-    (take (length read - c.args.parts.end) (drop c.args.parts.end read)) (Err c.in-Err-follow_lines.stop) c.requires.document.few
+    (take (length read - c.args.parts.end) (drop c.args.parts.end read)) (Err c.in-Err-follow_lines.stop) c.requires.document.few c.requires.short
     (behind-opened g.F.Follower.follow c.args.bytes.items c.args.parts found c.requires.accepted read c.deref.ensures.value)
     (c.in-Ok-answer_piece.ensures.behind document [] nothing) (c.in-Ok-answer_piece.ensures.given document [] nothing) c.in-Ok-answer_piece.ensures.counted
     (λ passed upto. c.in-Err-follow_lines.ensures front document passed (before-opened g.F.Follower.follow c.args.bytes.items c.args.parts found c.requires.accepted) upto)
