@@ -5,7 +5,18 @@ from __future__ import annotations
 from collections.abc import Iterable, Mapping
 from dataclasses import replace
 
-from bwe_tools.document import Document, Group, Job, Link, Path, Report, Task, User
+from bwe_tools.document import (
+    Document,
+    Group,
+    Job,
+    Link,
+    Path,
+    Report,
+    Task,
+    User,
+    least_version,
+    to_raw,
+)
 from bwe_tools.routes import Routes
 
 HOSTS, OWNER = "hosts", "noc"
@@ -55,7 +66,8 @@ def document_of(
             groups.append(Group(name, source, target, None, ways, users))
             script.append(Report(HOSTS, name, None, demand))
     owners = dict.fromkeys([HOSTS, *(link.owner or OWNER for link in owned)])
-    return Document(3, top, owned, tuple(groups), tuple(owners), tuple(script))
+    made = Document(3, top, owned, tuple(groups), tuple(owners), tuple(script))
+    return replace(made, version=least_version(to_raw(made)))
 
 
 def with_demands(document: Document, demands: Mapping[str, int]) -> Document:

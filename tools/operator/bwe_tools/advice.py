@@ -3,9 +3,11 @@
 from __future__ import annotations
 
 import re
+from collections import defaultdict
+from collections.abc import Iterator
 from dataclasses import dataclass
 
-from bwe_tools.document import Document
+from bwe_tools.document import Raw
 
 # The rates of common lines, in kb/s.
 WHOLE_LINES = {1_000_000 * gigabits for gigabits in (1, 10, 25, 40, 50, 100, 200, 400, 800)}
@@ -17,106 +19,106 @@ class Advice:
     sentence: str
 
 
-def unreported_tasks(document: Document):
-    reported = {report.task for report in document.script}
-    for group_at, group in enumerate(document.groups):
-        for user_at, user in enumerate(group.users):
-            for job_at, job in enumerate(user.jobs):
-                place = ("groups", group_at, "users", user_at, "jobs", job_at, "tasks")
-                for at, task in enumerate(job.tasks):
-                    if task.name not in reported:
+def unreported_tasks(raw: Raw):
+    reported = {report["task"] for report in raw["script"] if "task" in report}
+    for group_at, group in enumerate(raw["groups"]):
+        for user_at, user in enumerate(group["users"]):
+            for job_at, job in enumerate(user["jobs"]):
+                for at, task in enumerate(job["tasks"]):
+                    if task["name"] not in reported:
+                        place = ("groups", group_at, "users", user_at, "jobs", job_at, "tasks")
                         sentence = (
-                            f'task "{task.name}" has no report, so its demand is 0 and it gets'
+                            f'task "{task["name"]}" has no report, so its demand is 0 and it gets'
                             " nothing"
                         )
                         yield Advice((*place, at), sentence)
 
 
-def unused_links(document: Document):
+def unused_links(raw: Raw):
     used = {
         link
-        for group in document.groups
-        for paths in group.paths
+        for group in raw["groups"]
+        for paths in group["paths"]
         for path in paths
-        for link in path.links
+        for link in path["links"]
     }
-    for at, link in enumerate(document.links):
-        if link.name not in used:
-            yield Advice(("links", at), f'link "{link.name}" is in no path')
+    for at, link in enumerate(raw["links"]):
+        if link["name"] not in used:
+            yield Advice(("links", at), f'link "{link["name"]}" is in no path')
 
 
 def links_of(paths) -> set:
-    return {link for path in paths for link in path.links}
+    return {link for path in paths for link in path["links"]}
 
 
-def path_groups(document: Document):
+def path_groups(raw: Raw):
     """Groups with one path group, path groups that fall together, and path groups of several paths
     that leave none of them.
     """
-    for at, group in enumerate(document.groups):
-        place, links = ("groups", at, "paths"), [links_of(paths) for paths in group.paths]
+    for at, group in enumerate(raw["groups"]):
+        place, links = ("groups", at, "paths"), [links_of(paths) for paths in group["paths"]]
         if len(links) == 1:
             yield Advice(
                 place,
                 (
-                    f'group "{group.name}" has one path group: where a link of it closes, it gets'
+                    f'group "{group["name"]}" has one path group: where a link of it closes, it gets'
                     " no more"
                 ),
             )
         elif common := set.intersection(*links):
             sentence = (
-                f'all path groups of group "{group.name}" fall together where'
+                f'all path groups of group "{group["name"]}" fall together where'
                 f" {named(common)} closes"
             )
             yield Advice(place, sentence)
-        for number, paths in enumerate(group.paths):
-            alone = [any(other <= set(path.links) for other in links) for path in paths]
+        for number, paths in enumerate(group["paths"]):
+            alone = [any(other <= set(path["links"]) for other in links) for path in paths]
             if len(paths) > 1 and not all(alone):
                 sentence = (
-                    f'path group {number} of group "{group.name}" falls whole with any of its'
+                    f'path group {number} of group "{group["name"]}" falls whole with any of its'
                     f" links, and its path {alone.index(False)} is no path group by itself"
                 )
                 yield Advice((*place, number), sentence)
 
 
-def uneven_paths(document: Document):
+def uneven_paths(raw: Raw):
     """Path groups that split evenly over paths of unlike length or capacity."""
-    capacities = {link.name: link.capacity for link in document.links}
-    for at, group in enumerate(document.groups):
-        for number, paths in enumerate(group.paths):
-            is_even = len(paths) > 1 and len({path.weight for path in paths}) == 1
-            lengths = {len(path.links) for path in paths}
-            narrowest = {min(capacities[link] for link in path.links) for path in paths}
+    capacities = {link["name"]: link["capacity"] for link in raw["links"]}
+    for at, group in enumerate(raw["groups"]):
+        for number, paths in enumerate(group["paths"]):
+            is_even = len(paths) > 1 and len({path["weight"] for path in paths}) == 1
+            lengths = {len(path["links"]) for path in paths}
+            narrowest = {min(capacities[link] for link in path["links"]) for path in paths}
             if is_even and (len(lengths) > 1 or len(narrowest) > 1):
                 unlike = "lengths" if len(lengths) > 1 else "capacities"
                 sentence = (
-                    f'path group {number} of group "{group.name}" splits evenly over paths of'
+                    f'path group {number} of group "{group["name"]}" splits evenly over paths of'
                     f" unlike {unlike}, so the poorest of them stops all"
                 )
                 yield Advice(("groups", at, "paths", number), sentence)
 
 
-def steps_below_a_function(document: Document):
+def steps_below_a_function(raw: Raw):
     """Task functions that rise by more than half of all that they give within one share, below a
     function of a job, user or group: such a function has no value between the two amounts, and
     gives nothing until it reaches the upper one.
     """
-    for at, group in enumerate(document.groups):
-        for user_at, user in enumerate(group.users):
-            for job_at, job in enumerate(user.jobs):
+    for at, group in enumerate(raw["groups"]):
+        for user_at, user in enumerate(group["users"]):
+            for job_at, job in enumerate(user["jobs"]):
                 above = next(
                     (
-                        f'{kind} "{node.name}"'
+                        f'{kind} "{node["name"]}"'
                         for kind, node in (("job", job), ("user", user), ("group", group))
-                        if node.function is not None
+                        if "function" in node
                     ),
                     None,
                 )
-                step = steepest_step(job.task_function)
+                step = steepest_step(job["task"])
                 if above and step:
                     place = ("groups", at, "users", user_at, "jobs", job_at, "task")
                     sentence = (
-                        f'the task function of job "{job.name}" rises from {step[0]} to'
+                        f'the task function of job "{job["name"]}" rises from {step[0]} to'
                         f" {step[1]} kb/s within one share, so the function of {above} gives its"
                         " tasks nothing in between"
                     )
@@ -131,14 +133,14 @@ def steepest_step(points) -> tuple[int, int] | None:
     return None
 
 
-def whole_lines(document: Document):
+def whole_lines(raw: Raw):
     """The first link with the whole rate of a common line: packets need some of it for headers."""
-    found = [at for at, link in enumerate(document.links) if link.capacity in WHOLE_LINES]
+    found = [at for at, link in enumerate(raw["links"]) if link["capacity"] in WHOLE_LINES]
     if found:
-        link = document.links[found[0]]
+        link = raw["links"][found[0]]
         others = f" (and {len(found) - 1} more links)" if len(found) > 1 else ""
         sentence = (
-            f'link "{link.name}" has the whole rate of a line{others}; where hosts keep to'
+            f'link "{link["name"]}" has the whole rate of a line{others}; where hosts keep to'
             " limits, some 97 % of it leave room for headers and keep queues short"
         )
         yield Advice(("links", found[0], "capacity"), sentence)
@@ -149,11 +151,12 @@ def named(links) -> str:
     return f'link "{first}"' + (f" (or one of {len(others)} more)" if others else "")
 
 
-def neighbours(document: Document) -> dict:
-    found = {site: set() for site in document.sites()}
-    for link in document.links:
-        found[link.source].add(link.target)
-        found[link.target].add(link.source)
+def neighbours(raw: Raw) -> dict:
+    ends = [(of["from"], of["to"]) for key in ("links", "groups") for of in raw[key]]
+    found = {site: set() for pair in ends for site in pair}
+    for link in raw["links"]:
+        found[link["from"]].add(link["to"])
+        found[link["to"]].add(link["from"])
     return found
 
 
@@ -175,18 +178,20 @@ def is_one_slip(word: str, other: str) -> bool:
     )
 
 
-def misspelt_sites(document: Document):
+def misspelt_sites(raw: Raw):
     """Sites whose names differ in case or separators alone, and sites at an end that are one slip
     away from another.
     """
-    around = neighbours(document)
+    around = neighbours(raw)
     sites = list(around)
     first_use = {}
-    for at, link in enumerate(document.links):
-        for key, site in (("from", link.source), ("to", link.target)):
+    for at, link in enumerate(raw["links"]):
+        for key, site in (("from", link["from"]), ("to", link["to"])):
             first_use.setdefault(site, ("links", at, key))
+    alike: defaultdict[tuple, list[int]] = defaultdict(list)
     for number, site in enumerate(sites):
-        for other in sites[:number]:
+        keys = set(keys_of_likeness(site))
+        for other in map(sites.__getitem__, sorted({at for key in keys for at in alike[key]})):
             is_same = plain(site) == plain(other)
             few = site if len(around[site]) <= len(around[other]) else other
             is_end = len(around[few]) == 1 and len(few) > 2 and other not in around[site]
@@ -194,13 +199,28 @@ def misspelt_sites(document: Document):
                 wrong = few if is_end else site
                 right = other if wrong == site else site
                 yield Advice(first_use[wrong], f'site "{wrong}" looks like a misspelt "{right}"')
+        for key in keys:
+            alike[key].append(number)
+
+
+def keys_of_likeness(site: str) -> Iterator[tuple]:
+    """Two sites that differ in case and separators alone, or by one slip, have one of these in
+    common: so each site is looked at beside few others.
+    """
+    word = site.lower()
+    numbers = tuple(re.findall(r"\d+", word))
+    yield "plain", plain(site)
+    yield numbers, word
+    for at, letter in enumerate(word):
+        if not letter.isdigit():
+            yield numbers, word[:at] + word[at + 1 :]
 
 
 def plain(site: str) -> str:
     return re.sub(r"[-_.]", "", site).lower()
 
 
-def warnings(document: Document):
+def warnings(raw: Raw):
     """All warnings, a list for each kind."""
     kinds = (
         unreported_tasks,
@@ -211,4 +231,4 @@ def warnings(document: Document):
         misspelt_sites,
         whole_lines,
     )
-    return [list(kind(document)) for kind in kinds]
+    return [list(kind(raw)) for kind in kinds]

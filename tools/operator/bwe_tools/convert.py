@@ -14,7 +14,8 @@ from pathlib import Path
 import click
 
 from bwe_tools import rules
-from bwe_tools.document import ToolError, dump
+from bwe_tools.document import ToolError, least_version, text_of
+from bwe_tools.limits import OF_4
 from bwe_tools.network import Demand, Namer, Network, rate
 from bwe_tools.routes import Routes
 
@@ -58,7 +59,7 @@ OPTIONS = [
     ),
     click.option(
         "--busiest",
-        type=click.IntRange(2, 32),
+        type=click.IntRange(2, 256),
         metavar="N",
         help="Where no demands are given: only pairs of the N sites with the most capacity.",
     ),
@@ -178,10 +179,10 @@ class Conversion:
                 }
             )
             self.lengths[name] = self.network.length(line)
-        if len(self.links) > rules.MOST_LINKS:
+        if len(self.links) > OF_4.links:
             raise ToolError(
                 f"{len(self.links):,} links in both directions are more than a document's"
-                f" {rules.MOST_LINKS:,}"
+                f" {OF_4.links:,}"
             )
 
     def routes(self) -> Routes:
@@ -207,10 +208,10 @@ class Conversion:
                 capacity.update({link["from"]: link["capacity"], link["to"]: link["capacity"]})
             keys = sorted(keys, key=lambda key: -capacity[self.sites[key]])[: self.choices.busiest]
         pairs = len(keys) * (len(keys) - 1)
-        if pairs > rules.MOST_GROUPS:
+        if pairs > OF_4.groups:
             raise ToolError(
                 f"{len(keys)} sites have {pairs:,} pairs, more than a document's"
-                f" {rules.MOST_GROUPS:,} groups; take some with --busiest 32, or give the demands"
+                f" {OF_4.groups:,} groups; take some with --busiest 256, or give the demands"
             )
         return [Demand(*pair, self.choices.demand) for pair in permutations(keys, 2)]
 
@@ -257,14 +258,14 @@ class Conversion:
                 }
             )
         self.tell_unreached(unreached)
-        return {
-            "version": 3,
+        parts = {
             "top": self.choices.top,
             "links": self.links,
             "groups": groups,
             "reporters": [HOSTS, OWNER],
             "script": script,
         }
+        return {"version": least_version(parts)} | parts
 
     def users(self, group: str, demands, most: int, task_names: Namer, script: list) -> list:
         """The users of a group with their jobs and tasks; each task's demand goes to the script."""
@@ -326,7 +327,7 @@ def write_document(network: Network, choices: Choices, map_file: str | None) -> 
         raise ToolError(f"this is too much for one document: {fault.sentence}")
     if map_file is not None:
         write_map(map_file, {"sites": conversion.site_map, "links": conversion.link_namer.texts})
-    click.echo(dump(raw), nl=False)
+    click.echo(text_of(raw), nl=False)
 
 
 def write_map(path: str, maps: dict) -> None:

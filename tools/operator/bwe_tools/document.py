@@ -10,14 +10,16 @@ import json
 import sys
 from collections.abc import Iterator
 from dataclasses import dataclass
+from operator import gt
 from typing import IO, Any, Optional
 
 import click
 
 from bwe_tools import json_text, rules, sound
 from bwe_tools.fault import Fault
+from bwe_tools.limits import BEFORE_4, NEWEST, OF_4, PLAIN, is_4, limits_of, version_of
 
-MOST_BYTES = 67_108_864
+ENTRIES = 4_096  # of a list, to a piece of text
 
 Function = tuple[tuple[int, int], ...]  # points of a share and an amount in kb/s
 Raw = dict[str, Any]  # an object of JSON
@@ -32,7 +34,7 @@ class ToolError(click.ClickException):
         click.echo(f"bwe-tools: {self.format_message()}", file=file or sys.stderr)
 
 
-@dataclass(frozen=True)
+@dataclass(frozen=True, slots=True)
 class Link:
     """A directed link. Its capacity is in kb/s, as the document gives it, before any report."""
 
@@ -43,20 +45,20 @@ class Link:
     owner: Optional[str] = None
 
 
-@dataclass(frozen=True)
+@dataclass(frozen=True, slots=True)
 class Path:
     weight: int
     links: tuple[str, ...]  # names, in their order
 
 
-@dataclass(frozen=True)
+@dataclass(frozen=True, slots=True)
 class Task:
     name: str
     reporter: str
     weight: int = 1
 
 
-@dataclass(frozen=True)
+@dataclass(frozen=True, slots=True)
 class Job:
     name: str
     function: Optional[Function]
@@ -64,7 +66,7 @@ class Job:
     tasks: tuple[Task, ...]
 
 
-@dataclass(frozen=True)
+@dataclass(frozen=True, slots=True)
 class User:
     name: str
     function: Optional[Function]
@@ -74,7 +76,7 @@ class User:
         return (task for job in self.jobs for task in job.tasks)
 
 
-@dataclass(frozen=True)
+@dataclass(frozen=True, slots=True)
 class Group:
     name: str
     source: str
@@ -88,7 +90,7 @@ class Group:
         return (task for user in self.users for task in user.tasks())
 
 
-@dataclass(frozen=True)
+@dataclass(frozen=True, slots=True)
 class Report:
     """A report of a task's demand or of a link's capacity; the other of the two names is None."""
 
@@ -98,13 +100,13 @@ class Report:
     amount: int
 
 
-@dataclass(frozen=True)
+@dataclass(frozen=True, slots=True)
 class Closing:
     link: str
     share: int
 
 
-@dataclass(frozen=True)
+@dataclass(frozen=True, slots=True)
 class Document:
     version: int
     top: int
@@ -145,28 +147,44 @@ def read_bytes(path: str) -> bytes:
     """The bytes of a file, or of standard input for `-`."""
     try:
         if path == "-":
-            return sys.stdin.buffer.read(MOST_BYTES + 1)
+            return sys.stdin.buffer.read(OF_4.size + 1)
         with open(path, "rb") as file:
-            return file.read(MOST_BYTES + 1)
+            return file.read(OF_4.size + 1)
     except OSError as fault:
         raise ToolError(f"{path} cannot be read: {fault.strerror}") from None
 
 
 def parse(data: bytes, path: str = "-") -> Document:
     """The document of some bytes; `path` is how a fault names where they come from."""
-    if len(data) > MOST_BYTES:
-        raise ToolError(f"{path} is longer than {MOST_BYTES:,} bytes, the most that bwe reads")
+    return of_raw(parse_raw(data, path))
+
+
+def parse_raw(data: bytes, path: str = "-") -> Raw:
+    """The JSON of some bytes that are a document."""
+    if len(data) > OF_4.size:
+        raise ToolError(too_long(path, OF_4.size))
+    raw: Raw
     try:
         _, raw = json_text.parse(data)
     except json_text.NotJson as fault:
+        if len(data) > BEFORE_4.size:
+            raise ToolError(too_long(path, BEFORE_4.size)) from None
         raise ToolError(f"{path} is not JSON: {fault} (bwe: refused 1 not json)") from None
+    if len(data) > limits_of(version_of(raw)).size:
+        raise ToolError(too_long(path, BEFORE_4.size))
     first = first_fault(raw)
     if first is not None:
         raise ToolError(
             f"{path} is no document: {first.sentence} (bwe: {first.refusal}); `bwe-tools lint` says"
             " where"
         )
-    return of_raw(raw)
+    return raw
+
+
+def too_long(path: str, most: int) -> str:
+    """What to say of a document of more than so many bytes."""
+    of = "" if most == OF_4.size else f" of a document that is not of version {NEWEST}"
+    return f"{path} is longer than {most:,} bytes, the most that bwe reads{of}"
 
 
 def first_fault(raw: Raw) -> Optional[Fault]:
@@ -190,6 +208,11 @@ def faults(raw: Raw) -> Iterator[Fault]:
 
 def of_raw(raw: Raw) -> Document:
     """The document of JSON that is shaped as one."""
+    with json_text.collector_at_rest():
+        return _of_raw(raw)
+
+
+def _of_raw(raw: Raw) -> Document:
     return Document(
         version=raw["version"],
         top=raw["top"],
@@ -249,6 +272,11 @@ def report_of(raw: Raw) -> Report:
 
 def to_raw(document: Document) -> Raw:
     """The JSON of a document: what `of_raw` reads back as the same document."""
+    with json_text.collector_at_rest():
+        return _to_raw(document)
+
+
+def _to_raw(document: Document) -> Raw:
     raw: Raw = {
         "version": document.version,
         "top": document.top,
@@ -308,15 +336,49 @@ def raw_report(report: Report) -> Raw:
     return {"reporter": report.reporter, "link": report.link, "capacity": report.amount}
 
 
-def dump(raw: Raw) -> str:
-    """The text of a document: a line for each link, group, reporter list and report, so that it can
-    be read and compared.
+ENCODE = json.JSONEncoder(separators=(",", ":")).encode
+
+
+def pieces(raw: Raw) -> Iterator[str]:
+    """The text of a document, piece by piece: a line for each link, group, reporter list and
+    report, so that it can be read and compared.
     """
-    members = []
+    before = "{"
     for key, value in raw.items():
+        yield f'{before}"{key}":'
+        before = ",\n "
         if isinstance(value, list) and value and isinstance(value[0], dict):
-            entries = ",\n  ".join(json.dumps(entry, separators=(",", ":")) for entry in value)
-            members.append(f'"{key}":[\n  {entries}]')
+            yield "[\n  " + ENCODE(value[0])
+            for start in range(1, len(value), ENTRIES):
+                yield "".join(",\n  " + ENCODE(one) for one in value[start : start + ENTRIES])
+            yield "]"
         else:
-            members.append(f'"{key}":{json.dumps(value, separators=(",", ":"))}')
-    return "{" + ",\n ".join(members) + "}\n"
+            yield ENCODE(value)
+    yield "}\n"
+
+
+def dump(raw: Raw) -> str:
+    """The text of a document (`pieces`)."""
+    return "".join(pieces(raw))
+
+
+# ---- versions
+
+
+def least_version(raw: Raw) -> int:
+    """The version to write for what tools made: 3, and 4 only beyond the limits of version 3."""
+    counts = rules.counts_of(raw)
+    return NEWEST if any(map(gt, counts, BEFORE_4)) else PLAIN
+
+
+def text_of(raw: Raw) -> str:
+    """The text of a document (`dump`); of version 4 where its own version may not be so long."""
+    text = dump(raw)
+    if len(text) <= limits_of(raw["version"]).size:
+        return text
+    return dump({**raw, "version": NEWEST})
+
+
+def at_least_3(document: Document) -> int:
+    """The version of a document that gets owners or weights: 4 where it is that already."""
+    return NEWEST if is_4(document.version) else PLAIN

@@ -5,22 +5,39 @@ from __future__ import annotations
 import difflib
 import re
 import unicodedata
+from itertools import islice
 
 from bwe_tools.units import kilobits
 
 NAME = re.compile(r"[A-Za-z0-9_.-]{1,64}\Z")
 # Letters that are easily taken for digits, in words whose capitals are small letters.
 LOOK_ALIKE = str.maketrans("oil", "011")
+MANY, ENDS = 20_000, 3
 
 
 def near(word: str, words) -> str | None:
-    """The word among others that is most like it, where one is like enough."""
+    """The word among others that is most like it, where one is like enough. Of very many others
+    only those that begin or end as it does are looked at.
+    """
     others = {other.lower(): other for other in words}
     alike = {other.translate(LOOK_ALIKE): other for other in others}
     if word.lower().translate(LOOK_ALIKE) in alike:
         return others[alike[word.lower().translate(LOOK_ALIKE)]]
-    found = difflib.get_close_matches(word.lower(), list(others), n=1, cutoff=0.6)
+    listed = list(others) if len(others) <= MANY else with_its_ends(word.lower(), others)
+    found = difflib.get_close_matches(word.lower(), listed, n=1, cutoff=0.6)
     return others[found[0]] if found else None
+
+
+def with_its_ends(word: str, others) -> list[str]:
+    """The first of the words of about its length that begin or end with the same letters."""
+    begin, end = word[:ENDS], word[-ENDS:]
+    alike = (
+        other
+        for other in others
+        if abs(len(other) - len(word)) <= ENDS
+        and (other.startswith(begin) or other.endswith(end))
+    )
+    return list(islice(alike, MANY))
 
 
 def plain_name(text: str) -> str:

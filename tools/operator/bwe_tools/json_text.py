@@ -2,10 +2,14 @@
 
 from __future__ import annotations
 
+import gc
 import json
 import math
 import re
+from array import array
 from bisect import bisect_right
+from collections.abc import Iterator
+from contextlib import contextmanager
 from dataclasses import dataclass
 from itertools import accumulate
 
@@ -14,9 +18,11 @@ MOST_WHOLE = 2**64 - 1
 SPACE = re.compile(r"[ \t\n\r]*")
 TOKEN = re.compile(r'"(?:[^"\\]|\\.)*"|[\[\]{}]', re.DOTALL)
 TEXT = re.compile(r'"(?:[^"\\]|\\.)*"', re.DOTALL)
-# A number that Python reads as another whole number than bwe has a sign or is so long.
-DOUBTFUL = re.compile(r"-|[0-9]{20}")
+PIECE, PARTS, LONG = 1 << 20, 1 << 16, 4_000_000
 NO_BRACKET = bytes(set(range(256)) - set(b"[]{}"))
+# A number that Python reads as another whole number than bwe has a sign or is so long.
+DIGITS_AS_0 = bytes(48 if 48 <= byte < 58 else byte for byte in range(256))
+LONG_NUMBER = b"0" * 20
 # What opens a level counts 1, and what closes one -1.
 LEVELS = [(byte in b"[{") - (byte in b"]}") for byte in range(256)]
 ESCAPE = re.compile(r"\\(?:u([0-9a-fA-F]{4})|.)", re.DOTALL)
@@ -66,40 +72,115 @@ def refuse_constant(text: str):
 
 def parse(data: bytes):
     """The text and its value. What `bwe` refuses as no JSON is NotJson."""
+    text = decoded(data)
+    return text, value_of(text)
+
+
+def decoded(data: bytes) -> str:
+    """The text of bytes; NotJson where they are not UTF-8."""
     try:
-        text = data.decode("utf-8")
+        return data.decode("utf-8")
     except UnicodeDecodeError as fault:
         before = data[: fault.start].decode("utf-8")
         raise NotJson(
             f"the byte {data[fault.start]} begins no character of UTF-8", len(before)
         ) from None
-    outside = without_texts(text)
-    check_levels(text, outside)
+
+
+def value_of(text: str):
+    """The value of a text. What `bwe` refuses as no JSON is NotJson."""
+    has_doubtful = look_outside(text)
     try:
         # A call for each number takes long, and most documents have none in doubt.
-        parse_int = whole_number if DOUBTFUL.search(outside) else None
-        value = json.loads(
-            text, parse_int=parse_int, parse_float=NoWhole, parse_constant=refuse_constant
-        )
+        parse_int = whole_number if has_doubtful else None
+        with collector_at_rest():
+            value = json.loads(
+                text,
+                parse_int=parse_int,
+                parse_float=NoWhole,
+                parse_constant=refuse_constant,
+                object_hook=OneOfEach().put if len(text) > LONG else None,
+            )
     except json.JSONDecodeError as fault:
         raise NotJson(json_sentence(text, fault), fault.pos) from None
     except NotJson as fault:
         raise NotJson(str(fault), offset_of_number(text)) from None
     check_surrogates(text)
-    return text, value
+    return value
 
 
-def without_texts(text: str) -> str:
-    """What stands outside of the texts between double quotes."""
+class OneOfEach:
+    """Keeps of each name of a reporter and a task one text, however often it stands: of a long
+    document that is a sixth of all that its value takes.
+    """
+
+    def __init__(self) -> None:
+        self.known: dict[str, str] = {}
+
+    def put(self, found: dict) -> dict:
+        if "reporter" in found:
+            self.put_key(found, "reporter")
+            self.put_key(found, "task" if "task" in found else "name")
+        return found
+
+    def put_key(self, found: dict, key: str) -> None:
+        text = found.get(key)
+        if type(text) is str:
+            found[key] = self.known.setdefault(text, text)
+
+
+@contextmanager
+def collector_at_rest() -> Iterator[None]:
+    """No search for rings of objects meanwhile: a document has none, and a great one is searched
+    over and over as it grows.
+    """
+    was_at_work = gc.isenabled()
+    gc.disable()
+    try:
+        yield
+    finally:
+        if was_at_work:
+            gc.enable()
+
+
+def outside_of_texts(text: str) -> Iterator[str]:
+    """What stands outside of the texts between double quotes, piece by piece: no number is cut."""
     if "\\" in text:
-        return TEXT.sub("", text)
-    return "".join(text.split('"')[::2])
-
-
-def check_levels(text: str, outside: str) -> None:
-    brackets = outside.encode().translate(None, NO_BRACKET)
-    if max(accumulate(map(LEVELS.__getitem__, brackets)), default=0) <= MOST_LEVELS:
+        end, parts = 0, []
+        for found in TEXT.finditer(text):
+            parts.append(text[end : found.start()])
+            end = found.end()
+            if len(parts) == PARTS:
+                yield "".join(parts)
+                parts.clear()
+        yield "".join(parts) + text[end:]
         return
+    start, is_inside = 0, 0
+    while start < len(text):
+        end = text.find('"', start + PIECE)
+        parts = text[start : end if end >= 0 else len(text)].split('"')
+        yield "".join(parts[is_inside::2])
+        is_inside ^= (len(parts) - 1) & 1
+        start = end if end >= 0 else len(text)
+
+
+def look_outside(text: str) -> bool:
+    """Whether a number is in doubt; NotJson where lists and objects are nested too deep."""
+    is_doubtful, level = False, 0
+    for piece in outside_of_texts(text):
+        outside = piece.encode()
+        is_doubtful = (
+            is_doubtful or b"-" in outside or LONG_NUMBER in outside.translate(DIGITS_AS_0)
+        )
+        steps = map(LEVELS.__getitem__, outside.translate(None, NO_BRACKET))
+        levels = list(accumulate(steps, initial=level))
+        if max(levels) > MOST_LEVELS:
+            refuse_deepest(text)
+        level = levels[-1]
+    return is_doubtful
+
+
+def refuse_deepest(text: str) -> None:
     levels = 0
     for token in TOKEN.finditer(text):
         if token[0] in "[{":
@@ -178,9 +259,9 @@ def json_sentence(text: str, fault: json.JSONDecodeError) -> str:
 
 def members(text: str, at: int):
     """The steps of the object or list that begins at an offset: the step, where its key stands,
-    where its value stands.
+    where its value stands. Values are read over, and none is kept.
     """
-    decoder = json.JSONDecoder(parse_int=str, parse_float=str, strict=True)
+    decoder = json.JSONDecoder(object_pairs_hook=len, parse_int=len, parse_float=len, strict=True)
     is_object = text[at] == "{"
     number, at = 0, SPACE.match(text, at + 1).end()
     while text[at] not in "]}":
@@ -200,8 +281,9 @@ class Places:
 
     def __init__(self, text: str) -> None:
         self.text = text
-        self.lines = [0, *(found.end() for found in re.finditer("\n", text))]
-        self.known: dict[int, dict] = {}
+        self.lines = array("q", [0])
+        self.lines.extend(found.end() for found in re.finditer("\n", text))
+        self.known: dict[int, dict | array] = {}
 
     def offset_of(self, place, is_key: bool = False) -> int:
         """Where the value at a place stands, or its key. Of a key that an object repeats the last
@@ -210,11 +292,16 @@ class Places:
         at = key_at = SPACE.match(self.text, 0).end()
         for step in place:
             if at not in self.known:
-                self.known[at] = {
-                    found: (key, value) for found, key, value in members(self.text, at)
-                }
-            key_at, at = self.known[at][step]
+                self.known[at] = self.read(at)
+            found = self.known[at][step]
+            key_at, at = found if isinstance(found, tuple) else (found, found)
         return key_at if is_key else at
+
+    def read(self, at: int) -> dict | array:
+        """Where the members of an object stand, with their keys, or the entries of a list."""
+        if self.text[at] == "{":
+            return {step: (key, value) for step, key, value in members(self.text, at)}
+        return array("q", (value for _, _, value in members(self.text, at)))
 
     def position(self, offset: int) -> Position:
         """Line and column, from 1, as editors count them."""

@@ -23,7 +23,7 @@ SENTENCES = {
     5: "the program could not write its answer",
     6: "the program ran out of memory, and wrote nothing",
     7: "the program could not read its own arguments",
-    8: "the document is longer than 67108864 bytes, the most that the program reads",
+    8: "the document is longer than the program reads",
     70: "the program could not be built, so there is none to run",
 }
 

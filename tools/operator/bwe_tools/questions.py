@@ -9,10 +9,10 @@ from itertools import combinations
 import re
 
 from bwe_tools import units
-from bwe_tools.document import Document, ToolError, read_bytes
+from bwe_tools.document import Document, ToolError, at_least_3, read_bytes
+from bwe_tools.limits import OF_4, limits_of
 from bwe_tools.network import rate as kilobits_of
 from bwe_tools.rate import rate
-from bwe_tools.rules import MOST_REPORTERS
 
 FACTOR = re.compile(r"x(\d{1,4}(?:\.\d{1,6})?)\Z", re.ASCII)
 
@@ -130,16 +130,16 @@ def askable(document: Document) -> Document:
     is the same.
     """
     if all(link.owner is not None for link in document.links):
-        return replace(document, version=3)
+        return replace(document, version=at_least_3(document))
     reporters = document.reporters
     owner = next((name for name in reporters), "whatif")
-    if len(reporters) < MOST_REPORTERS:
+    if len(reporters) < limits_of(document.version).reporters:
         owner = next(name for name in _names("whatif") if name not in reporters)
         reporters = (*reporters, owner)
     links = tuple(replace(link, owner=link.owner or owner) for link in document.links)
-    return replace(document, version=3, links=links, reporters=reporters)
+    return replace(document, version=at_least_3(document), links=links, reporters=reporters)
 
 
 def _names(plain: str) -> Iterable[str]:
     yield plain
-    yield from (f"{plain}-{number}" for number in range(2, MOST_REPORTERS + 3))
+    yield from (f"{plain}-{number}" for number in range(2, OF_4.reporters + 3))

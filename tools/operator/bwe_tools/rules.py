@@ -8,15 +8,13 @@ from collections import Counter
 from collections.abc import Iterator
 from typing import Any, NamedTuple
 
-from bwe_tools import hints, units
+from bwe_tools import hints, limits, units
 from bwe_tools.fault import Fault, pointer
 from bwe_tools.json_text import shortened
 
 MOST_SHARE = 1_000_000_000
-MOST_LINKS, MOST_GROUPS, MOST_REPORTERS = 4_096, 1_024, 64
-MOST_REPORTS, MOST_TASKS, MOST_POINTS, MOST_HOPS = 200_000, 20_000, 256, 1_000_000
-MOST_PATHS, MOST_PATH_LINKS, MOST_WEIGHT = 16, 32, 1_000
-MOST_HINTS = 20
+MOST_POINTS, MOST_PATHS, MOST_PATH_LINKS, MOST_WEIGHT = 256, 16, 32, 1_000
+MOST_HINTS, MOST_HINTS_AMONG_MANY, MANY = 20, 3, 20_000
 
 
 class Value(NamedTuple):
@@ -43,65 +41,113 @@ def plain_names(names) -> set[str]:
     return set(filter(hints.NAME.match, names))
 
 
+def odd_names(names: list[str]) -> frozenset[str]:
+    """Of new names those that a refusal can be of: that are no plain names, or stand twice."""
+    plain = plain_names(names)
+    if len(plain) == len(names):
+        return frozenset()
+    twice = [name for name, count in Counter(names).items() if count > 1]
+    return frozenset((*twice, *(name for name in names if name not in plain)))
+
+
 class Walk:
     """The names and numbers of a document, in the order of the walk.
 
-    A reference to a plain name that is there, and a number in its range, are no fault of any
-    refusal, and are left out: so a long script or many paths cost little. `unread` are names of
-    entries whose shape is at fault, which are not missed.
+    A reference to a plain name that is there, a plain new name that stands once, and a number in
+    its range are no fault of any refusal, and are left out: so many tasks, a long script or many
+    paths cost little. `unread` are names of entries whose shape is at fault, which are not missed.
     """
 
     def __init__(self, raw, unread: frozenset[str] = frozenset()) -> None:
         self.raw = raw
+        self.limits = limits.limits_of(raw["version"])
+        new = {
+            "link": [link["name"] for _, link in entries(raw, "links")],
+            "group": [group["name"] for _, group in entries(raw, "groups")],
+            "reporter": [name for _, name in entries(raw, "reporters")],
+            "task": [task["name"] for task in tasks(raw)],
+        }
+        self.odd = {kind: odd_names(names) for kind, names in new.items()}
         self.known = {
-            "link": {link["name"] for _, link in entries(raw, "links")} | unread,
-            "reporter": {name for _, name in entries(raw, "reporters")} | unread,
-            "task": {task["name"] for task in tasks(raw)} | unread,
+            kind: unread.union(new[kind]) for kind in ("link", "reporter", "task")
         }
         self.plain = {kind: plain_names(names) for kind, names in self.known.items()}
         self.values = list(self._values())
 
     def _values(self) -> Iterator[Value]:
         raw = self.raw
-        yield from self._number(("version",), raw["version"], 1, 3)
+        yield from self._number(("version",), raw["version"], 1, limits.NEWEST)
         yield from self._number(("top",), raw["top"], 1, MOST_SHARE)
         for at, link in entries(raw, "links"):
             place = ("links", at)
-            yield from thing_values(place, link, "link")
+            yield from self._thing(place, link, "link")
             if "owner" in link:
                 yield from self._name((*place, "owner"), link["owner"], "reporter")
         for at, group in entries(raw, "groups"):
             yield from self._group(("groups", at), group)
         for at, name in entries(raw, "reporters"):
-            yield Value(("reporters", at), name, "reporter", scope=("reporters",))
-        for at, report in entries(raw, "script"):
-            place, thing, amount = ("script", at), *report_keys(report)
-            yield from self._name((*place, "reporter"), report["reporter"], "reporter")
-            yield from self._name((*place, thing), report[thing], thing)
-            yield from self._number((*place, amount), report[amount], 0, units.MOST)
+            if name in self.odd["reporter"]:
+                yield Value(("reporters", at), name, "reporter", scope=("reporters",))
+        yield from self._script()
         for at, closing in entries(raw, "closings"):
             yield from self._name(("closings", at, "link"), closing["link"], "link")
             yield from self._number(("closings", at, "share"), closing["share"], 0, MOST_SHARE)
 
+    def _script(self) -> Iterator[Value]:
+        reporters, plain, most = self.plain["reporter"], self.plain, units.MOST
+        for at, report in entries(self.raw, "script"):
+            thing, amount = report_keys(report)
+            if (
+                report["reporter"] not in reporters
+                or report[thing] not in plain[thing]
+                or not 0 <= report[amount] <= most
+            ):
+                place = ("script", at)
+                yield from self._name((*place, "reporter"), report["reporter"], "reporter")
+                yield from self._name((*place, thing), report[thing], thing)
+                yield from self._number((*place, amount), report[amount], 0, most)
+
+    def _thing(self, place, thing, kind) -> Iterator[Value]:
+        if thing["name"] in self.odd[kind]:
+            yield Value((*place, "name"), thing["name"], kind, scope=(kind,))
+        for end in ("from", "to"):
+            if not hints.NAME.match(thing[end]):
+                yield Value((*place, end), thing[end], "site")
+
     def _group(self, place, group) -> Iterator[Value]:
-        yield from thing_values(place, group, "group")
+        yield from self._thing(place, group, "group")
         for at, paths in enumerate(group["paths"]):
             for path_at, path in enumerate(paths):
                 if not self.plain["link"].issuperset(path["links"]):
                     for link_at, link in enumerate(path["links"]):
                         step = (*place, "paths", at, path_at, "links", link_at)
                         yield from self._name(step, link, "link")
-        for at, user in enumerate(group["users"]):
+        users = group["users"]
+        odd = odd_names([user["name"] for user in users])
+        for at, user in enumerate(users):
             user_place = (*place, "users", at)
-            yield Value((*user_place, "name"), user["name"], "user", scope=place)
+            if user["name"] in odd:
+                yield Value((*user_place, "name"), user["name"], "user", scope=place)
+            odd_jobs = odd_names([job["name"] for job in user["jobs"]])
             for job_at, job in enumerate(user["jobs"]):
                 job_place = (*user_place, "jobs", job_at)
-                yield Value((*job_place, "name"), job["name"], "job", scope=user_place)
-                for task_at, task in enumerate(job["tasks"]):
-                    yield from self._task((*job_place, "tasks", task_at), task)
+                if job["name"] in odd_jobs:
+                    yield Value((*job_place, "name"), job["name"], "job", scope=user_place)
+                yield from self._tasks((*job_place, "tasks"), job["tasks"])
+
+    def _tasks(self, place, listed) -> Iterator[Value]:
+        odd, reporters = self.odd["task"], self.plain["reporter"]
+        for at, task in enumerate(listed):
+            if (
+                task["name"] in odd
+                or task["reporter"] not in reporters
+                or ("weight" in task and not 1 <= task["weight"] <= MOST_WEIGHT)
+            ):
+                yield from self._task((*place, at), task)
 
     def _task(self, place, task) -> Iterator[Value]:
-        yield Value((*place, "name"), task["name"], "task", scope=("task",))
+        if task["name"] in self.odd["task"]:
+            yield Value((*place, "name"), task["name"], "task", scope=("task",))
         yield from self._name((*place, "reporter"), task["reporter"], "reporter")
         if "weight" in task:
             yield from self._number((*place, "weight"), task["weight"], 1, MOST_WEIGHT)
@@ -117,12 +163,6 @@ class Walk:
 
 def report_keys(report):
     return ("link", "capacity") if "link" in report else ("task", "demand")
-
-
-def thing_values(place, thing, kind):
-    yield Value((*place, "name"), thing["name"], kind, scope=(kind,))
-    for end in ("from", "to"):
-        yield Value((*place, end), thing[end], "site")
 
 
 def functions(raw):
@@ -161,29 +201,58 @@ def tasks(raw):
                 yield from job["tasks"]
 
 
+OF_4_BY_NAME = {
+    "groups": limits.OF_4.groups,
+    "hops": limits.OF_4.hops,
+    "reporters": limits.OF_4.reporters,
+    "script": limits.OF_4.reports,
+    "closings": limits.OF_4.closings,
+}
+
+
+def meant_by_more(walk: Walk, count: int, most_of_4: int) -> str | None:
+    """The version whose limits a document of too much was likely meant for."""
+    is_older = walk.raw["version"] in (1, 2, 3)
+    return f'"version":{limits.NEWEST}' if is_older and count <= most_of_4 else None
+
+
+def counts_of(raw) -> tuple[int, ...]:
+    """How many there are of what a version limits, in the order of `limits.Limits`."""
+    return (
+        len(raw["links"]),
+        len(raw["groups"]),
+        sum(1 for _ in tasks(raw)),
+        hops(raw),
+        len(raw["reporters"]),
+        len(raw["script"]),
+        len(raw.get("closings", ())),
+    )
+
+
 # ---- refusals 3 to 11: the faults of each number, in the order of the walk
 
 
-def limits(walk: Walk) -> Iterator[Fault]:
-    raw = walk.raw
+def counts(walk: Walk) -> Iterator[Fault]:
+    raw, most_of = walk.raw, walk.limits
     long = [found for found in functions(raw) if len(found[1]) > MOST_POINTS]
-    counts = [
-        ("groups", ("groups",), len(raw["groups"]), MOST_GROUPS),
+    found = [
+        ("groups", ("groups",), len(raw["groups"]), most_of.groups),
         *(("points", place, len(points), MOST_POINTS) for place, points in long),
-        ("hops", ("groups",), hops(raw), MOST_HOPS),
-        ("reporters", ("reporters",), len(raw["reporters"]), MOST_REPORTERS),
-        ("script", ("script",), len(raw["script"]), MOST_REPORTS),
-        ("closings", ("closings",), len(raw.get("closings", [])), MOST_LINKS),
+        ("hops", ("groups",), hops(raw), most_of.hops),
+        ("reporters", ("reporters",), len(raw["reporters"]), most_of.reporters),
+        ("script", ("script",), len(raw["script"]), most_of.reports),
+        ("closings", ("closings",), len(raw.get("closings", [])), most_of.closings),
     ]
     nouns = {
         "script": "reports",
         "hops": "links over all paths",
         "points": "points in one function",
     }
-    for what, place, count, most in counts:
+    for what, place, count, most in found:
         if count > most:
             sentence = f"{count:,} {nouns.get(what, what)} are more than {most:,}"
-            yield Fault(place, sentence).refused(f"3 limit {what} {count}")
+            meant = meant_by_more(walk, count, OF_4_BY_NAME.get(what, 0))
+            yield Fault(place, sentence, meant).refused(f"3 limit {what} {count}")
 
 
 def ranges(walk: Walk) -> Iterator[Fault]:
@@ -223,7 +292,8 @@ def unknown_names(walk: Walk) -> Iterator[Fault]:
         if found.scope is None and known is not None and found.value not in known:
             hinted += 1
             # To look for a near name among many takes long.
-            meant = hints.near(found.value, known) if hinted <= MOST_HINTS else None
+            most = MOST_HINTS if len(known) <= MANY else MOST_HINTS_AMONG_MANY
+            meant = hints.near(found.value, known) if hinted <= most else None
             sentence = f'there is no {found.kind} "{found.value}"'
             yield Fault(found.place, sentence, meant and f'"{meant}"').refused(
                 f"6 unknown name at {pointer(found.place)}"
@@ -261,9 +331,11 @@ def bad_point(points, top):
 
 def bad_topology(walk: Walk) -> Iterator[Fault]:
     raw = walk.raw
-    if len(raw["links"]) > MOST_LINKS:
-        sentence = f"{len(raw['links']):,} links are more than {MOST_LINKS:,}"
-        yield Fault(("links",), sentence).refused("8 topology cause 1 link 0")
+    count, most = len(raw["links"]), walk.limits.links
+    if count > most:
+        sentence = f"{count:,} links are more than {most:,}"
+        meant = meant_by_more(walk, count, limits.OF_4.links)
+        yield Fault(("links",), sentence, meant).refused("8 topology cause 1 link 0")
     for at, link in entries(raw, "links"):
         if link["from"] == link["to"]:
             sentence = f"link \"{link['name']}\" goes from {link['from']} to itself"
@@ -339,8 +411,10 @@ def bad_links(group, path, ends):
             sentence,
             link_from(ends[links[-1]][0], group["to"], site, ends),
         )
-    twice = [link for link, count in Counter(links).items() if count > 1]
-    return (7, ("links",), f'link "{twice[0]}" stands twice in a path', None) if twice else None
+    if len(set(links)) == len(links):
+        return None
+    twice = next(link for link, count in Counter(links).items() if count > 1)
+    return 7, ("links",), f'link "{twice}" stands twice in a path', None
 
 
 def link_from(site, target, other, ends):
@@ -359,10 +433,11 @@ def bad_tree(walk: Walk) -> Iterator[Fault]:
                 sentence = f'the list "{place[-1]}" is empty, and has to have at least one entry'
                 yield Fault(place, sentence).refused(f"10 tree cause 1 node {number}")
             number += 1
-    count = sum(1 for _ in tasks(walk.raw))
-    if count > MOST_TASKS:
-        sentence = f"{count:,} tasks are more than {MOST_TASKS:,}"
-        yield Fault(("groups",), sentence).refused("10 tree cause 2 node 0")
+    count, most = sum(1 for _ in tasks(walk.raw)), walk.limits.tasks
+    if count > most:
+        sentence = f"{count:,} tasks are more than {most:,}"
+        meant = meant_by_more(walk, count, limits.OF_4.tasks)
+        yield Fault(("groups",), sentence, meant).refused("10 tree cause 2 node 0")
 
 
 def nodes_of(at: int, group) -> Iterator[tuple[tuple, list]]:
@@ -396,7 +471,7 @@ def not_owners(walk: Walk) -> Iterator[Fault]:
 
 
 PASSES = (
-    limits,
+    counts,
     ranges,
     repeated_names,
     unknown_names,

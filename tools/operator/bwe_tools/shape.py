@@ -3,6 +3,7 @@
 from __future__ import annotations
 
 import json
+from collections.abc import Iterable, Iterator
 from functools import lru_cache
 
 import jsonschema
@@ -16,10 +17,10 @@ SCHEMA = page_file("bwe.schema.json")
 KINDS = {"integer": "a whole number", "string": "a text", "array": "a list", "object": "an object"}
 FUNCTION_KEYS = ("function", "task")
 NEWER = {
-    "owner": "versions 2 and 3",
-    "weight": "version 3",
-    "link": "versions 2 and 3",
-    "capacity": "versions 2 and 3",
+    "owner": "versions 2 to 4",
+    "weight": "versions 3 and 4",
+    "link": "versions 2 to 4",
+    "capacity": "versions 2 to 4",
 }
 
 
@@ -63,11 +64,13 @@ def point_place(place: tuple) -> tuple | None:
     return None
 
 
-def fault_of(error) -> Fault | None:
+def fault_of(error, at: int | None = None) -> Fault | None:
     """The fault of shape that an error of the schema is; None where it is of another rule, as a
-    range.
+    range. `at` is the number of the entry of a list of the root that was looked at alone.
     """
     place, value = tuple(error.absolute_path), error.instance
+    if at is not None:
+        place = (place[0], at, *place[2:])
     point = point_place(place)
     if point is not None and (
         error.validator == "type"
@@ -127,7 +130,7 @@ def missing_hint(key: str, value: dict, schema: dict) -> str | None:
     """The misspelt key that stands in place of a missing one."""
     known = schema["properties"]
     if key == "task" and ("link" in value or "capacity" in value):
-        return '"version":2, as reports of capacities are of versions 2 and 3 alone'
+        return '"version":2, as reports of capacities are of versions 2 to 4 alone'
     written = hints.near(key, [name for name in value if name not in known])
     return written and f'"{key}" for {json.dumps(written, ensure_ascii=False)}'
 
@@ -136,13 +139,43 @@ def faults(raw) -> list[Fault]:
     """The faults of shape in the order of the format's walk: the first is the one that bwe refuses
     the document for. Of one place there is one.
     """
-    return [] if sound.is_shaped(raw) else by_schema(raw)
+    if sound.is_shaped(raw):
+        return []
+    return in_order(by_parts(raw) if type(raw) is dict else found_in(raw))
 
 
 def by_schema(raw) -> list[Fault]:
-    """The same, without the short look that tells a sound document."""
-    found = [fault for fault in map(fault_of, validator().iter_errors(raw)) if fault is not None]
-    found.sort(key=lambda fault: walk_order(fault.place))
+    """The same, without the short looks that tell what is sound."""
+    return in_order(found_in(raw))
+
+
+def found_in(raw) -> Iterator[Fault]:
+    return (fault for fault in map(fault_of, validator().iter_errors(raw)) if fault is not None)
+
+
+def found_in_entry(root: dict, key: str, at: int, entry) -> Iterator[Fault]:
+    """The faults of an entry of a list of the root, which stands there alone."""
+    for error in validator().iter_errors({**root, key: [entry]}):
+        fault = fault_of(error, at) if [*error.absolute_path][:2] == [key, 0] else None
+        if fault is not None:
+            yield fault
+
+
+def by_parts(raw: dict) -> Iterator[Fault]:
+    """The faults of the root, and of each entry of its lists that has not its shape: the others,
+    a million maybe, cost no look of the schema's library.
+    """
+    root = {
+        key: [] if key in sound.LISTS and sound.is_list(value) else value
+        for key, value in raw.items()
+    }
+    yield from found_in(root)
+    for key, at in sound.unsound_entries(raw):
+        yield from found_in_entry(root, key, at, raw[key][at])
+
+
+def in_order(faults: Iterable[Fault]) -> list[Fault]:
+    found = sorted(faults, key=lambda fault: walk_order(fault.place))
     firsts = {fault.place: fault for fault in reversed(found)}
     return [
         fault.refused(f"2 shape at {pointer(fault.place)}") for fault in reversed(firsts.values())

@@ -6,7 +6,7 @@ Most documents are sound, and of one that is not most entries are.
 
 from __future__ import annotations
 
-from collections.abc import Iterable
+from collections.abc import Callable, Iterable
 from typing import Any
 
 LISTS = ("links", "groups", "reporters", "script", "closings")
@@ -44,6 +44,20 @@ def is_list(value: Any) -> bool:
     return type(value) is list
 
 
+def is_plain_task(task: Any) -> bool:
+    """A quick yes for a task without a weight, as most are: there may be a million."""
+    if type(task) is not dict or len(task) != 2:
+        return False
+    return type(task.get("name")) is type(task.get("reporter")) is str
+
+
+def is_plain_demand(report: Any) -> bool:
+    """A quick yes for a report of a demand."""
+    if type(report) is not dict or len(report) != 3 or type(report.get("demand")) is not int:
+        return False
+    return type(report.get("reporter")) is type(report.get("task")) is str
+
+
 def is_function(value: Any) -> bool:
     return is_list(value) and all(
         type(point) is list and len(point) == 2 and type(point[0]) is type(point[1]) is int
@@ -52,7 +66,7 @@ def is_function(value: Any) -> bool:
 
 
 class Shape:
-    """The shape of the objects of a version; of an unknown one it is that of version 3."""
+    """The shape of the objects of a version; of version 4 and an unknown one that of version 3."""
 
     def __init__(self, version: int) -> None:
         self.link_options = NONE if version == 1 else frozenset(("owner",))
@@ -102,7 +116,7 @@ class Shape:
             and is_function(job.get("function", []))
             and is_function(job["task"])
             and is_list(job["tasks"])
-            and all(map(self.task, job["tasks"]))
+            and all(is_plain_task(task) or self.task(task) for task in job["tasks"])
         )
 
     def task(self, task: Any) -> bool:
@@ -125,17 +139,16 @@ class Shape:
     def closing(closing: Any) -> bool:
         return has(closing, CLOSING) and are_texts(closing["link"]) and is_whole(closing["share"])
 
-    def entry(self, key: str, entry: Any) -> bool:
-        """Whether an entry of a list of the root has its shape."""
-        if key == "reporters":
-            return are_texts(entry)
-        checks = {
+    def check_of(self, key: str) -> Callable[[Any], bool]:
+        """What tells whether an entry of a list of the root has its shape."""
+        checks: dict[str, Callable[[Any], bool]] = {
             "links": self.link,
             "groups": self.group,
-            "script": self.report,
+            "reporters": are_texts,
+            "script": lambda report: is_plain_demand(report) or self.report(report),
             "closings": self.closing,
         }
-        return checks[key](entry)
+        return checks[key]
 
 
 def is_shaped(raw: Any) -> bool:
@@ -146,9 +159,19 @@ def is_shaped(raw: Any) -> bool:
         return False
     shape = Shape(raw["version"])
     return all(
-        is_list(raw.get(key, [])) and all(shape.entry(key, entry) for entry in raw.get(key, []))
+        is_list(raw.get(key, [])) and all(map(shape.check_of(key), raw.get(key, [])))
         for key in LISTS
     )
+
+
+def unsound_entries(raw: dict) -> Iterable[tuple[str, int]]:
+    """The key and number of each entry of a list of the root that has not its shape."""
+    shape = Shape(raw["version"] if is_whole(raw.get("version")) else 3)
+    for key in LISTS:
+        has_shape = shape.check_of(key)
+        for at, entry in enumerate(raw[key] if is_list(raw.get(key)) else ()):
+            if not has_shape(entry):
+                yield key, at
 
 
 def sound_part(raw: Any) -> tuple[dict, frozenset[str]]:
@@ -163,7 +186,8 @@ def sound_part(raw: Any) -> tuple[dict, frozenset[str]]:
     shape, left_out = Shape(version), []
     for key in LISTS:
         given = raw.get(key) if is_list(raw.get(key)) else []
-        part[key] = [entry if shape.entry(key, entry) else None for entry in given]
+        has_shape = shape.check_of(key)
+        part[key] = [entry if has_shape(entry) else None for entry in given]
         left_out += [entry for entry, kept in zip(given, part[key]) if kept is None]
         if not is_list(raw.get(key, [])):
             left_out.append(raw[key])

@@ -9,10 +9,11 @@ from dataclasses import dataclass
 from itertools import permutations
 from typing import Any
 
-from bwe_tools.document import ToolError
+from bwe_tools.document import ToolError, least_version
+from bwe_tools.limits import OF_4
 from bwe_tools.network import Namer, kilometres
 from bwe_tools.routes import Routes
-from bwe_tools.rules import MOST_PATHS, MOST_SHARE, MOST_TASKS, MOST_WEIGHT
+from bwe_tools.rules import MOST_PATHS, MOST_SHARE, MOST_WEIGHT
 from bwe_tools.toml_section import Section
 
 MEASURES = ("hops", "metric", "length")
@@ -87,14 +88,14 @@ class Written:
     def raw(self) -> dict:
         closings = {"closings": self.closings} if self.closings else {}
         owners = dict.fromkeys(link["owner"] for link in self.links if "owner" in link)
-        return {
-            "version": 3,
+        parts = {
             "top": self.top,
             "links": self.links,
             "groups": self.groups,
             "reporters": list(self.reporters | owners),
             "script": self.script + self.capacities,
         } | closings
+        return {"version": least_version(parts)} | parts
 
     # ---- links
 
@@ -241,7 +242,7 @@ class Written:
         reporter = section.name("reporter", self.defaults.reporter)
         listed = section.value("tasks", 1)
         if not isinstance(listed, list):
-            count = section.whole("tasks", 1, MOST_TASKS, 1)
+            count = section.whole("tasks", 1, OF_4.tasks, 1)
             for number in range(count):
                 text = prefix if count == 1 else f"{prefix}-{number}"
                 yield task_of(self.task_names.name(text), reporter, weight), demand

@@ -248,12 +248,12 @@ def test_demands_of_a_spreadsheet_go_with_a_graph(tmp_path):
 
 
 def test_more_pairs_than_groups_are_told_and_the_busiest_serve(tmp_path):
-    graph = networkx.cycle_graph(40)
+    graph = networkx.cycle_graph(257)
     graph.add_edge(0, 20, capacity="100G")
-    path = graphml(graph, tmp_path / "forty")
+    path = graphml(graph, tmp_path / "many")
     assert (
-        "40 sites have 1,560 pairs, more than a document's 1,024 groups; take some with"
-        " --busiest 32"
+        "257 sites have 65,792 pairs, more than a document's 65,536 groups; take some with"
+        " --busiest 256"
         in fails("from-graphml", path)
     )
     assert len(accepted("from-graphml", path, "--busiest", "3", "--paths", "1")["groups"]) == 6
@@ -574,16 +574,25 @@ def test_spreadsheets_that_are_at_fault_get_a_sentence(tmp_path, links, demands,
 
 
 def test_limits_of_a_document_are_told_in_a_sentence(tmp_path):
-    star = "from,to\n" + "".join(f"hub,s{at}\n" for at in range(2049))
     demands = written(tmp_path, "d", "from,to,demand\nhub,s0,1\n")
-    assert "4,098 links in both directions are more than a document's 4,096" in fails(
-        "from-csv", written(tmp_path, "l", star), demands
+    assert "65,538 links in both directions are more than a document's 65,536" in fails(
+        "from-csv", written(tmp_path, "l", star(32_769)), demands
     )
-    many = "from,to,demand\n" + "a,b,1\n" * 20_001
+
+
+def star(arms):
+    return "from,to\n" + "".join(f"hub,s{at}\n" for at in range(arms))
+
+
+def test_a_document_is_of_version_4_only_beyond_the_limits_of_version_3(tmp_path):
+    demands = written(tmp_path, "d", "from,to,demand\nhub,s0,1\n")
+    for arms, version in ((2_048, 3), (2_049, 4)):
+        links = written(tmp_path, "l", star(arms))
+        assert accepted("from-csv", links, demands)["version"] == version
     line = written(tmp_path, "l", "from,to\na,b\n")
-    assert "20,001 tasks are more than 20,000" in fails(
-        "from-csv", line, written(tmp_path, "d", many)
-    )
+    for tasks, version in ((20_000, 3), (20_001, 4)):
+        many = written(tmp_path, "d", "from,to,demand\n" + "a,b,1\n" * tasks)
+        assert accepted("from-csv", line, many)["version"] == version
 
 
 @pytest.mark.parametrize("seed", range(20))

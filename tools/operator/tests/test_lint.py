@@ -13,7 +13,7 @@ import sys
 import jsonschema
 import pytest
 
-from bwe_tools import document, hints, json_text, shape, sound
+from bwe_tools import document, hints, json_text, limits, shape, sound
 from bwe_tools.program import find_program
 from tool_runs import CASES, EXAMPLES, ROOT, needs_program, run
 
@@ -168,6 +168,7 @@ def test_changed_documents_are_judged_as_bwe_does(seed):
     else:
         assert wanted == "accepted"
     assert sound.is_shaped(value) == (not shape.by_schema(value))
+    assert shape.faults(value) == shape.by_schema(value)
 
 
 # ---- what was likely meant
@@ -223,7 +224,7 @@ DOCUMENT = """{"version":3,"top":1000,
             '"version":3',
             '"version":1',
             '"owner"',
-            'the key "owner" is of versions 2 and 3 alone; did you mean "version":2?',
+            'the key "owner" is of versions 2 to 4 alone; did you mean "version":2?',
         ),
         (
             '"reporter":"hosts","task"',
@@ -466,7 +467,7 @@ def test_what_is_no_json_is_refused_as_that(data, sentence):
 
 
 def test_a_document_that_is_too_long_gets_a_sentence():
-    data = b" " * (document.MOST_BYTES + 1)
+    data = b" " * (limits.BEFORE_4.size + 1)
     with pytest.raises(document.ToolError, match="longer than 67,108,864 bytes"):
         document.parse(data)
 

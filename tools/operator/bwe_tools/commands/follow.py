@@ -10,7 +10,7 @@ from pathlib import Path
 import click
 
 from bwe_tools.commands.metrics import metrics_of_table, metrics_text
-from bwe_tools.document import Document, ToolError, of_raw, to_raw
+from bwe_tools.document import Document, ToolError, of_raw, least_version, to_raw
 from bwe_tools.files import named, read_document
 from bwe_tools.holders import held_view
 from bwe_tools.live_answers import Answers, Standing
@@ -51,7 +51,8 @@ def keep(folder: Path, document: Document, standing: Standing, title: str, tasks
     if standing.reports is None:
         return
     # Only the last report of each task and link counts, so these stand for all.
-    raw = {**to_raw(document), "version": 3, "script": list(standing.reports)}
+    raw = {**to_raw(document), "script": list(standing.reports)}
+    raw["version"] = least_version(raw)
     current = of_raw(raw)
     table = standing.table.with_reports(len(standing.reports))
     values = values_at_top(json.dumps(raw).encode(), "the document with the reports of bwe-live")

@@ -4,7 +4,7 @@ from __future__ import annotations
 
 import click
 
-from bwe_tools.document import ToolError, dump, first_fault
+from bwe_tools.document import ToolError, first_fault, text_of
 from bwe_tools.toml_file import read_toml
 from bwe_tools.written import Written
 
@@ -45,4 +45,4 @@ def command(file: str) -> None:
     fault = first_fault(raw)
     if fault is not None:
         raise ToolError(f"{file}: {fault.sentence} (bwe: {fault.refusal})")
-    click.echo(dump(raw), nl=False)
+    click.echo(text_of(raw), nl=False)

@@ -4,12 +4,14 @@ from __future__ import annotations
 
 import sys
 from collections.abc import Iterator
+from typing import NoReturn
 
 import click
 
 from bwe_tools import advice, json_text
-from bwe_tools.document import MOST_BYTES, faults, of_raw, read_bytes
+from bwe_tools.document import faults, read_bytes
 from bwe_tools.fault import Fault
+from bwe_tools.limits import BEFORE_4, OF_4, limits_of, version_of
 from bwe_tools.stages import Stages
 
 MOST_OF_A_KIND = 5
@@ -39,19 +41,17 @@ def command(file, is_all):
 
     Example: bwe-tools lint examples/maintenance.json
     """
-    data = read_bytes(file)
-    progress = Stages(len(data))
-    if len(data) > MOST_BYTES:
-        sentence = f"longer than {MOST_BYTES:,} bytes"
-        tell(file, "", sentence, None, f"refused input longer than {MOST_BYTES} bytes")
-        sys.exit(2)
+    text, size = read_text(file)
+    progress = Stages(size)
     progress.stage("reading")
     try:
-        text, raw = json_text.parse(data)
+        raw = json_text.value_of(text)
     except json_text.NotJson as fault:
-        places = json_text.Places(data.decode("utf-8", "replace"))
-        tell(file, places.position(fault.offset), str(fault), None, "refused 1 not json")
-        sys.exit(2)
+        progress.end()
+        tell_not_json(file, text, size, fault)
+    if size > limits_of(version_of(raw)).size:
+        progress.end()
+        tell_too_long(file, BEFORE_4.size)
     progress.stage("looking for faults")
     found = faults(raw)
     first = next(found, None)
@@ -60,12 +60,38 @@ def command(file, is_all):
         tell_faults(file, json_text.Places(text), first, found, None if is_all else MOST_FAULTS)
         sys.exit(2)
     progress.stage("looking for what was likely not meant")
-    kinds = advice.warnings(of_raw(raw))
+    kinds = advice.warnings(raw)
     progress.end()
     places = json_text.Places(text) if any(kinds) else None
     for warnings in kinds:
         tell_warnings(file, places, warnings, len(warnings) if is_all else MOST_OF_A_KIND)
     sys.exit(1 if any(kinds) else 0)
+
+
+def read_text(file: str) -> tuple[str, int]:
+    """The text of a file and its bytes, of which none is kept: a text takes as much again."""
+    data = read_bytes(file)
+    if len(data) > OF_4.size:
+        tell_too_long(file, OF_4.size)
+    try:
+        return json_text.decoded(data), len(data)
+    except json_text.NotJson as fault:
+        tell_not_json(file, data.decode("utf-8", "replace"), len(data), fault)
+
+
+def tell_not_json(file: str, text: str, size: int, fault: json_text.NotJson) -> NoReturn:
+    if size > BEFORE_4.size:
+        tell_too_long(file, BEFORE_4.size)
+    places = json_text.Places(text)
+    tell(file, places.position(fault.offset), str(fault), None, "refused 1 not json")
+    sys.exit(2)
+
+
+def tell_too_long(file: str, most: int) -> NoReturn:
+    sentence = f"longer than {most:,} bytes"
+    meant = '"version":4, of which a document may be longer' if most == BEFORE_4.size else None
+    tell(file, "", sentence, meant, f"refused input longer than {most} bytes")
+    sys.exit(2)
 
 
 def tell_faults(file, places, first: Fault, others: Iterator[Fault], most: int | None) -> None:

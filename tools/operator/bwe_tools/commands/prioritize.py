@@ -6,7 +6,7 @@ from typing import Any
 
 import click
 
-from bwe_tools.document import ToolError, dump, first_fault, read_bytes, to_raw
+from bwe_tools.document import ToolError, first_fault, read_bytes, text_of, to_raw
 from bwe_tools.files import named, read_document
 from bwe_tools.rules import MOST_SHARE
 
@@ -42,7 +42,7 @@ def command(document: str, tiers: str) -> None:
         raise ToolError(
             f"{named(document)} with its tiers: {fault.sentence} (bwe: {fault.refusal})"
         )
-    click.echo(dump(raw), nl=False)
+    click.echo(text_of(raw), nl=False)
 
 
 def digits_of(text: bytes, groups: int, name: str) -> list[int]:
