@@ -1,6 +1,6 @@
 #!/usr/bin/python3
-"""tools/check/cases.py [PROGRAM [CASE..]]: runs end-to-end cases on the built programs, side by
-side on all processors.
+"""tools/check/cases.py [--long] [PROGRAM [CASE..]]: runs end-to-end cases on the built programs,
+side by side on all processors.
 
 Where PROGRAM is left out these are the built `bwe`, `bwe_solve`, `bwe_live` and `bwe_protocol`. A
 program with `live` in its name runs the cases of cases/live, one with `protocol` those of
@@ -22,6 +22,9 @@ for `bwe_solve` the examples of that command, and for `bwe_live`:
 - followed: made conversations, in which each table that is kept by changes has to be the one that
   `bwe solve` writes (tools/check/follow.py).
 
+A case with a file `long`, which says in a sentence why, is left out unless it is named; `--long`
+runs these alone, one after the other.
+
 A line for each kind says how many passed, and the last line how many in all; the status is 0
 where all did.
 """
@@ -32,6 +35,7 @@ import subprocess
 import sys
 import tempfile
 from concurrent.futures import ThreadPoolExecutor
+from contextlib import contextmanager
 from pathlib import Path
 
 import compare
@@ -39,7 +43,8 @@ import conversations
 import follow
 import runs
 
-TOP = Path(__file__).resolve().parents[2]
+HERE = Path(__file__).resolve().parent
+TOP = HERE.parents[1]
 CASES, EXAMPLES = TOP / "cases", TOP / "examples"
 BWE, SOLVE, LIVE, PROTOCOL = (
     TOP / f"crates/{name}/out/{name}" for name in ("bwe", "bwe_solve", "bwe_live", "bwe_protocol")
@@ -54,12 +59,28 @@ LINES_OF_PARTS = {".tiers": ["tiers"], ".samples": ["estimate", "2", "110"], ".e
 
 def stream(folder, name):
     """A file of the case, or what its script NAME.py writes."""
+    with opened(folder, name) as source:
+        return source.read()
+
+
+@contextmanager
+def opened(folder, name):
+    """A file of the case, or the pipe from its script NAME.py: nothing long is held here. Where a
+    program reads no more of it, the script is ended.
+    """
     script = folder / f"{name}.py"
-    if script.exists():
-        return subprocess.run(
-            ["/usr/bin/python3", script], stdout=subprocess.PIPE, check=True
-        ).stdout
-    return (folder / name).read_bytes()
+    if not script.exists():
+        with (folder / name).open("rb") as source:
+            yield source
+        return
+    line, settings = ["/usr/bin/python3", script], {**os.environ, "PYTHONPATH": str(HERE)}
+    with tempfile.TemporaryFile() as told:
+        with subprocess.Popen(line, stdout=subprocess.PIPE, stderr=told, env=settings) as writer:
+            yield writer.stdout
+        told.seek(0)
+        said = told.read()
+        if writer.returncode and b"BrokenPipeError" not in said:
+            raise RuntimeError(f"{script} ended with {writer.returncode}: {said[-400:]!r}")
 
 
 def fault_of_folder(program, folder):
@@ -73,12 +94,13 @@ def fault_of_folder(program, folder):
 
 def fault_of_case(program, folder):
     words = (folder / "args").read_bytes().splitlines()
-    ran = subprocess.run(
-        [program, *words_for(program, words)],
-        input=stream(folder, "stdin"),
-        capture_output=True,
-        timeout=SECONDS,
-    )
+    with opened(folder, "stdin") as source:
+        ran = subprocess.run(
+            [program, *words_for(program, words)],
+            stdin=source,
+            capture_output=True,
+            timeout=SECONDS,
+        )
     status, wanted = int((folder / "status").read_text()), stream(folder, "stdout")
     if ran.returncode != status:
         return f"status {ran.returncode}, wanted {status}"
@@ -158,8 +180,8 @@ def told(kind, results):
     return len(results) - len(faults), len(faults)
 
 
-def side_by_side(fault_of, program, items, name_of):
-    with ThreadPoolExecutor(os.cpu_count()) as pool:
+def side_by_side(fault_of, program, items, name_of, at_once=None):
+    with ThreadPoolExecutor(at_once or os.cpu_count()) as pool:
         faults = pool.map(lambda item: fault_of(program, item), items)
         return [(name_of(item), fault) for item, fault in zip(items, faults)]
 
@@ -174,8 +196,14 @@ def copied(built, room):
 
 
 def folders_for(built):
-    """The folders of cases that are for this program."""
-    return [folder for folder in folders_of_cases(CASES) if is_for(built, folder)]
+    """The folders of cases that are for this program, without the long ones."""
+    folders = [folder for folder in folders_of_cases(CASES) if is_for(built, folder)]
+    return [folder for folder in folders if not is_long(folder)]
+
+
+def is_long(folder):
+    """Whether a case takes too long to be run each time."""
+    return (folder / "long").exists()
 
 
 def folders_of_cases(below):
@@ -191,11 +219,23 @@ def is_for(built, folder):
     return kind == (first if first in ("live", "protocol") else "cases")
 
 
+def counts_of_long(built, room):
+    """How many of the long cases for a program passed and failed."""
+    folders = [it for it in folders_of_cases(CASES) if is_long(it) and is_for(built, it)]
+    program = copied(built, room)
+    found = side_by_side(fault_of_folder, program, folders, name_of, at_once=1)
+    yield told(f"{kind_of(built)}, long", found)
+
+
+def name_of(folder):
+    return str(folder.relative_to(CASES))
+
+
 def counts_of(built, named, room):
     """How many passed and failed of each kind, for a program."""
     program = copied(built, room)
     folders = named or folders_for(built)
-    found = side_by_side(fault_of_folder, program, folders, lambda it: str(it.relative_to(CASES)))
+    found = side_by_side(fault_of_folder, program, folders, name_of)
     kind = kind_of(built)
     yield told(kind, found)
     if named or kind == "protocol":
@@ -224,6 +264,8 @@ def main(words):
     if words[:1] == ["--help"]:
         print(__doc__)
         return 0
+    only_long = words[:1] == ["--long"]
+    words = words[only_long:]
     programs = [Path(words[0])] if words else [BWE, SOLVE, LIVE, PROTOCOL]
     named = [folder for name in words[1:] for folder in folders_of_cases(CASES / name)]
     if not named and words[1:]:
@@ -233,7 +275,7 @@ def main(words):
         for built in programs:
             if not built.is_file():
                 sys.exit(f"cases: no program at {built}")
-            counts += counts_of(built, named, room)
+            counts += counts_of_long(built, room) if only_long else counts_of(built, named, room)
     passed, failed = map(sum, zip(*counts))
     print(f"{passed} passed, {failed} failed")
     return 1 if failed else 0

@@ -24,8 +24,10 @@ import compare
 # Beside this file stands what the rules of a document are read from.
 sys.path.append(str(Path(__file__).resolve().parents[1] / "operator"))
 
-MOST_BYTES, MOST_IN_A_LINE, MOST = 67_108_864, 255, 1_000_000_000_000
+MOST_IN_A_LINE, MOST, PIECE = 255, 1_000_000_000_000, 1 << 20
+MOST_BYTES, MOST_OF_4 = 67_108_864, 1_073_741_824  # of a document before version 4, and of it
 TOO_LONG = b"refused input longer than 67108864 bytes\n"
+FAR_TOO_LONG = b"refused input longer than 1073741824 bytes\n"
 NO_PARTS = b"refused 14 parts\n"
 REPORT = re.compile(r"(demand|capacity) ([^ ]+) ([^ ]+) ([0-9]{1,20})")
 
@@ -238,12 +240,22 @@ def refusal_of(data):
     return fault and fault.refusal
 
 
+def is_of_4(data):
+    """Whether bytes are an object of JSON whose version is the whole number 4."""
+    from bwe_tools import json_text, limits
+
+    try:
+        return limits.is_4(limits.version_of(json_text.parse(data)[1]))
+    except json_text.NotJson:
+        return False
+
+
 def lines_from(source):
     """The lines of a source, each as soon as it ends; of one that is too long its first piece."""
     while line := source.readline(MOST_IN_A_LINE + 2):
         rest = line
         while rest and not rest.endswith(b"\n"):
-            rest = source.readline(MOST_BYTES // 64)
+            rest = source.readline(PIECE)
         yield line
 
 
@@ -251,11 +263,15 @@ def serve(source, sink):
     """Answers what comes from the source until it ends; the exit status."""
     front = re.fullmatch(rb"([0-9]{1,20})\n", source.readline(21))
     length = int(front.group(1)) if front else 0
-    if length > MOST_BYTES:
-        sink.write(TOO_LONG)
+    if length > MOST_OF_4:
+        sink.write(FAR_TOO_LONG)
         return 8
     document = source.read(length)
-    if not front or len(document) < length:
+    is_whole = front and len(document) == length
+    if length > MOST_BYTES and not (is_whole and is_of_4(document)):
+        sink.write(TOO_LONG)
+        return 8
+    if not is_whole:
         sink.write(NO_PARTS)
         return 3
     refusal = refusal_of(document)

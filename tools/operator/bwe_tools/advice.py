@@ -72,8 +72,10 @@ def path_groups(raw: Raw):
             )
             yield Advice(place, sentence)
         for number, paths in enumerate(group["paths"]):
+            if len(paths) == 1:
+                continue
             alone = [any(other <= set(path["links"]) for other in links) for path in paths]
-            if len(paths) > 1 and not all(alone):
+            if not all(alone):
                 sentence = (
                     f'path group {number} of group "{group["name"]}" falls whole with any of its'
                     f" links, and its path {alone.index(False)} is no path group by itself"
@@ -86,7 +88,9 @@ def uneven_paths(raw: Raw):
     capacities = {link["name"]: link["capacity"] for link in raw["links"]}
     for at, group in enumerate(raw["groups"]):
         for number, paths in enumerate(group["paths"]):
-            is_even = len(paths) > 1 and len({path["weight"] for path in paths}) == 1
+            if len(paths) == 1:
+                continue
+            is_even = len({path["weight"] for path in paths}) == 1
             lengths = {len(path["links"]) for path in paths}
             narrowest = {min(capacities[link] for link in path["links"]) for path in paths}
             if is_even and (len(lengths) > 1 or len(narrowest) > 1):

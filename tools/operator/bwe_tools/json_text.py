@@ -110,8 +110,8 @@ def value_of(text: str):
 
 
 class OneOfEach:
-    """Keeps of each name of a reporter and a task one text, however often it stands: of a long
-    document that is a sixth of all that its value takes.
+    """Keeps of each name of a link of a path, a reporter and a task one text, however often it
+    stands: of a long document they are a third of all that its value takes, and may be most.
     """
 
     def __init__(self) -> None:
@@ -121,7 +121,18 @@ class OneOfEach:
         if "reporter" in found:
             self.put_key(found, "reporter")
             self.put_key(found, "task" if "task" in found else "name")
+        elif "weight" in found:
+            self.put_links(found)
         return found
+
+    def put_links(self, found: dict) -> None:
+        links = found.get("links")
+        try:
+            "".join(links)
+        except TypeError:  # other than texts
+            return
+        if type(links) is list:
+            found["links"] = list(map(self.known.setdefault, links, links))
 
     def put_key(self, found: dict, key: str) -> None:
         text = found.get(key)

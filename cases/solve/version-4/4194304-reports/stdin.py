@@ -1,0 +1,5 @@
+#!/usr/bin/python3
+"""4,194,304 reports of one task: 164 MB."""
+from large import REPORT, document, one_group, repeated, write
+
+write(document(groups=one_group(), script=repeated(REPORT, 4194304)))

@@ -1,0 +1,6 @@
+#!/usr/bin/python3
+"""1,025 groups, and of two versions the last is 3."""
+from large import document, groups, write
+
+members = document(groups=groups(1025), version=None)[1:-1]
+write(b'{"version":4,' + members + b',"version":3}')

@@ -1,0 +1,5 @@
+#!/usr/bin/python3
+"""A document of version 5 with spaces behind it up to 67,108,865 bytes."""
+from large import AFTER_1, document, write
+
+write(document(version=b"5"), length=AFTER_1 + 1)
