@@ -13,6 +13,7 @@ these follow, for `bwe`:
 
 - examples: each text of examples/ is what the program writes;
 - documents: made documents get the answers of a second implementation (tools/check/compare.py);
+- hard networks: on networks whose links all close too (tools/check/hard.py);
 - runs: made documents are run on threads, and each printed run is checked (tools/check/runs.py);
 - summaries: `bulk` ends with the total of the table that `solve` writes of the made document;
 
@@ -20,7 +21,8 @@ for `bwe_solve` the examples of that command, and for `bwe_live`:
 
 - examples: the conversations of examples/live/ are held;
 - followed: made conversations, in which each table that is kept by changes has to be the one that
-  `bwe solve` writes (tools/check/follow.py).
+  `bwe solve` writes (tools/check/follow.py);
+- posts: the same of 300 posts of documents of version 4 with 1,000 groups.
 
 A case with a file `long`, which says in a sentence why, is left out unless it is named; `--long`
 runs these alone, one after the other.
@@ -41,6 +43,7 @@ from pathlib import Path
 import compare
 import conversations
 import follow
+import hard
 import runs
 
 HERE = Path(__file__).resolve().parent
@@ -49,7 +52,7 @@ CASES, EXAMPLES = TOP / "cases", TOP / "examples"
 BWE, SOLVE, LIVE, PROTOCOL = (
     TOP / f"crates/{name}/out/{name}" for name in ("bwe", "bwe_solve", "bwe_live", "bwe_protocol")
 )
-DOCUMENTS, RUNS, FOLLOWED = 200, 3, 40
+DOCUMENTS, HARD, RUNS, FOLLOWED, POSTS = 200, 40, 3, 40, 300
 SUMMED = ["1", "200", "4000"]
 SECONDS = 120
 
@@ -245,12 +248,14 @@ def counts_of(built, named, room):
         found = side_by_side(conversations.fault_of, program, talks, lambda it: it.name)
         yield told("examples", found)
         yield told("followed", follow.results(program, solver(room), FOLLOWED))
+        yield told("posts", follow.results_of_posts(program, solver(room), POSTS))
         return
     texts = [it for it in examples() if kind == "cases" or it[1] == ["solve"]]
     yield told("examples", side_by_side(fault_of_example, program, texts, lambda it: it[0].name))
     if kind == "solve":
         return
     yield told("documents", compare.results(program, DOCUMENTS))
+    yield told("hard networks", hard.results(program, HARD))
     yield told("runs", runs.results(program, RUNS))
     yield told("summaries", [(" ".join(SUMMED), fault_of_summary(program, SUMMED))])
 

@@ -11,6 +11,8 @@ script of the same document, have to give that table too. They are held side by 
 processors; the last line says how many agreed, and the status is 0 where all did.
 
     follow.py 2000           2,000 conversations
+    follow.py --posts [N]    N posts, 10,000 where it is left out, of documents of version 4 with
+                             1,000 groups, each behind changed demands and capacities
     follow.py --long [N]     N reports, 1,000,000 where it is left out, with a post each 1,000,
                              on a document of 1,024 groups and 20,000 tasks: the peak of
                              memory beside that of the document alone, and the time of a post
@@ -43,6 +45,7 @@ BWE = os.environ.get("BWE", TOP / "crates/bwe/out/bwe")
 BWE_LIVE = os.environ.get("BWE_LIVE", TOP / "crates/bwe_live/out/bwe_live")
 MOST_LINES, SECONDS = 60, 120
 SIZE, BETWEEN_POSTS, TIMED = ["1", "1024", "20000"], 1_000, 21
+POSTS, MOST_POSTS = 10_000, 250  # all, and those of one conversation
 
 
 # ---- documents and lines by chance
@@ -167,12 +170,16 @@ def need_snapshot(program, known):
 
 def hold_all(program, solver, chance):
     document = make_document(chance, solver)
+    hold_lines(program, solver, document, make_lines(chance, document))
+
+
+def hold_lines(program, solver, document, lines):
     known = live.Live(document, partial(solved, solver))
     given, kept = text_of(document), known.table
     with Talk(program) as talk:
         talk.send(b"%d\n%s" % (len(given), given))
         talk.expect(kept.encode())
-        for line in make_lines(chance, document):
+        for line in lines:
             change = hold(talk, known, line)
             if change is not None:
                 kept = live.with_change(kept, change)
@@ -194,6 +201,41 @@ def result(program, solver, seed, number):
 def results(program, solver, count, seed=1):
     with ProcessPoolExecutor() as pool:
         return list(pool.map(partial(result, program, solver, seed), range(count), chunksize=2))
+
+
+# ---- many posts of a large document
+
+
+def make_posts(chance, document, count):
+    """So many posts, each behind a few reports of demands and capacities, and at times many."""
+    tasks = live.tasks_of(document)
+    for _ in range(count):
+        for _ in range(chance.choice([1, 1, 2, 5, 30, 400])):
+            yield make_report(chance, document, tasks)
+        yield "post"
+
+
+def result_of_posts(program, solver, count, seed):
+    """What is wrong with so many posts of a document of version 4 with 1,000 groups, or None."""
+    chance = random.Random(f"posts {seed}")
+    made = bench.document(seed, groups=1_000, tasks=4_000, links=600, path_groups=3)
+    document = dict(with_owners(chance, made), version=4)
+    name = f"{count} posts of seed {seed}"
+    try:
+        hold_lines(program, solver, document, make_posts(chance, document, count))
+    except (Fault, live.Fault) as fault:
+        return name, str(fault)
+    return name, None
+
+
+def results_of_posts(program, solver, count):
+    """So many posts in conversations side by side: each has to be the change to the table that is
+    made from nothing.
+    """
+    each = max(1, min(MOST_POSTS, count // (os.cpu_count() or 1)))
+    with ProcessPoolExecutor() as pool:
+        job = partial(result_of_posts, program, solver, each)
+        return list(pool.map(job, range(1, -(-count // each) + 1)))
 
 
 # ---- a long run
@@ -262,11 +304,19 @@ def main(words):
     if words[:1] == ["--long"]:
         long_run(int(words[1]) if len(words) > 1 else 1_000_000)
         return 0
+    if words[:1] == ["--posts"]:
+        count = int(words[1]) if len(words) > 1 else POSTS
+        return told("posts", results_of_posts(BWE_LIVE, BWE, count))
     count, seed = (int(words[0]) if words else 200), (int(words[1]) if len(words) > 1 else 1)
-    faults = [(name, fault) for name, fault in results(BWE_LIVE, BWE, count, seed) if fault]
+    return told("followed", results(BWE_LIVE, BWE, count, seed))
+
+
+def told(kind, found):
+    """Prints the faults, and how many passed and failed; the status."""
+    faults = [(name, fault) for name, fault in found if fault]
     for name, fault in faults:
         print(f"{name}: {fault}")
-    print(f"followed: {count - len(faults)} passed, {len(faults)} failed")
+    print(f"{kind}: {len(found) - len(faults)} passed, {len(faults)} failed")
     return 1 if faults else 0
 
 
