@@ -2,7 +2,9 @@
 """tools/bench/bench.py [PROGRAM [WORD]]: times a built program on made workloads, those whose names
 have WORD.
 
-PROGRAM is crates/bwe/out/bwe where it is left out. A workload is a line and its input, made anew
+PROGRAM is crates/bwe/out/bwe where it is left out. A WORD that begins with v4, as `v4` and `v4 hub`,
+takes the workloads of version 4 instead, up to a million tasks; `tools/bench/sizes.py` draws how
+their times grow. A workload is a line and its input, made anew
 from a fixed seed. Each is run a few times, by `hyperfine` where that is installed. A row: the
 workload, bytes of input, least and median seconds.
 """
@@ -17,6 +19,8 @@ import sys
 import tempfile
 import time
 from pathlib import Path
+
+import wide
 
 TOP = Path(__file__).resolve().parents[2]
 RUNS = 5
@@ -160,6 +164,30 @@ def workloads(program):
     yield "bulk: the same", ["bulk", "1", "1024", "20000"], b""
 
 
+def large_workloads(program):
+    """Those of version 4, on the networks of tools/bench/wide.py."""
+    yield "v4 solve: 33 sites, 20,000 tasks", ["solve"], b"".join(wide.wan(1, 33, 20_000))
+    middle = b"".join(wide.wan(1, 100, 200_000))
+    yield "v4 solve: 100 sites, 200,000 tasks", ["solve"], middle
+    closings = closings_of(written(program, ["solve"], middle))
+    listed = text({**json.loads(middle), "closings": closings})
+    yield "v4 check: its closings", ["check"], listed
+    yield "v4 levels: the same", ["levels", "500000"], middle
+    yield "v4 tiers: the same in four tiers", ["tiers"], parts(middle, b"0123" * 2_475 + b"\n")
+    trunks = {"trunks": 16, "load": 300}
+    yield "v4 solve: 100 sites, 9,000 links", ["solve"], b"".join(
+        wide.wan(2, 100, 100_000, **trunks)
+    )
+    yield "v4 solve: 256 sites, 1,048,576 tasks", ["solve"], b"".join(wide.wan(1, 256, 1_048_576))
+    yield "v4 solve: 256 sites, 38,000 links", ["solve"], b"".join(
+        wide.wan(2, 256, 300_000, trunks=26, load=300)
+    )
+    for kind in wide.KINDS:
+        links = 65_536 - (kind == "shed")
+        made = wide.text(wide.hard(kind, 1, links, 131_072))
+        yield f"v4 solve: {kind}, {links:,} links", ["solve"], made
+
+
 # Times.
 
 
@@ -199,7 +227,8 @@ def main(words):
     wanted = words[1] if len(words) > 1 else ""
     print("| workload | bytes | least s | median s |\n|---|---:|---:|---:|")
     with tempfile.TemporaryDirectory() as room:
-        for name, line, given in workloads(program):
+        made = large_workloads if wanted.startswith("v4") else workloads
+        for name, line, given in made(program):
             if wanted not in name:
                 continue
             file = Path(room, "input")
