@@ -32,6 +32,22 @@ module _ {V A : Type 0} (view_of : V → A) (test : A → Bool) where
   pub any_none : (vs : List V) (i : ℕ) → length vs ≤ i → list_any test (map view_of (drop i vs)) ≡ list_any test (map view_of vs) → false ≡ list_any test (map view_of vs)
   any_none vs i past before = sym (ap (λ rest. list_any test (map view_of rest)) (drop_all i vs past)) ∙ before
 
+pub user_bare : (user : raw.User) → (length user.jobs == 0) ≡ true → user_has_childless user ≡ true
+unfolding user_has_childless
+user_bare user none = ap (λ b. b || list_any job_is_childless user.jobs) none
+
+pub user_full : (user : raw.User) → (length user.jobs == 0) ≡ false → user_has_childless user ≡ list_any job_is_childless user.jobs
+unfolding user_has_childless
+user_full user some = ap (λ b. b || list_any job_is_childless user.jobs) some
+
+pub group_bare : (group : raw.Group) → (length group.users == 0) ≡ true → group_has_childless group ≡ true
+unfolding group_has_childless
+group_bare group none = ap (λ b. b || list_any user_has_childless group.users) none
+
+pub group_full : (group : raw.Group) → (length group.users == 0) ≡ false → group_has_childless group ≡ list_any user_has_childless group.users
+unfolding group_has_childless
+group_full group some = ap (λ b. b || list_any user_has_childless group.users) some
+
 -- ---- the nodes of the tree
 
 module _ {X Y Z : Type 0} (tasks : X → ℕ) (item : ℕ → X → Y) (nodes : Y → List Z) (test : Z → Bool) (has : X → Bool) (same : (first : ℕ) (x : X) → list_any test (nodes (item first x)) ≡ has x) where
@@ -102,17 +118,18 @@ any-walk top groups =
 
 first-none : {A : Type 0} (test : A → Bool) (first : ℕ) (items : List A) → list_any test items ≡ false → position_from test first items ≡ None
 first-none test first [] e = refl
-first-none test first (item ∷ items) e = go (test item) refl where
-  go : (found : Bool) → test item ≡ found → cond found (Some first) (position_from test (first + 1) items) ≡ None
-  go true is = absurd (let wrong : true ≡ false = ap (λ b. b || list_any test items) (sym is) ∙ e in cc)
-  go false is = first-none test (first + 1) items (ap (λ b. b || list_any test items) (sym is) ∙ e)
+first-none test first (item ∷ items) e = go (test item) refl (first-none test (first + 1) items) where
+  go : (found : Bool) → test item ≡ found → (list_any test items ≡ false → position_from test (first + 1) items ≡ None) → cond found (Some first) (position_from test (first + 1) items) ≡ None
+  go true is later = absurd (let wrong : true ≡ false = ap (λ b. b || list_any test items) (sym is) ∙ e in cc)
+  go false is later = later (ap (λ b. b || list_any test items) (sym is) ∙ e)
 
 none-first : {A : Type 0} (test : A → Bool) (first : ℕ) (items : List A) → position_from test first items ≡ None → list_any test items ≡ false
 none-first test first [] e = refl
-none-first test first (item ∷ items) e = go (test item) refl e where
-  go : (found : Bool) → test item ≡ found → cond found (Some first) (position_from test (first + 1) items) ≡ None → (test item || list_any test items) ≡ false
-  go true is none = absurd (cc)
-  go false is none = ap (λ b. b || list_any test items) is ∙ none-first test (first + 1) items none
+none-first test first (item ∷ items) e = go (test item) refl e (none-first test (first + 1) items) where
+  go : (found : Bool) → test item ≡ found → cond found (Some first) (position_from test (first + 1) items) ≡ None → (position_from test (first + 1) items ≡ None → list_any test items ≡ false)
+      → (test item || list_any test items) ≡ false
+  go true is none later = absurd (cc)
+  go false is none later = ap (λ b. b || list_any test items) is ∙ later none
 
 pub no_childless : (top : ℕ) (groups : List raw.Group) → has_childless groups ≡ false → position is_childless (walk (numbered_clusters (map (cluster_part top) groups))) ≡ None
 no_childless top groups none =

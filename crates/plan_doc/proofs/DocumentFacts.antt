@@ -4,7 +4,6 @@ use Rattle.std.specs.Prelude.{All, IfSome, ⊤}
 use Rattle.std.proofs.lemmas.List.{length-map, length-replicate}
 use Rattle.std.proofs.lemmas.List.Elements.{All-same}
 use Rattle.wan_topology.specs.Network.{Network, network_of}
-use Rattle.wan_topology.specs.Faults.{topology_fault}
 use Rattle.path_groups.specs.Given.{Group, path_groups_of}
 use Rattle.path_groups.specs.Plan.{IsBuiltOn}
 use Rattle.path_groups.specs.Faults.{plan_fault}
@@ -15,7 +14,6 @@ use Rattle.policy_tree.specs.Asked.{idle_cluster}
 use Rattle.policy_tree.specs.Numbering.{numbered_cluster, numbered_clusters}
 use Rattle.policy_tree.specs.Trees.{Tree, task_numbers}
 use Rattle.policy_tree.specs.Childless.{idle_tree}
-use Rattle.policy_tree.specs.Walk.{tree_fault}
 use Rattle.doc_names.specs.declared.Names.{Names}
 use Rattle.raw_document.specs.Raw as raw
 use Rattle.doc_passes.specs.declared.numbers.DocumentNumbers.{DocumentNumbers}
@@ -32,7 +30,7 @@ use Rattle.plan_doc.specs.TreeParts.{cluster_part}
 use Rattle.owner_rule.specs.Owners.{not_owned}
 use Rattle.plan_doc.specs.Refusals.{Refusal, refused_function, refused_links, refused_paths, refused_tree, not_owner}
 use Rattle.plan_doc.specs.Document as documents
-use Rattle.plan_doc.specs.Document.{Accepted, accepted, unless, links_of, clusters_of, document_by, over_ok, parts_ok}
+use Rattle.plan_doc.specs.Document.{Accepted, accepted, unless, links_of, clusters_of, network_fault, policy_fault, document_by, over_ok, parts_ok}
 use Rattle.plan_doc.specs.Accepted.{tree_of, IsDocumentOf}
 use Rattle.doc_passes.specs.Passed.{HasOwnerBelow, IsReport, IsClosing, AreNamesOf, AreNumbersOf, HasPassed}
 use Rattle.plan_doc.specs.Conditions.{link_count, tasks_in, reporter_count, IsByOwner, IsUsable}
@@ -72,23 +70,23 @@ module _ (raw : raw.Raw) (names : NameTexts) (numbers : Numbers) where
   after_tree = documents.◌>>=◌ (unless not_owner (not_owned numbers.task_owners numbers.link_owners 0 numbers.script)) (λ _. Ok (accepted raw names numbers))
 
   abbrev after_paths : Result Accepted Refusal
-  after_paths = documents.◌>>=◌ (unless refused_tree (tree_fault (clusters_of raw))) (λ _. after_tree)
+  after_paths = documents.◌>>=◌ (unless refused_tree (policy_fault raw)) (λ _. after_tree)
 
   abbrev after_links : Result Accepted Refusal
   after_links = documents.◌>>=◌ (unless refused_paths (plan_fault (network_of (links_of raw)) numbers.groups)) (λ _. after_paths)
 
   abbrev after_functions : Result Accepted Refusal
-  after_functions = documents.◌>>=◌ (unless refused_links (topology_fault (links_of raw))) (λ _. after_links)
+  after_functions = documents.◌>>=◌ (unless refused_links (network_fault raw)) (λ _. after_links)
 
-  pub document_is : (network : Network) → refused_in_groups raw.top raw.groups ≡ None → topology_fault (links_of raw) ≡ None → network ≡ network_of (links_of raw) → plan_fault network numbers.groups ≡ None → tree_fault (clusters_of raw) ≡ None
+  pub document_is : (network : Network) → refused_in_groups raw.top raw.groups ≡ None → network_fault raw ≡ None → network ≡ network_of (links_of raw) → plan_fault network numbers.groups ≡ None → policy_fault raw ≡ None
       → not_owned numbers.task_owners numbers.link_owners 0 numbers.script ≡ None → document_by raw names numbers ≡ Ok (accepted raw names numbers)
   unfolding document_by
   document_is network functions links topology paths tree owners =
       let ok : Result Accepted Refusal = Ok (accepted raw names numbers) in
       let owned : after_tree ≡ Ok (accepted raw names numbers) = then not_owner (not_owned numbers.task_owners numbers.link_owners 0 numbers.script) (λ _. Ok (accepted raw names numbers)) (Ok (accepted raw names numbers)) owners refl in
-      let built : after_paths ≡ Ok (accepted raw names numbers) = then refused_tree (tree_fault (clusters_of raw)) (λ _. after_tree) (Ok (accepted raw names numbers)) tree owned in
+      let built : after_paths ≡ Ok (accepted raw names numbers) = then refused_tree (policy_fault raw) (λ _. after_tree) (Ok (accepted raw names numbers)) tree owned in
       let planned : after_links ≡ Ok (accepted raw names numbers) = then refused_paths (plan_fault (network_of (links_of raw)) numbers.groups) (λ _. after_paths) (Ok (accepted raw names numbers)) (ap (λ n. plan_fault n numbers.groups) (sym topology) ∙ paths) built in
-      let linked : after_functions ≡ Ok (accepted raw names numbers) = then refused_links (topology_fault (links_of raw)) (λ _. after_links) (Ok (accepted raw names numbers)) links planned in
+      let linked : after_functions ≡ Ok (accepted raw names numbers) = then refused_links (network_fault raw) (λ _. after_links) (Ok (accepted raw names numbers)) links planned in
       then refused_function (refused_in_groups raw.top raw.groups) (λ _. after_functions) (Ok (accepted raw names numbers)) functions linked
 
 -- ---- a refusal of a builder
@@ -100,7 +98,7 @@ err-bind (Err found) next other refusal later is = let same : found ≡ refusal 
 
 -- a refusal over the network is one of the parts
 pub over_refused : (raw : raw.Raw) (groups : List Group) (stranger : Option ℕ) (network : Network) (named : Option Refusal)
-    → refused_in_groups raw.top raw.groups ≡ None → topology_fault (links_of raw) ≡ None → network ≡ network_of (links_of raw)
+    → refused_in_groups raw.top raw.groups ≡ None → network_fault raw ≡ None → network ≡ network_of (links_of raw)
     → IfSome named (λ refusal. over_ok network raw groups stranger ≡ Err refusal) → IfSome named (λ refusal. parts_ok raw groups stranger ≡ Err refusal)
 unfolding parts_ok
 over_refused raw groups stranger network None functions links is refused = refused
@@ -116,9 +114,9 @@ refused_first : (raw : raw.Raw) (names : NameTexts) (numbers : Numbers) (refusal
 unfolding parts_ok document_by
 refused_first raw names numbers refusal is =
     err-bind (unless refused_function (refused_in_groups raw.top raw.groups)) _ _ refusal
-    (err-bind (unless refused_links (topology_fault (links_of raw))) _ _ refusal
+    (err-bind (unless refused_links (network_fault raw)) _ _ refusal
     (err-bind (unless refused_paths (plan_fault (network_of (links_of raw)) numbers.groups)) _ _ refusal
-    (err-bind (unless refused_tree (tree_fault (clusters_of raw))) _ _ refusal
+    (err-bind (unless refused_tree (policy_fault raw)) _ _ refusal
     (err-last (unless not_owner (not_owned numbers.task_owners numbers.link_owners 0 numbers.script)) _ refusal)))) is
 
 -- the first refusal of a builder is that of the document
@@ -136,8 +134,9 @@ idle_tree_is spec groups e = ap (λ states. record { top = spec.top; clusters = 
 
 pub is_document : (raw : raw.Raw) (names : Names) (numbers : DocumentNumbers) (tree : Tree) (topology : Network) (plan : List PathGroups)
     → tree ≡ tree_of (accepted raw (texts_of names) (numbers_view numbers)) → topology ≡ network_of (links_of raw) → plan ≡ path_groups_of (numbers_view numbers).groups
-    → IsDocumentOf (accepted raw (texts_of names) (numbers_view numbers)) (record { tree = tree; topology = topology; plan = plan; script = numbers.script; closings = numbers.closings; names = names; task_owners = numbers.task_owners; link_owners = numbers.link_owners })
+    → IsDocumentOf (accepted raw (texts_of names) (numbers_view numbers)) (record { version = raw.version; tree = tree; topology = topology; plan = plan; script = numbers.script; closings = numbers.closings; names = names; task_owners = numbers.task_owners; link_owners = numbers.link_owners })
 is_document raw names numbers tree topology plan tree_is topology_is plan_is = record {
+  version = refl;
   tree = tree_is;
   topology = topology_is;
   plan = plan_is;

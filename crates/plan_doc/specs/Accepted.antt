@@ -19,8 +19,9 @@ tree_of accepted =
       demands = replicate (length (task_numbers accepted.clusters)) 0;
     }
 
--- each part is what its builder makes of the part of that name
+-- the version is the same, and each part is what its builder makes of the part of that name
 pub record IsDocumentOf (accepted : Accepted) (document : Document) : Type 0 where
+  pub version : document.version ≡ accepted.version
   pub tree : document.tree ≡ tree_of accepted
   pub topology : document.topology ≡ network_of accepted.links
   pub plan : document.plan ≡ path_groups_of accepted.groups

@@ -5,12 +5,13 @@ use Rattle.serde_json.specs.Data.{Data}
 use Rattle.bwe_specs.specs.declared.network.Closing.{Closing}
 use Rattle.bwe_specs.specs.declared.report.Report.{Report}
 use Rattle.bwe_specs.specs.Tree.{Cluster}
+use Rattle.bwe_specs.specs.DocumentLimits.{limits_of}
 use Rattle.wan_topology.specs.Network as networks
-use Rattle.wan_topology.specs.Faults.{topology_fault}
+use Rattle.wan_topology.specs.declared.fault.TopologyFault.{TopologyFault}
 use Rattle.path_groups.specs.Given as groups
 use Rattle.path_groups.specs.Faults.{plan_fault}
 use Rattle.policy_tree.specs.Numbering.{numbered_clusters}
-use Rattle.policy_tree.specs.Walk.{tree_fault}
+use Rattle.policy_tree.specs.declared.fault.TreeFault.{TreeFault}
 use Rattle.raw_document.specs.declared.doc_path.PathStep.{PathStep}
 use Rattle.raw_document.specs.Json.{json}
 use Rattle.raw_document.specs.Raw.{Raw}
@@ -24,11 +25,13 @@ use Rattle.doc_passes.specs.Numbers.{Numbers, numbers}
 use Rattle.plan_doc.specs.Functions.{refused_in_groups}
 use Rattle.plan_doc.specs.TreeParts.{cluster_part}
 use Rattle.plan_doc.specs.Links.{link_part}
+use Rattle.plan_doc.specs.TooMany.{links_fault, clusters_fault}
 use Rattle.owner_rule.specs.Owners.{not_owned}
 use Rattle.plan_doc.specs.Refusals.{Refusal, not_json, bad_shape, above_limit, out_of_range, repeated_name, unknown_name, refused_function, refused_links, refused_paths, refused_tree, not_owner}
 
 -- an accepted document, by numbers; the demands of its tasks are 0
 pub record Accepted : Type 0 where
+  pub version : ℕ
   pub top : ℕ
   pub clusters : List Cluster
   pub links : List networks.Link
@@ -73,8 +76,17 @@ links_of raw = map link_part raw.links
 abbrev pub clusters_of : Raw → List Cluster
 clusters_of raw = numbered_clusters (map (cluster_part raw.top) raw.groups)
 
+-- what is wrong with the links, of which the version decides how many there may be
+abbrev pub network_fault : Raw → Option TopologyFault
+network_fault raw = links_fault (limits_of raw.version).links (links_of raw)
+
+-- what is wrong with the tree, of whose tasks the version decides how many there may be
+abbrev pub policy_fault : Raw → Option TreeFault
+policy_fault raw = clusters_fault (limits_of raw.version).tasks (clusters_of raw)
+
 abbrev pub accepted : Raw → NameTexts → Numbers → Accepted
 accepted raw names numbers = record {
+  version = raw.version;
   top = raw.top;
   clusters = clusters_of raw;
   links = links_of raw;
@@ -92,23 +104,23 @@ accepted raw names numbers = record {
 abbrev pub over_ok : networks.Network → Raw → List groups.Group → Option ℕ → Result ⊤ Refusal
 over_ok network raw groups stranger = do
   paths_ok ← unless refused_paths (plan_fault network groups)
-  tree_ok ← unless refused_tree (tree_fault (clusters_of raw))
+  tree_ok ← unless refused_tree (policy_fault raw)
   unless not_owner stranger
 
 -- refusals 7 to 11
 unfoldable pub parts_ok : Raw → List groups.Group → Option ℕ → Result ⊤ Refusal
 parts_ok raw groups stranger = do
   functions_ok ← unless refused_function (refused_in_groups raw.top raw.groups)
-  links_ok ← unless refused_links (topology_fault (links_of raw))
+  links_ok ← unless refused_links (network_fault raw)
   over_ok (networks.network_of (links_of raw)) raw groups stranger
 
 -- refusals 7 to 11
 unfoldable pub document_by : Raw → NameTexts → Numbers → Result Accepted Refusal
 document_by raw names numbers = do
   functions_ok ← unless refused_function (refused_in_groups raw.top raw.groups)
-  links_ok ← unless refused_links (topology_fault (links_of raw))
+  links_ok ← unless refused_links (network_fault raw)
   paths_ok ← unless refused_paths (plan_fault (networks.network_of (links_of raw)) numbers.groups)
-  tree_ok ← unless refused_tree (tree_fault (clusters_of raw))
+  tree_ok ← unless refused_tree (policy_fault raw)
   owners_ok ← unless not_owner (not_owned numbers.task_owners numbers.link_owners 0 numbers.script)
   Ok (accepted raw names numbers)
 

@@ -5,6 +5,8 @@ pub mod Owners
 pub mod Refusals
 pub mod RefusalLines
 pub mod Links
+pub mod Childless
+pub mod TooMany
 pub mod Tables
 pub mod Document
 pub mod Accepted

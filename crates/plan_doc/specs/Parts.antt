@@ -4,22 +4,20 @@ use Rattle.path_groups.specs.Faults.{plan_fault}
 use Rattle.path_groups.specs.Given.{Group, path_groups_of}
 use Rattle.path_groups.specs.Plan.{IsBuiltOn}
 use Rattle.policy_tree.specs.Trees.{task_numbers}
-use Rattle.policy_tree.specs.Walk.{tree_fault}
 use Rattle.raw_document.specs.Raw.{Raw}
-use Rattle.wan_topology.specs.Faults.{topology_fault}
 use Rattle.wan_topology.specs.Network.{Network, network_of}
 use Rattle.plan_doc.specs.declared.doc_error.DocError.{DocError}
 use Rattle.plan_doc.specs.declared.document.Over.{Over}
 use Rattle.plan_doc.specs.declared.document.Parts.{Parts}
 use Rattle.plan_doc.specs.Accepted.{NamesRefusal}
-use Rattle.plan_doc.specs.Document.{clusters_of, links_of, over_ok, parts_ok}
+use Rattle.plan_doc.specs.Document.{clusters_of, links_of, network_fault, policy_fault, over_ok, parts_ok}
 use Rattle.plan_doc.specs.Functions.{refused_in_groups}
 
 -- nothing is refused over the network, and each part is what its builder makes
 pub record AreBuiltOver (raw : Raw) (network : Network) (groups : List Group) (stranger : Option ℕ)
     (over : Over) : Type 0 where
   pub paths : plan_fault network groups ≡ None
-  pub trees : tree_fault (clusters_of raw) ≡ None
+  pub trees : policy_fault raw ≡ None
   pub owners : stranger ≡ None
   pub tree : over.tree ≡ record {
     top = raw.top;
@@ -39,9 +37,9 @@ BuildsOver raw network groups stranger (Err error) =
 pub record AreBuilt (raw : Raw) (groups : List Group) (stranger : Option ℕ) (parts : Parts)
     : Type 0 where
   pub functions : refused_in_groups raw.top raw.groups ≡ None
-  pub links : topology_fault (links_of raw) ≡ None
+  pub links : network_fault raw ≡ None
   pub paths : plan_fault parts.topology groups ≡ None
-  pub trees : tree_fault (clusters_of raw) ≡ None
+  pub trees : policy_fault raw ≡ None
   pub owners : stranger ≡ None
   pub tree : parts.tree ≡ record {
     top = raw.top;

@@ -1,6 +1,7 @@
 //! The reading of a document, pass by pass.
 
-ghost use Rattle.std.specs.Prelude.{◌≡◌, ◌≤◌, ◌<◌, ◌^◌, None, Ok, map, length, IfOk, IfSome};
+ghost use Rattle.std.specs.Prelude.{◌≡◌, ◌≤◌, ◌<◌, ◌^◌, ◌&&◌, not, nat_lt, None, Ok, map, length, IfOk, IfSome};
+ghost use Rattle.bwe_specs.specs.DocumentLimits.{limits_of};
 ghost use Rattle.serde_json.specs.View.{view};
 ghost use Rattle.wan_topology.specs.Network.{network_of};
 ghost use Rattle.wan_topology.specs.Faults.{topology_fault};
@@ -12,13 +13,15 @@ ghost use Rattle.policy_tree.specs.Asked.{idle_cluster};
 ghost use Rattle.policy_tree.specs.Childless.{idle_tree};
 ghost use Rattle.raw_document.specs.Reading.{each_view};
 ghost use Rattle.raw_document.specs.Raw.{link_view, group_view, raw_view};
-ghost use Rattle.plan_doc.specs.Document.{document, document_of_value, document_of_raw, document_named, document_numbered, document_by, clusters_of, over_limit};
+ghost use Rattle.plan_doc.specs.Document.{document, document_of_value, document_of_raw, document_named, document_numbered, document_by, clusters_of, links_of, network_fault, policy_fault, over_limit};
+ghost use Rattle.plan_doc.specs.Childless.{has_childless};
 ghost use Rattle.plan_doc.specs.Functions.{refused_in_groups};
 ghost use Rattle.plan_doc.specs.TreeParts.{cluster_part};
 ghost use Rattle.doc_passes.specs.InRange.{IsInRange};
 ghost use Rattle.doc_passes.specs.Counts.{task_count};
 ghost use Rattle.doc_names.specs.NameTexts.{texts_of};
 ghost use Rattle.plan_doc.specs.Links.{link_part};
+ghost use Rattle.plan_doc.specs.TooMany.{links_fault};
 ghost use Rattle.doc_passes.specs.NumbersView.{numbers_view};
 ghost use Rattle.plan_doc.specs.Refusals.{out_of_range, refused_function, refused_links, refused_paths, refused_tree, not_owner};
 ghost use Rattle.plan_doc.specs.Accepted.{Answers, Makes, PassesBy};
@@ -33,28 +36,29 @@ ghost use Rattle.plan_doc.specs.Conditions.{IsUsable};
 use crate::doc_error::DocError;
 use crate::functions::cluster_specs;
 use crate::names::{Tables, link_specs, names_of};
-use crate::nodes::has_node_numbers;
-use bwe_specs::{Closing, MAX_GROUPS, MAX_SHARE, Report};
+use crate::nodes::{has_childless, has_node_numbers};
+use bwe_specs::{Closing, DocumentLimits, MAX_GROUPS, MAX_SHARE, Report};
 use doc_names::Names;
 use doc_passes::{DocumentNumbers, check_ranges, document_numbers, find_overrun};
 use json::Scratch;
 use owner_rule::find_not_owned;
 use path_groups::{GroupSpec, PathError, PathPlan};
-use policy_tree::{ClusterSpec, PolicyTree, TreeError, TreeSpec};
+use policy_tree::{ClusterSpec, PolicyTree, TreeError, TreeFault, TreeSpec};
 use raw_document::{RawDocument, RawGroup, RawLink};
 use raw_reader::read_straight;
 use raw_shape::{JsonError, read_json, read_shape};
 use serde_json::Value;
 use std::alloc::Global;
-use wan_topology::{Topology, TopologyError};
+use wan_topology::{Topology, TopologyError, TopologyFault};
 
-/// An accepted document. Links, groups, tasks and reporters are numbers, whose names are in
-/// `names`.
+/// An accepted document, of version 1 to 4. Links, groups, tasks and reporters are numbers, whose
+/// names are in `names`.
 ///
 /// `task_owners` and `link_owners` have the number of the reporter who owns each task and link; a
 /// link may have none.
 #[derive(Drop)]
 pub struct Document {
+    pub version: u64,
     pub tree: PolicyTree,
     pub topology: Topology,
     pub plan: PathPlan,
@@ -82,7 +86,7 @@ fn build_clusters(
     }
 }
 
-fn build_topology(alloc: Global, links: &[RawLink]) -> Result<Topology, DocError>
+fn topology_of(alloc: Global, links: &[RawLink]) -> Result<Topology, DocError>
     ensures { Makes result refused_links (topology_fault (map link_part (map link_view links.now)))
         (λ topology. topology ≡ network_of (map link_part (map link_view links.now))) }
 {
@@ -95,6 +99,27 @@ fn build_topology(alloc: Global, links: &[RawLink]) -> Result<Topology, DocError
         Err(TopologyError::Refused { fault }) => Err(DocError::Topology { cause: fault }),
         Err(TopologyError::OutOfMemory) => Err(DocError::OutOfMemory),
     }
+}
+
+// The topology of at most so many links. More are refused before anything is made of them.
+fn topology_within(alloc: Global, most: u64, links: &[RawLink]) -> Result<Topology, DocError>
+    ensures { Makes result refused_links (links_fault most (map link_part (map link_view links.now)))
+        (λ topology. topology ≡ network_of (map link_part (map link_view links.now))) }
+{
+    let count = links.len() as u64;
+    if count > most {
+        return Err(DocError::Topology {
+            cause: TopologyFault::TooManyLinks { count },
+        });
+    }
+    topology_of(alloc, links)
+}
+
+fn build_topology(alloc: Global, raw: &RawDocument) -> Result<Topology, DocError>
+    ensures { Makes result refused_links (network_fault (raw_view raw.now))
+        (λ topology. topology ≡ network_of (links_of (raw_view raw.now))) }
+{
+    topology_within(alloc, DocumentLimits::of(raw.version).links, &raw.links)
 }
 
 fn build_plan(
@@ -114,7 +139,7 @@ fn build_plan(
     }
 }
 
-fn build_tree(
+fn tree_of(
     alloc: Global,
     raw: &RawDocument,
     clusters: Vec<ClusterSpec>,
@@ -142,6 +167,43 @@ fn build_tree(
     }
 }
 
+// Whether the tree is refused for its number of tasks: a node without children comes before that.
+fn is_over(limits: DocumentLimits, tasks: u64, groups: &[RawGroup]) -> bool
+    ensures { result ≡ (nat_lt limits.tasks tasks
+        && not (has_childless (map group_view groups.now))) }
+{
+    limits.tasks < tasks && !has_childless(groups)
+}
+
+fn has_too_many(raw: &RawDocument, tasks: u64) -> bool
+    ensures { result ≡ (nat_lt (limits_of raw.now.version).tasks tasks
+        && not (has_childless (raw_view raw.now).groups)) }
+{
+    is_over(DocumentLimits::of(raw.version), tasks, &raw.groups)
+}
+
+// `tasks` is the number of tasks. Too many are refused before the tree takes memory.
+fn build_tree(
+    alloc: Global,
+    raw: &RawDocument,
+    tasks: u64,
+    clusters: Vec<ClusterSpec>,
+) -> Result<PolicyTree, DocError>
+    requires range { IsInRange (raw_view raw.now) }
+    requires tasks { tasks ≡ task_count (raw_view raw.now).groups }
+    requires clusters { each_view idle_cluster clusters
+        ≡ map (cluster_part raw.now.top) (raw_view raw.now).groups }
+    ensures { Makes result refused_tree (policy_fault (raw_view raw.now))
+        (λ tree. tree ≡ idle_tree (record { top = raw.now.top; clusters = clusters })) }
+{
+    if has_too_many(raw, tasks) {
+        return Err(DocError::Tree {
+            cause: TreeFault::TooManyTasks { count: tasks },
+        });
+    }
+    tree_of(alloc, raw, clusters)
+}
+
 fn check_owners(stranger: Option<u64>) -> Result<(), DocError>
     ensures { Makes result not_owner stranger (λ _. Unit) }
 {
@@ -165,11 +227,12 @@ fn build_over(
     raw: &RawDocument,
     topology: &Topology,
     groups: Vec<GroupSpec>,
+    tasks: u64,
     clusters: Vec<ClusterSpec>,
     stranger: Option<u64>,
 ) -> Result<Over, DocError>
     requires range { IsInRange (raw_view raw.now) }
-    requires tasks { task_count (raw_view raw.now).groups < 2 ^ 64 }
+    requires tasks { tasks ≡ task_count (raw_view raw.now).groups }
     requires few { length groups.items ≤ MAX_GROUPS }
     requires in_range { AreInRange (length topology.now.capacities) (groups_of groups.items) }
     requires clusters { each_view idle_cluster clusters
@@ -177,7 +240,7 @@ fn build_over(
     ensures { BuildsOver (raw_view raw.now) topology.now (groups_of groups.items) stranger result }
 {
     let plan = build_plan(alloc, topology, groups)?;
-    let tree = build_tree(alloc, raw, clusters)?;
+    let tree = build_tree(alloc, raw, tasks, clusters)?;
     check_owners(stranger)?;
     Ok(Over { tree, plan })
 }
@@ -197,17 +260,18 @@ fn build_parts(
     alloc: Global,
     raw: &RawDocument,
     groups: Vec<GroupSpec>,
+    tasks: u64,
     stranger: Option<u64>,
 ) -> Result<Parts, DocError>
     requires range { IsInRange (raw_view raw.now) }
-    requires tasks { task_count (raw_view raw.now).groups < 2 ^ 64 }
+    requires tasks { tasks ≡ task_count (raw_view raw.now).groups }
     requires few { length groups.items ≤ MAX_GROUPS }
     requires in_range { AreInRange (length (raw_view raw.now).links) (groups_of groups.items) }
     ensures { BuildsParts (raw_view raw.now) (groups_of groups.items) stranger result }
 {
     let clusters = build_clusters(alloc, &raw.groups, raw.top)?;
-    let topology = build_topology(alloc, &raw.links)?;
-    match build_over(alloc, raw, &topology, groups, clusters, stranger) {
+    let topology = build_topology(alloc, raw)?;
+    match build_over(alloc, raw, &topology, groups, tasks, clusters, stranger) {
         Ok(over) => Ok(Parts {
             tree: over.tree,
             topology,
@@ -239,8 +303,9 @@ fn build_document(
     } = numbers;
     // Looked for first, and told last: a builder's refusal has a lower number.
     let stranger = find_not_owned(&task_owners, &link_owners, &script);
-    match build_parts(alloc, raw, groups, stranger) {
+    match build_parts(alloc, raw, groups, task_owners.len() as u64, stranger) {
         Ok(parts) => Ok(Document {
+            version: raw.version,
             tree: parts.tree,
             topology: parts.topology,
             plan: parts.plan,

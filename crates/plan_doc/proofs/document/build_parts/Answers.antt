@@ -8,7 +8,7 @@ use Rattle.plan_doc.proofs.document.build_parts.Goals as goal
 
 pub build_over-requires-clause-in_range : goal.build_over-requires-clause-in_range
 build_over-requires-clause-in_range c =
-    let links = rw c.deref-2.ensures.value at c.in_ok-topology.ensures in
+    let links = c.in_ok-topology.ensures in
     let same = sym (length-capacities (raw_view c.args.raw.now).links) ∙ sym (ap (λ t. length t.capacities) links.1) in
     subst (λ n. AreInRange n (groups_of c.args.groups.items)) same c.requires.in_range
 
@@ -18,7 +18,7 @@ build_over-requires-clause-clusters c = let functions = rw c.deref.ensures.value
 pub returns-in-Ok : goal.returns-in-Ok
 returns-in-Ok c =
     let functions = rw c.deref.ensures.value at c.in_ok-clusters.ensures in
-    let links = rw c.deref-2.ensures.value at c.in_ok-topology.ensures in
+    let links = c.in_ok-topology.ensures in
     let over = c.in-Ok.ensures in record {
       functions = functions.0;
       links = links.0;
@@ -34,5 +34,5 @@ returns-in-Ok c =
 pub returns-in-Err : goal.returns-in-Err
 returns-in-Err c =
     let functions = rw c.deref.ensures.value at c.in_ok-clusters.ensures in
-    let links = rw c.deref-2.ensures.value at c.in_ok-topology.ensures in
+    let links = c.in_ok-topology.ensures in
     over_refused (raw_view c.args.raw.now) (groups_of c.args.groups.items) c.args.stranger c.in_ok-topology.topology (refusal_of c.in-Err.error) functions.0 links.0 links.1 c.in-Err.ensures

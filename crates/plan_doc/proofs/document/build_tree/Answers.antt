@@ -1,25 +1,28 @@
-use Rattle.std.proofs.Common.{◌≡◌, ◌<◌, ℕ, length, ap, ◌∙◌, arith}
-use Rattle.policy_tree.specs.Numbering.{numbered_clusters}
-use Rattle.policy_tree.specs.Trees.{task_numbers}
-use Rattle.policy_tree.specs.Walk.{walk}
+use Rattle.std.proofs.Common.{◌≡◌, ◌&&◌, not, nat_lt, true, false, Some, ap, sym, subst, ◌∙◌}
+use Rattle.bwe_specs.specs.DocumentLimits.{limits_of}
 use Rattle.raw_document.specs.Raw.{raw_view}
-use Rattle.plan_doc.proofs.TreeFacts.{have_top, have_weights}
-use Rattle.plan_doc.proofs.NodeFacts.{length-walk, length-task_numbers}
+use Rattle.policy_tree.specs.declared.fault.TreeFault.TheVariants.{TooManyTasks}
+use Rattle.policy_tree.specs.Childless.{idle_tree}
+use Rattle.plan_doc.specs.Childless.{has_childless}
+use Rattle.plan_doc.specs.Document.{unless}
+use Rattle.plan_doc.specs.Refusals.{refused_tree}
+use Rattle.plan_doc.proofs.TooManyFacts.{many_tasks, makes_tree}
 use Rattle.plan_doc.proofs.document.build_tree.Goals as goal
 
-is_below : {n m : ℕ} (bound : ℕ) → n ≡ m → m < bound → n < bound
-is_below bound e below = omega arith
+pub returns-then-has_too_many : goal.returns-then-has_too_many
+returns-then-has_too_many c =
+    let groups = (raw_view c.args.raw.now).groups in
+    let most = (limits_of c.args.raw.now.version).tasks in
+    ap (unless refused_tree) (
+    many_tasks c.args.raw.now.top groups most
+    (subst (λ tasks. (nat_lt most tasks && not (has_childless groups)) ≡ true) c.requires.tasks (sym c.has_too_many.ensures ∙ c.if-has_too_many.true))
+    ∙ ap (λ n. Some (TooManyTasks n)) (sym c.requires.tasks)
+    )
 
-pub build-requires-clause-tops : goal.build-requires-clause-tops
-build-requires-clause-tops c = have_top c.args.raw.now.top c.args.clusters.items (raw_view c.args.raw.now).groups c.requires.clusters
-
-pub build-requires-clause-weights : goal.build-requires-clause-weights
-build-requires-clause-weights c = have_weights c.args.raw.now.top c.args.clusters.items (raw_view c.args.raw.now).groups c.requires.range.weights c.requires.clusters
-
-pub build-requires-clause-nodes : goal.build-requires-clause-nodes
-build-requires-clause-nodes c =
-    is_below 4294967296 (ap (λ states. length (walk (numbered_clusters states))) c.requires.clusters ∙ length-walk c.args.raw.now.top (raw_view c.args.raw.now).groups) (rw c.deref.ensures.value at (c.has_node_numbers.ensures c.if-not-has_node_numbers.false))
-
-pub build-requires-clause-tasks : goal.build-requires-clause-tasks
-build-requires-clause-tasks c =
-    is_below 18446744073709551616 (ap (λ states. length (task_numbers (numbered_clusters states))) c.requires.clusters ∙ length-task_numbers c.args.raw.now.top (raw_view c.args.raw.now).groups) c.requires.tasks
+pub returns : goal.returns
+returns c =
+    let groups = (raw_view c.args.raw.now).groups in
+    let most = (limits_of c.args.raw.now.version).tasks in
+    makes_tree c.args.raw.now.top groups most c.tree_of.result (λ tree. tree ≡ idle_tree (record { top = c.args.raw.now.top; clusters = c.args.clusters }))
+    (subst (λ tasks. (nat_lt most tasks && not (has_childless groups)) ≡ false) c.requires.tasks (sym c.has_too_many.ensures ∙ c.if-has_too_many.false))
+    c.tree_of.ensures
