@@ -11,7 +11,7 @@ ghost use Rattle.command_line.specs.Matches.{app_to_bulk, bare_app, bwe_app, est
 use crate::CommandLine;
 use crate::number::{any_number, number_in};
 use bwe_specs::{
-    MAX_GROUPS, MAX_HEADROOM, MAX_READERS, MAX_READS, MAX_SHARE, MAX_TASKS, MAX_WINDOW,
+    MAX_HEADROOM, MAX_MADE_GROUPS, MAX_MADE_TASKS, MAX_READERS, MAX_READS, MAX_SHARE, MAX_WINDOW,
     MIN_HEADROOM, OutOfMemory,
 };
 use clap::error::ErrorKind;
@@ -245,8 +245,8 @@ fn size_in(seed: &str, groups: &str, tasks: &str) -> Option<Size>
     ensures { result ≡ size_in_texts seed.now groups.now tasks.now }
 {
     let seed = any_number(seed)?;
-    let groups = number_in(groups, 1, MAX_GROUPS as u32)?;
-    let tasks = number_in(tasks, groups, MAX_TASKS as u32)?;
+    let groups = number_in(groups, 1, MAX_MADE_GROUPS as u32)?;
+    let tasks = number_in(tasks, groups, MAX_MADE_TASKS as u32)?;
     Some(Size {
         seed,
         groups,

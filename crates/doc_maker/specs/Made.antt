@@ -2,7 +2,7 @@
 use Rattle.std.specs.Prelude.{ℕ, ◌+◌, ◌*◌, ◌/◌, ◌%◌, ◌==◌, ◌≤◌, List, [], ◌∷◌, ◌++◌, map, codes, decimal, Option, Some, None, if◌then◌else◌}
 use Rattle.std.specs.List.{filter}
 use Rattle.serde_json.specs.Written.{compact_text}
-use Rattle.bwe_specs.specs.declared.limits.TheConstants.{MAX_GROUPS, MAX_TASKS}
+use Rattle.bwe_specs.specs.declared.limits.TheConstants.{MAX_MADE_GROUPS, MAX_MADE_TASKS}
 use Rattle.bwe_specs.specs.Reports.{numbers}
 use Rattle.raw_document.specs.Raw.{Link, Path, Task, Job, User, Group, of_task, Report, Raw}
 use Rattle.doc_maker.specs.Layout.{document_value}
@@ -16,9 +16,9 @@ pub record Size : Type 0 where
 -- at least one group and at most 1,024, with at least as many tasks and at most 20,000
 pub record IsSize (size : Size) : Type 0 where
   pub some_groups : 1 ≤ size.groups
-  pub few_groups : size.groups ≤ MAX_GROUPS
+  pub few_groups : size.groups ≤ MAX_MADE_GROUPS
   pub enough_tasks : size.groups ≤ size.tasks
-  pub few_tasks : size.tasks ≤ MAX_TASKS
+  pub few_tasks : size.tasks ≤ MAX_MADE_TASKS
 
 -- the number that is drawn at a place
 abbrev pub drawn : Size → ℕ → ℕ

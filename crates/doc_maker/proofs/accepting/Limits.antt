@@ -5,10 +5,9 @@ use Rattle.std.proofs.lemmas.Bool.{le-ltb}
 use Rattle.std.proofs.lemmas.List.{length-map}
 use Rattle.std.proofs.lemmas.List.FromFn.{length-range_with_len}
 use Rattle.bwe_specs.specs.Reports.{numbers}
-use Rattle.bwe_specs.specs.declared.limits.TheConstants.{MAX_GROUPS, MAX_REPORTS}
 use Rattle.doc_passes.specs.declared.limit.What.{What}
 use Rattle.doc_passes.specs.declared.limit.What.TheVariants as counts
-use Rattle.doc_passes.specs.Limits.{first_some, sum_of, overrun_of, configured_overrun, job_overrun, user_overrun, group_overrun, group_hops, hops, overrun}
+use Rattle.doc_passes.specs.Limits.{first_some, sum_of, overrun_of, configured_overrun, job_overrun, user_overrun, group_overrun, group_hops, hops, overrun_within, overrun}
 use Rattle.doc_maker.specs.Made.{Size, IsSize, user_function, made_job, made_user, made_group, made_report, made}
 
 within : (what : What) (limit count : ℕ) → count ≤ limit → overrun_of what limit count ≡ None
@@ -51,11 +50,11 @@ pub length-numbers : {A : Type 0} (f : ℕ → A) (n : ℕ) → length (map f (n
 length-numbers f n = length-map (numbers n) f ∙ length-range_with_len 0 n
 
 pub made_within : (size : Size) → IsSize size → overrun (made size) ≡ None
-unfolding overrun
+unfolding overrun overrun_within
 made_within size right =
     rw (
-      within counts.Groups MAX_GROUPS (length (made size).groups) (omega (arith, length-numbers (made_group size) size.groups)),
+      within counts.Groups 1_024 (length (made size).groups) (omega (arith, length-numbers (made_group size) size.groups)),
       groups_within size (numbers size.groups),
       within counts.Hops 1_000_000 (hops (made size).groups) (omega (arith, hops_are size (numbers size.groups), length-range_with_len 0 size.groups)),
-      within counts.Script MAX_REPORTS (length (made size).script) (omega (arith, length-numbers (made_report size) size.tasks)),
+      within counts.Script 200_000 (length (made size).script) (omega (arith, length-numbers (made_report size) size.tasks)),
     ) refl

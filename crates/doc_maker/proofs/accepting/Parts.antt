@@ -12,7 +12,8 @@ use Rattle.bw_function.specs.Faults.{later_fault, function_fault}
 use Rattle.wan_topology.specs.Faults.{link_fault, first_link_fault, topology_fault}
 use Rattle.plan_doc.specs.Functions.{first_refused, refused_configured, refused_in_job, refused_in_user, refused_in_group, refused_in_groups}
 use Rattle.plan_doc.specs.Links.{link_part}
-use Rattle.plan_doc.specs.Document.{links_of}
+use Rattle.plan_doc.specs.Document.{links_of, network_fault}
+use Rattle.plan_doc.proofs.TooManyFacts.{few_links}
 use Rattle.doc_maker.specs.Made.{Size, IsSize, drawn, link_name, made_link, made_function, user_function, made_job, made_user, made_group, made}
 use Rattle.doc_maker.proofs.accepting.NameLists.{IsOther, absent}
 
@@ -67,6 +68,10 @@ links_right size low (suc n) place before few below =
 pub length-links : (size : Size) → length (links_of (made size)) ≡ size.groups
 length-links size = length-map (map (made_link size) (numbers size.groups)) link_part ∙ length-map (numbers size.groups) (made_link size) ∙ length-range_with_len 0 size.groups
 
-pub made_topology : (size : Size) → IsSize size → topology_fault (links_of (made size)) ≡ None
+made_topology : (size : Size) → IsSize size → topology_fault (links_of (made size)) ≡ None
 unfolding topology_fault
-made_topology size right = rw (le-ltb 4_096 (length (links_of (made size))) (omega (arith, length-links size))) (links_right size 0 size.groups 0 [] (omega arith) (All-nil (λ other. other < 0)))
+made_topology size right = rw (le-ltb 65_536 (length (links_of (made size))) (omega (arith, length-links size))) (links_right size 0 size.groups 0 [] (omega arith) (All-nil (λ other. other < 0)))
+
+pub made_network : (size : Size) → IsSize size → network_fault (made size) ≡ None
+made_network size right =
+    few_links 4_096 (links_of (made size)) (le-ltb 4_096 (length (links_of (made size))) (omega (arith, length-links size))) ∙ made_topology size right

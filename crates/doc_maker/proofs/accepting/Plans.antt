@@ -19,13 +19,14 @@ use Rattle.raw_document.specs.Raw.{Task}
 use Rattle.policy_tree.specs.States.{ClusterState, cluster_tasks}
 use Rattle.policy_tree.specs.Numbering.{numbered, numbered_task, numbered_tasks, numbered_job, numbered_user, numbered_cluster}
 use Rattle.policy_tree.specs.Trees.{task_numbers}
-use Rattle.policy_tree.specs.Walk.{Node, OfCluster, OfUser, OfJob, cluster_nodes, walk, is_childless, tree_fault}
+use Rattle.policy_tree.specs.Walk.{Node, OfCluster, OfUser, OfJob, cluster_nodes, walk, is_childless}
 use Rattle.doc_passes.specs.Limits.{sum_of}
 use Rattle.doc_passes.specs.Counts.{group_tasks, task_count}
 use Rattle.plan_doc.specs.Links.{link_part}
 use Rattle.plan_doc.specs.TreeParts.{weights_of, job_part, user_part, cluster_part}
 use Rattle.owner_rule.specs.Owners.{not_owned}
-use Rattle.plan_doc.specs.Document.{links_of, clusters_of}
+use Rattle.plan_doc.specs.Document.{links_of, clusters_of, policy_fault}
+use Rattle.plan_doc.specs.TooMany.{clusters_fault}
 use Rattle.policy_tree.proofs.Numbers.{length-numbered}
 use Rattle.plan_doc.proofs.NodeFacts.{length-task_numbers}
 use Rattle.doc_maker.specs.Made.{Size, IsSize, made_link, made_task, tasks_of, made_job, made_user, made_group, made}
@@ -132,11 +133,12 @@ module _ (size : Size) where
   pub length-tasks : 0 < size.groups → task_count (made size).groups ≡ size.tasks
   length-tasks some = tasks_in (numbers size.groups) ∙ sym (length-flat_map (tasks_of size) (numbers size.groups)) ∙ length-walked size some
 
-pub made_tree : (size : Size) → IsSize size → tree_fault (clusters_of (made size)) ≡ None
+pub made_tree : (size : Size) → IsSize size → policy_fault (made size) ≡ None
+unfolding clusters_fault
 made_tree size right =
     let full : All (IsFull size) (walk (clusters_of (made size))) = clusters_full size 0 (numbers size.groups) (All-weaker (λ group. group < size.groups) (λ group. 0 < length (tasks_of size group)) (has_task size right) (numbers size.groups) (numbers_below size.groups)) in
     let count : length (task_numbers (clusters_of (made size))) ≡ size.tasks = length-task_numbers 1_000_000 (made size).groups ∙ length-tasks size (omega arith) in
-    rw (none_passes is_childless (walk (clusters_of (made size))) full, le-ltb 20_000 (length (task_numbers (clusters_of (made size)))) (omega arith)) refl
+    rw (none_passes is_childless (walk (clusters_of (made size))) full, le-ltb 1_048_576 (length (task_numbers (clusters_of (made size)))) (omega arith), le-ltb 20_000 (length (task_numbers (clusters_of (made size)))) (omega arith)) refl
 
 -- ---- the script
 

@@ -9,13 +9,13 @@ use Rattle.doc_maker.proofs.accepting.Limits.{made_within}
 use Rattle.doc_maker.proofs.accepting.Ranges.{made_in_range}
 use Rattle.doc_maker.proofs.accepting.NameLists.{made_named}
 use Rattle.doc_maker.proofs.accepting.Numbering.{made_numbered}
-use Rattle.doc_maker.proofs.accepting.Parts.{made_functions, made_topology}
+use Rattle.doc_maker.proofs.accepting.Parts.{made_functions, made_network}
 use Rattle.doc_maker.proofs.accepting.Plans.{made_plan, made_tree, made_owned}
 
 module _ (size : Size) (right : IsSize size) where
   built : document_by (made size) (made_names size) (made_numbers size) ≡ Ok (made_accepted size)
   unfolding document_by
-  built = rw (made_functions size, made_topology size right, made_plan size right, made_tree size right, made_owned size right) refl
+  built = rw (made_functions size, made_network size right, made_plan size right, made_tree size right, made_owned size right) refl
 
   passed : document_of_raw (made size) ≡ Ok (made_accepted size)
   unfolding document_of_raw
