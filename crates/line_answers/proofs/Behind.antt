@@ -27,6 +27,7 @@ owner_in_document task_owners link_owners reporter (Link link) is = absurd (let 
 
 abbrev with_script : Document → Vec Report Global → Document
 with_script document script = record {
+  version = document.version;
   tree = document.tree;
   topology = document.topology;
   plan = document.plan;

@@ -1,7 +1,8 @@
 -- The line `estimate`, and what an accepted document and the second part behind it get.
-use Rattle.std.specs.Prelude.{ℕ, ◌++◌, List, length, Result, Ok, Err}
+use Rattle.std.specs.Prelude.{ℕ, ◌-◌, ◌++◌, List, length, Result, Ok, Err}
 use Rattle.bwe_specs.specs.declared.report.Report.{Report}
 use Rattle.bwe_specs.specs.Allocation.{Plan}
+use Rattle.bwe_specs.specs.DocumentLimits.{limits_of}
 use Rattle.one_run.specs.Endings.{Reply}
 use Rattle.plan_doc.specs.Document.{Accepted}
 use Rattle.sample_lines.specs.RefusalLine.{sample_refusal}
@@ -16,10 +17,11 @@ abbrev pub table_behind : NameTexts → Plan → List Report → Result (List Re
 table_behind names plan script (Ok reports) = table_reply names plan (script ++ reports)
 table_behind names plan script (Err line) = record { status = 3; text = sample_refusal line }
 
--- `estimate`: the table of the allocation of the script and the reports of the estimates
-abbrev pub estimate_reply : NameTexts → Known → Plan → List Report → ℕ → ℕ → List ℕ → Reply
-estimate_reply names known plan script window headroom part =
-    table_behind names plan script (reports_in known (length script) window headroom part)
+-- `estimate`: the table of the allocation of the script and the reports of the estimates, of which
+-- there are so many at most together
+abbrev pub estimate_reply : NameTexts → Known → Plan → List Report → ℕ → ℕ → ℕ → List ℕ → Reply
+estimate_reply names known plan script most window headroom part =
+    table_behind names plan script (reports_in known (most - length script) window headroom part)
 
 -- what an accepted document knows of samples
 abbrev pub known_in : Accepted → Known
@@ -27,5 +29,5 @@ known_in accepted = record { names = accepted.names; task_owners = accepted.task
 
 abbrev pub estimate_accepted : ℕ → ℕ → Accepted → List ℕ → Reply
 estimate_accepted window headroom accepted part =
-    estimate_reply accepted.names (known_in accepted) (plan_of accepted) accepted.script window
-    headroom part
+    estimate_reply accepted.names (known_in accepted) (plan_of accepted) accepted.script
+    (limits_of accepted.version).reports window headroom part

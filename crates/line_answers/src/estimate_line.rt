@@ -2,6 +2,7 @@
 
 ghost use Rattle.std.specs.Prelude.{◌≡◌, ◌≤◌, ◌-◌, ◌++◌, ℕ, All, IfOk, length};
 ghost use Rattle.bwe_specs.specs.declared.limits.TheConstants.{MAX_REPORTS};
+ghost use Rattle.bwe_specs.specs.DocumentLimits.{limits_of};
 ghost use Rattle.demand_book.specs.Fit.{IsFit};
 ghost use Rattle.bwe_specs.specs.declared.limits.TheConstants.{MAX_WINDOW, MIN_HEADROOM, MAX_HEADROOM};
 ghost use Rattle.doc_names.specs.NameTexts.{texts_of};
@@ -15,7 +16,7 @@ ghost use Rattle.opened_document.specs.Parted.{parts_reply};
 ghost use Rattle.plan_doc.specs.Plans.{plan_in};
 ghost use Rattle.solve_answer.specs.SolveReply.{table_reply};
 
-use bwe_specs::{OutOfMemory, Report};
+use bwe_specs::{DocumentLimits, OutOfMemory, Report};
 use one_run::Answer;
 use opened_document::{Parted, read_parts};
 use plan_doc::Document;
@@ -62,9 +63,11 @@ fn estimate_document(
     ensures { IfOk result (λ answer. answer
         ≡ estimate_reply (texts_of document.names)
         (known_by document.names document.task_owners.items)
-        (plan_in document) document.script.items window headroom part.now) }
+        (plan_in document) document.script.items (limits_of document.version).reports window
+        headroom part.now) }
 {
-    match reports_behind(alloc, &document, part, window, headroom) {
+    let most = DocumentLimits::of(document.version).reports;
+    match reports_behind(alloc, &document, most, part, window, headroom) {
         Ok(reports) => solve_behind(alloc, document, &reports),
         Err(SampleError::Refused { line }) => Ok(Answer {
             status: 3,
@@ -74,10 +77,12 @@ fn estimate_document(
     }
 }
 
-// The reports of the estimates of the part's samples, or the first sample at fault.
+// The reports of the estimates of the part's samples, or the first sample at fault. With those of
+// the script there are `most` at most.
 fn reports_behind(
     alloc: Global,
     document: &Document,
+    most: u64,
     part: &[u8],
     window: u32,
     headroom: u32,
@@ -88,17 +93,17 @@ fn reports_behind(
     requires headroom { headroom ≤ MAX_HEADROOM }
     ensures exact { Answers (λ reports. reports.items) result
         (reports_in (known_by document.now.names document.now.task_owners.items)
-        (length document.now.script.items) window headroom part.now) }
+        (most - length document.now.script.items) window headroom part.now) }
     ensures few { IfOk result (λ reports.
-        length reports.items ≤ MAX_REPORTS - length document.now.script.items) }
+        length reports.items ≤ most - length document.now.script.items) }
     ensures fit { (links : ℕ) → IfOk result (λ reports.
         All (IsFit (length document.now.names.tasks.items) links) reports.items) }
     ensures owned { IfOk result (λ reports.
         All (IsByOwner document.now.task_owners.items) reports.items) }
 {
-    let script_length = document.script.len() as u64;
+    let room = most.saturating_sub(document.script.len() as u64);
     let (names, owners) = (&document.names, &document.task_owners);
-    estimate_reports(alloc, part, names, owners, script_length, window, headroom)
+    estimate_reports(alloc, part, names, owners, room, window, headroom)
 }
 
 // The table of the document's script with these reports behind it.

@@ -1,6 +1,5 @@
 -- The lines of a part, and the first at fault.
-use Rattle.std.specs.Prelude.{◌≡◌, ℕ, ◌-◌, List, length, nat_lt, Option, None, Result, Ok, Err, if◌then◌else◌}
-use Rattle.bwe_specs.specs.declared.limits.TheConstants.{MAX_REPORTS}
+use Rattle.std.specs.Prelude.{◌≡◌, ℕ, List, length, nat_lt, Option, None, Result, Ok, Err, if◌then◌else◌}
 use Rattle.text_scan.specs.Items.{items_of}
 use Rattle.text_scan.specs.Words.{Text}
 use Rattle.sample_lines.specs.declared.sample.Sample.{Sample}
@@ -14,9 +13,10 @@ abbrev pub next_sample : Known → ℕ → List Sample → Text → Option Sampl
 next_sample known room before line =
     if nat_lt (length before) room then sample_of known line else None
 
--- the samples of a part behind a script, or the number of the first line at fault
+-- the samples of a part, for so many of which there is room, or the number of the first line at
+-- fault
 abbrev pub samples_in : Known → ℕ → Text → Result (List Sample) ℕ
-samples_in known script part = items_of (next_sample known (MAX_REPORTS - script)) part
+samples_in known room part = items_of (next_sample known room) part
 
 -- what a call answers is what reading gives, unless memory ran out
 abbrev pub Answers : {X Y : Type 0} → (X → Y) → Result X SampleError → Result Y ℕ → Type 0

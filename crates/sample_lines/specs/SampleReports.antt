@@ -37,7 +37,8 @@ abbrev pub reported : ℕ → ℕ → Result (List Sample) ℕ → Result (List 
 reported window headroom (Ok samples) = Ok (reports_of window headroom samples)
 reported window headroom (Err line) = Err line
 
--- the reports of a part behind a script, or the number of the first line at fault
+-- the reports of a part, for so many of which there is room, or the number of the first line at
+-- fault
 abbrev pub reports_in : Known → ℕ → ℕ → ℕ → Text → Result (List Report) ℕ
-reports_in known script window headroom part =
-    reported window headroom (samples_in known script part)
+reports_in known room window headroom part =
+    reported window headroom (samples_in known room part)
