@@ -4,9 +4,6 @@ ghost use Rattle.enforce_run.specs.declared.event.EventError.TheVariants.{OutOfM
 
 use std::alloc::AllocFailed;
 
-/// How many events there may be.
-pub const MAX_EVENTS: u64 = 2_000;
-
 /// An event. Messages to the regions and messages to the centre are numbered apart, each from 0.
 #[derive(Clone, Copy, Debug, PartialEq, Eq)]
 pub enum EventLine {

@@ -3,7 +3,8 @@
 ghost use Rattle.std.specs.Prelude.{◌≡◌, [], IfOk, IfSome};
 ghost use Rattle.enforce_run.specs.EventLines.{Answers, AreThere, IsThere, downs_of, event_named as event_of_word, event_of as event_of_line, events_of, next_event as event_after, ups_of};
 
-use crate::event::{EventError, EventLine, MAX_EVENTS};
+use crate::event::{EventError, EventLine};
+use bwe_specs::MAX_EVENTS;
 use std::alloc::Global;
 use text_scan::{Lines, cut_at, printed_number_of};
 

@@ -3,7 +3,7 @@
 ghost use Rattle.std.specs.Prelude.{◌≡◌};
 ghost use Rattle.enforce_run.specs.Lawful.{WrittenEventsAreLawful};
 
-use crate::event::MAX_EVENTS;
+use bwe_specs::MAX_EVENTS;
 use demand_book::Maker;
 
 /// Written events are events of the World: at every moment of them the World law holds, and where

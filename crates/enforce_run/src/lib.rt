@@ -19,7 +19,7 @@ mod regions;
 mod run;
 mod text;
 
-pub use event::{EventError, EventLine, MAX_EVENTS};
+pub use event::{EventError, EventLine};
 pub use events::read_events;
 pub use law::{there_are_at_most_2000_events, written_events_are_lawful};
 pub use refusal_line::event_refusal_line;

@@ -1,7 +1,7 @@
 -- Lines out of bytes that come one after another.
 use Rattle.std.specs.Prelude.{ℕ, ◌==◌, Bool, true, false, List, [], ◌∷◌, ◌++◌, length, nat_le, Option, Some, None, if◌then◌else◌}
 use Rattle.text_scan.specs.Words.{Text}
-use Rattle.live_lines.specs.declared.cutter.TheConstants.{MAX_LINE}
+use Rattle.bwe_specs.specs.declared.limits.TheConstants.{MAX_LINE}
 
 -- what stands of a line before its line feed; none where it has more than 255 bytes
 abbrev pub Held : Type 0

@@ -3,12 +3,9 @@
 ghost use Rattle.std.specs.Prelude.{◌≡◌, ◌≢◌, [], Some, option_map, IfOk};
 ghost use Rattle.live_lines.specs.Cutting.{with_byte, is_nothing};
 
-use bwe_specs::OutOfMemory;
+use bwe_specs::{MAX_LINE, OutOfMemory};
 use std::alloc::Global;
 use std::marker::Model;
-
-/// The greatest number of bytes of a line before its line feed.
-pub const MAX_LINE: usize = 255;
 
 /// What stands since the last line feed, which contracts see as a text, or none where it is longer
 /// than a line may be.
@@ -21,7 +18,7 @@ pub struct LineCutter {
 
 impl Model for LineCutter {
     ghost use Rattle.std.specs.Prelude.{◌≡◌, ◌≤◌, length, take};
-    ghost use Rattle.live_lines.specs.declared.cutter.TheConstants.{MAX_LINE};
+    ghost use Rattle.bwe_specs.specs.declared.limits.TheConstants.{MAX_LINE};
     ghost use Rattle.live_lines.specs.Cutting.{Held, held_in};
 
     ghost Value = { Held };

@@ -3,7 +3,7 @@
 ghost use Rattle.std.specs.Prelude.{◌≡◌};
 ghost use Rattle.live_lines.specs.Laws.{PiecesDoNotMatter, LinesAreOfTheText};
 
-use crate::cutter::MAX_LINE;
+use bwe_specs::MAX_LINE;
 
 /// The lines of bytes are the same in whatever pieces the bytes come.
 pub fn pieces_do_not_matter()

@@ -13,7 +13,7 @@ mod known;
 mod laws;
 mod line;
 
-pub use cutter::{LineCutter, MAX_LINE};
+pub use cutter::LineCutter;
 pub use known::Known;
 pub use laws::{a_line_has_at_most_255_bytes, lines_are_of_the_text, pieces_do_not_matter};
 pub use line::{LineCause, LineMeaning};
