@@ -7,6 +7,7 @@ use Rattle.bwe_specs.specs.declared.limits.TheConstants.{MAX_AMOUNT}
 use Rattle.bwe_specs.specs.declared.report.Report.{Report}
 use Rattle.bwe_specs.specs.declared.report.Target.{Target}
 use Rattle.bwe_specs.specs.Allocation.{allocation}
+use Rattle.bwe_specs.specs.DocumentLimits.{limits_of}
 use Rattle.bwe_specs.specs.TreeFunctions.{AreClusters}
 use Rattle.bwe_specs.specs.Reports.{numbers as numbers_below, reports_of}
 use Rattle.crew_log.specs.Scripts.{AreOfReporters}
@@ -29,12 +30,12 @@ use Rattle.plan_doc.specs.declared.document.Document as code
 use Rattle.plan_doc.specs.Accepted.{IsAccepted}
 use Rattle.plan_doc.specs.Conditions.{IsUsable, link_count, reporter_count, tasks_in}
 use Rattle.plan_doc.specs.Document as documents
-use Rattle.plan_doc.specs.Document.{Accepted, accepted as accepted_by, clusters_of, document, document_by, document_of_raw, document_of_value, links_of, over_limit, refused_by, unless, value_of}
+use Rattle.plan_doc.specs.Document.{Accepted, accepted as accepted_by, clusters_of, document, document_by, document_of_raw, document_of_value, links_of, network_fault, policy_fault, over_limit, refused_by, unless, value_of}
 use Rattle.plan_doc.specs.Functions.{refused_in_groups}
+use Rattle.plan_doc.proofs.TooManyFacts.{no_tree_fault}
 use Rattle.plan_doc.specs.Owners.{not_owned, owner_of}
 use Rattle.plan_doc.specs.Refusals.{Refusal, bad_shape, not_owner, out_of_range, refused_function, refused_links, refused_paths, refused_tree, repeated_name, unknown_name}
 use Rattle.path_groups.specs.Faults.{plan_fault}
-use Rattle.wan_topology.specs.Faults.{topology_fault}
 use Rattle.wan_topology.specs.Network.{network_of}
 use Rattle.raw_document.specs.declared.doc_path.PathStep.{PathStep}
 use Rattle.doc_names.specs.NameTexts.{texts_of, NameTexts}
@@ -76,10 +77,10 @@ record IsReadOf (accepted : Accepted) : Type 0 where
 by_parts : (raw : Raw) (u : ⊤) (names : NameTexts) (numbered : Numbers) (accepted : Accepted) → ranges raw ≡ Ok u → name_lists raw ≡ Ok names → document_by raw names numbered ≡ Ok accepted → IsReadOf accepted
 unfolding document_by
 by_parts raw u names numbered accepted range listed e =
-    let functions = bind_ok (unless refused_function (refused_in_groups raw.top raw.groups)) (λ _. documents.◌>>=◌ (unless refused_links (topology_fault (links_of raw))) (λ _. documents.◌>>=◌ (unless refused_paths (plan_fault (network_of (links_of raw)) numbered.groups)) (λ _. documents.◌>>=◌ (unless refused_tree (tree_fault (clusters_of raw))) (λ _. documents.◌>>=◌ (unless not_owner (not_owned numbered.task_owners numbered.link_owners 0 numbered.script)) (λ _. Ok (accepted_by raw names numbered)))))) accepted e in
-    let links = bind_ok (unless refused_links (topology_fault (links_of raw))) (λ _. documents.◌>>=◌ (unless refused_paths (plan_fault (network_of (links_of raw)) numbered.groups)) (λ _. documents.◌>>=◌ (unless refused_tree (tree_fault (clusters_of raw))) (λ _. documents.◌>>=◌ (unless not_owner (not_owned numbered.task_owners numbered.link_owners 0 numbered.script)) (λ _. Ok (accepted_by raw names numbered))))) accepted functions.2 in
-    let paths = bind_ok (unless refused_paths (plan_fault (network_of (links_of raw)) numbered.groups)) (λ _. documents.◌>>=◌ (unless refused_tree (tree_fault (clusters_of raw))) (λ _. documents.◌>>=◌ (unless not_owner (not_owned numbered.task_owners numbered.link_owners 0 numbered.script)) (λ _. Ok (accepted_by raw names numbered)))) accepted links.2 in
-    let tree = bind_ok (unless refused_tree (tree_fault (clusters_of raw))) (λ _. documents.◌>>=◌ (unless not_owner (not_owned numbered.task_owners numbered.link_owners 0 numbered.script)) (λ _. Ok (accepted_by raw names numbered))) accepted paths.2 in
+    let functions = bind_ok (unless refused_function (refused_in_groups raw.top raw.groups)) (λ _. documents.◌>>=◌ (unless refused_links (network_fault raw)) (λ _. documents.◌>>=◌ (unless refused_paths (plan_fault (network_of (links_of raw)) numbered.groups)) (λ _. documents.◌>>=◌ (unless refused_tree (policy_fault raw)) (λ _. documents.◌>>=◌ (unless not_owner (not_owned numbered.task_owners numbered.link_owners 0 numbered.script)) (λ _. Ok (accepted_by raw names numbered)))))) accepted e in
+    let links = bind_ok (unless refused_links (network_fault raw)) (λ _. documents.◌>>=◌ (unless refused_paths (plan_fault (network_of (links_of raw)) numbered.groups)) (λ _. documents.◌>>=◌ (unless refused_tree (policy_fault raw)) (λ _. documents.◌>>=◌ (unless not_owner (not_owned numbered.task_owners numbered.link_owners 0 numbered.script)) (λ _. Ok (accepted_by raw names numbered))))) accepted functions.2 in
+    let paths = bind_ok (unless refused_paths (plan_fault (network_of (links_of raw)) numbered.groups)) (λ _. documents.◌>>=◌ (unless refused_tree (policy_fault raw)) (λ _. documents.◌>>=◌ (unless not_owner (not_owned numbered.task_owners numbered.link_owners 0 numbered.script)) (λ _. Ok (accepted_by raw names numbered)))) accepted links.2 in
+    let tree = bind_ok (unless refused_tree (policy_fault raw)) (λ _. documents.◌>>=◌ (unless not_owner (not_owned numbered.task_owners numbered.link_owners 0 numbered.script)) (λ _. Ok (accepted_by raw names numbered))) accepted paths.2 in
     let owners = bind_ok (unless not_owner (not_owned numbered.task_owners numbered.link_owners 0 numbered.script)) (λ _. Ok (accepted_by raw names numbered)) accepted tree.2 in
     let same : accepted_by raw names numbered ≡ accepted = ok_is (accepted_by raw names numbered) accepted owners.2 in
     record {
@@ -88,7 +89,7 @@ by_parts raw u names numbered accepted range listed e =
       range = range;
       listed = listed ∙ ap (λ (a : Accepted). Ok a.names) same;
       functions = unless_ok refused_function (refused_in_groups raw.top raw.groups) functions.0 functions.1;
-      tree = ap (λ (a : Accepted). tree_fault a.clusters) (sym same) ∙ unless_ok refused_tree (tree_fault (clusters_of raw)) tree.0 tree.1;
+      tree = ap (λ (a : Accepted). tree_fault a.clusters) (sym same) ∙ no_tree_fault (limits_of raw.version).tasks (clusters_of raw) (unless_ok refused_tree (policy_fault raw) tree.0 tree.1);
       clusters_so = ap (λ (a : Accepted). a.clusters) (sym same);
       top_so = ap (λ (a : Accepted). a.top) (sym same);
     }
@@ -130,8 +131,8 @@ module _ (bytes : List ℕ) (document : code.Document) (usable : IsUsable docume
       subst (λ (top : ℕ). AreClusters top accepted.0.clusters) (sym read.top_so) (subst (AreClusters read.raw.top) (sym read.clusters_so) (clusters_right read.raw.top read.raw.groups read.functions)) in
       subst (λ tree. AreClusters tree.top tree.clusters) (sym accepted.2.tree) made
 
-  tasks-few : length (task_numbers document.tree.clusters) ≤ 20_000
-  tasks-few = subst (λ tree. length (task_numbers tree.clusters) ≤ 20_000) (sym accepted.2.tree) (few_tasks accepted.0.clusters read.tree)
+  tasks-few : length (task_numbers document.tree.clusters) ≤ 1_048_576
+  tasks-few = subst (λ tree. length (task_numbers tree.clusters) ≤ 1_048_576) (sym accepted.2.tree) (few_tasks accepted.0.clusters read.tree)
 
   totals-are : (reports : List Report) → All (IsFit (tasks_in document) (link_count document)) reports → table_total (allocation (plan_in document) reports) < 2 ^ 64
   totals-are reports fit =
@@ -148,7 +149,7 @@ module _ (bytes : List ℕ) (document : code.Document) (usable : IsUsable docume
       reporters_named = omega (arith, script_count scripts, counted);
       own = λ number lt. own number (omega (arith, lt, script_count scripts));
       few_reporters = omega (arith, script_count scripts, few-scripts document usable scripts split);
-      few = subst (λ count. count ≤ 200_000) (sym (total_counted scripts)) (room-scripts document usable scripts split);
+      few = subst (λ count. count ≤ 4_194_304) (sym (total_counted scripts)) (room-scripts document usable scripts split);
     }
       where
         are : AreOfReporters (tasks_in document) (link_count document) scripts

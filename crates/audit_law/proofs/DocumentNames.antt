@@ -109,7 +109,7 @@ after_version raw = member_range keys.Top (is_within 1 MAX_SHARE raw.top) >>= λ
 all_named : (raw : Raw) (u : ⊤) → ranges.ranges raw ≡ Ok u → AreNamed raw
 unfolding ranges.ranges
 all_named raw u e =
-    let version = bind_ok (member_range keys.Version (is_within 1 3 raw.version)) (λ _. after_version raw) u e in
+    let version = bind_ok (member_range keys.Version (is_within 1 4 raw.version)) (λ _. after_version raw) u e in
     let top = bind_ok (member_range keys.Top (is_within 1 MAX_SHARE raw.top)) (λ _. after_top raw) u version.2 in
     let links = bind_ok (items_range keys.Links ranges.link_range raw.links) (λ _. after_links raw) u top.2 in
     let groups = bind_ok (items_range keys.Groups ranges.group_range raw.groups) (λ _. after_groups raw) u links.2 in

@@ -74,7 +74,7 @@ values_most top demand small (cluster ∷ clusters) share =
 
 -- ---- totals
 
-pub total_small : (plan : Plan) (reports : List Report) → AreClusters plan.top plan.clusters → length plan.clusters ≡ length plan.groups → length (task_numbers plan.clusters) ≤ 20_000
+pub total_small : (plan : Plan) (reports : List Report) → AreClusters plan.top plan.clusters → length plan.clusters ≡ length plan.groups → length (task_numbers plan.clusters) ≤ 1_048_576
     → All (λ report. report.amount ≤ MAX_AMOUNT) reports → total_of (allocation plan reports) < 2 ^ 64
 unfolding allocation
 total_small plan reports are same few all =

@@ -69,11 +69,11 @@ pub clusters_right : (top : ℕ) (groups : List Group) → refused_in_groups top
 clusters_right top groups e = groups_right top 0 0 groups (below_none (Key keys.Groups) (first_refused (refused_in_group top) 0 groups) e)
 
 -- a tree that is not refused has few tasks
-pub few_tasks : (clusters : List Cluster) → tree_fault clusters ≡ None → length (task_numbers clusters) ≤ 20_000
+pub few_tasks : (clusters : List Cluster) → tree_fault clusters ≡ None → length (task_numbers clusters) ≤ 1_048_576
 few_tasks clusters e = go (position is_childless (walk clusters)) e where
-  go : (node : Option ℕ) → fault_by node (length (task_numbers clusters)) ≡ None → length (task_numbers clusters) ≤ 20_000
+  go : (node : Option ℕ) → fault_by node (length (task_numbers clusters)) ≡ None → length (task_numbers clusters) ≤ 1_048_576
   go (Some node) e = absurd cc
-  go None e = test (nat_lt 20_000 (length (task_numbers clusters))) refl e where
-    test : (b : Bool) → nat_lt 20_000 (length (task_numbers clusters)) ≡ b → ◌≡◌ {A = Option TreeFault} (cond {A = Option TreeFault} b (Some (TooManyTasks (length (task_numbers clusters)))) None) None → length (task_numbers clusters) ≤ 20_000
+  go None e = test (nat_lt 1_048_576 (length (task_numbers clusters))) refl e where
+    test : (b : Bool) → nat_lt 1_048_576 (length (task_numbers clusters)) ≡ b → ◌≡◌ {A = Option TreeFault} (cond {A = Option TreeFault} b (Some (TooManyTasks (length (task_numbers clusters)))) None) None → length (task_numbers clusters) ≤ 1_048_576
     test true is e = absurd cc
-    test false is e = ltb-false 20_000 (length (task_numbers clusters)) is
+    test false is e = ltb-false 1_048_576 (length (task_numbers clusters)) is
