@@ -16,7 +16,7 @@ use std::marker::Model;
 /// `prefix` reports.
 ///
 /// Limits are by task, lines by group and loads by link. Closings stand in their order.
-/// All groups get at most 20,000,000,000,000,000 together.
+/// All groups get at most `MAX_TOTAL` together.
 #[derive(Debug, Drop)]
 pub struct LimitTable {
     pub prefix: u64,

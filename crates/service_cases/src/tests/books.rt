@@ -39,9 +39,9 @@ fn a_book_is_full_at_the_limit(rt: HostRuntime) -> Result<(), Fail> {
     for place in 0..MAX_REPORTS {
         assert_eq!(rt; book.push(report), Ok(place));
     }
-    let full = BookError::Full { reports: 200_000 };
+    let full = BookError::Full { reports: 4_194_304 };
     assert_eq!(rt; book.push(report), Err(full));
-    assert_eq!(rt; book.len(), 200_000);
+    assert_eq!(rt; book.len(), 4_194_304);
     Ok(())
 }
 

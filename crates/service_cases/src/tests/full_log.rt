@@ -17,10 +17,10 @@ use std::test::*;
 fn a_full_log_takes_no_piece_of_two_but_one_of_one(rt: HostRuntime) -> Result<(), Fail> {
     let end = played(&rt, rt.alloc(), TestMaker::new(None, None), Case::FullLog);
     let wanted = End {
-        acked: 200_000,
-        length: 200_000,
-        covered: 200_000,
-        total: 200_000,
+        acked: 4_194_304,
+        length: 4_194_304,
+        covered: 4_194_304,
+        total: 4_194_304,
     };
     assert_eq!(rt; end, Some(wanted));
     Ok(())
@@ -40,11 +40,11 @@ pub fn fill_log<N: Profile<SmallTable>, B: Bases, R: Wait + Abort>(
     assert_eq!(rt; place_many(rt, alloc, board, pass), Ok(0));
     assert_eq!(rt;
         board.report(rt, alloc, pass, &[report, report]),
-        Err(ReportError::Full { held: 199_999 })
+        Err(ReportError::Full { held: 4_194_303 })
     );
-    assert_eq!(rt; pass.sent(), 199_999);
-    assert_eq!(rt; board.report(rt, alloc, pass, &[report]), Ok(199_999));
-    assert_eq!(rt; board.report(rt, alloc, pass, &[]), Ok(200_000));
+    assert_eq!(rt; pass.sent(), 4_194_303);
+    assert_eq!(rt; board.report(rt, alloc, pass, &[report]), Ok(4_194_303));
+    assert_eq!(rt; board.report(rt, alloc, pass, &[]), Ok(4_194_304));
 }
 
 // Reports a piece of one report less than a log may have.
@@ -66,7 +66,7 @@ fn copies_of(alloc: Global, report: Report) -> Result<Vec<Report>, AllocError>
     ensures copies { IfOk result (λ copies. All (λ copy. copy ≡ report) copies.items) }
 {
     let mut copies = Vec::new(alloc);
-    for _ in 0..199_999 {
+    for _ in 0..4_194_303 {
         copies.push(report)?;
     }
     Ok(copies)
