@@ -1,12 +1,16 @@
 //! What a status tells of a call, and what joins two lines, each law the contract of a function
 //! that does nothing.
 
-ghost use Rattle.std.specs.Prelude.{◌≡◌};
+ghost use Rattle.std.specs.Prelude.{◌≡◌, ◌≢◌, ℕ};
+ghost use Rattle.bwe_specs.specs.DocumentLimits.{limits_of};
 ghost use Rattle.top_call.specs.Laws.{RunsAreLegal, SolvedIsServed, WhatRanIsFoundLegal};
 ghost use Rattle.top_call.specs.Statuses.{AcceptedIsAnswered, AnAnswerIsWhole, NothingIsWritten};
 
 use bwe_io::{Sink, Source};
-use bwe_specs::{MAX_INPUT, MAX_LONG_INPUT, MAX_READERS, MAX_READS, MAX_REPORTERS, MAX_REPORTS};
+use bwe_specs::{
+    MAX_ALL_HOPS, MAX_CLOSINGS, MAX_GROUPS, MAX_INPUT, MAX_LINKS, MAX_LONG_INPUT, MAX_READERS,
+    MAX_READS, MAX_REPORTERS, MAX_REPORTS, MAX_TASKS,
+};
 
 /// An answer is whole: the status is 0, 1 or 3 exactly where the words are a line, its whole input
 /// was taken in, and what the line may get for it with that status was written whole ("Statuses",
@@ -45,13 +49,43 @@ pub fn solved_is_served<S: Source, K: Sink>()
     ensures { SolvedIsServed S K }
 {}
 
-/// The limits that docs/FORMAT.md states are those of the code: readers and their reads, reporters
-/// and reports of a run, bytes of an input.
+/// The limits that docs/FORMAT.md states are those of the code: readers and their reads, bytes of
+/// an input.
 pub fn limits_are_those_of_the_format()
     ensures readers { MAX_READERS ≡ 64 }
     ensures reads { MAX_READS ≡ 1_000 }
-    ensures reporters { MAX_REPORTERS ≡ 64 }
-    ensures reports { MAX_REPORTS ≡ 200_000 }
     ensures input { MAX_INPUT ≡ 67_108_864 }
     ensures long_input { MAX_LONG_INPUT ≡ 1_073_741_824 }
+{}
+
+/// The same of what the version of a document decides ("The document", docs/FORMAT.md): the limits
+/// of a document that is not of version 4, and those of version 4, which are the greatest.
+pub fn limits_by_version_are_those_of_the_format()
+    ensures before_4 { (version : ℕ) → version ≢ 4 → limits_of version ≡ record {
+      links = 4_096;
+      groups = 1_024;
+      tasks = 20_000;
+      hops = 1_000_000;
+      reporters = 64;
+      reports = 200_000;
+      closings = 4_096;
+    } }
+    ensures of_4 { limits_of 4 ≡ record {
+      links = 65_536;
+      groups = 65_536;
+      tasks = 1_048_576;
+      hops = 16_777_216;
+      reporters = 4_096;
+      reports = 4_194_304;
+      closings = 65_536;
+    } }
+    ensures greatest { limits_of 4 ≡ record {
+      links = MAX_LINKS;
+      groups = MAX_GROUPS;
+      tasks = MAX_TASKS;
+      hops = MAX_ALL_HOPS;
+      reporters = MAX_REPORTERS;
+      reports = MAX_REPORTS;
+      closings = MAX_CLOSINGS;
+    } }
 {}

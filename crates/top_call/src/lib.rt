@@ -23,8 +23,9 @@ use bwe_io::{Sink, Source};
 use bwe_specs::OutOfMemory;
 use command_line::{CommandLine, command_line_of_words};
 pub use laws::{
-    accepted_is_answered, an_answer_is_whole, limits_are_those_of_the_format, nothing_is_written,
-    runs_are_legal, solved_is_served, what_ran_is_found_legal,
+    accepted_is_answered, an_answer_is_whole, limits_are_those_of_the_format,
+    limits_by_version_are_those_of_the_format, nothing_is_written, runs_are_legal,
+    solved_is_served, what_ran_is_found_legal,
 };
 use one_run::{finish, refuse_input, write_usage};
 pub use reading::read_input_of;
