@@ -1,11 +1,12 @@
 //! A table of what now stands.
 
-ghost use Rattle.std.specs.Prelude.{◌≡◌, ℕ, ◌+◌, ◌*◌, ◌<◌, ◌≤◌, length, map, flat_map, zip, slice_index, IfOk};
+ghost use Rattle.std.specs.Prelude.{◌≡◌, ℕ, ◌+◌, ◌*◌, ◌<◌, ◌≤◌, ◌^◌, length, map, flat_map, zip, slice_index, IfOk};
 ghost use Rattle.bwe_specs.specs.Reports.{numbers};
 ghost use Rattle.bwe_specs.specs.Tree.{cluster_limits};
 ghost use Rattle.policy_tree.specs.Trees.{demand_in, value_in};
 ghost use Rattle.mpfa_fill.specs.Filling.{IsFilling};
 ghost use Rattle.link_front.specs.Moves.{links_over_all};
+ghost use Rattle.link_solver.specs.Counts.{path_groups_in};
 ghost use Rattle.allocator.specs.Allocators.{IsFitted, table_by};
 ghost use Rattle.allocator.specs.Laws.{IsNoMoreThanAsked, IsConserved, IsShared, IsFeasible, IsHeldBack, IsTold, IsUnwasted, IsFair, IsTheSameInAnyOrder};
 ghost use Rattle.allocator.specs.Tables.{wan_by};
@@ -16,7 +17,7 @@ use crate::reported::Reported;
 use crate::values::TreeValues;
 use bwe_specs::OutOfMemory;
 use limit_table::{GroupLine, LimitTable};
-use link_solver::solve_by_looks;
+use link_solver::{Work, solve_by_looks};
 use mono_search::Steps;
 use mpfa_fill::Filling;
 use path_groups::PathPlan;
@@ -72,33 +73,60 @@ pub fn make_table(
 {
     reported.what_holds();
     let _tree = reported.tree();
-    counted_table::<Brand>(alloc, reported, plan, Blank::new(1))
+    counted_table::<Brand, Brand, Brand, Brand>(
+        alloc,
+        reported,
+        plan,
+        Blank::new(1),
+        Blank::new(1),
+        Blank::new(1),
+        Blank::new(1),
+    )
 }
 
-// The same on a counter of its own.
-fn counted_table<L: Ledger>(
+// The same on counters of its own.
+fn counted_table<L: Ledger, T: Ledger, P: Ledger, M: Ledger>(
     alloc: Global,
     reported: &Reported,
     plan: &PathPlan,
-    blank: Blank,
+    looks: Blank,
+    turns: Blank,
+    plays: Blank,
+    moves: Blank,
 ) -> Result<LimitTable, OutOfMemory>
     requires fitted { IsFitted reported.now plan.now }
-    requires name { blank.name ≡ L.name }
-    requires parts { blank.parts ≡ L.parts }
-    requires some { 0 < L.parts }
+    requires look_name { looks.name ≡ L.name }
+    requires look_parts { looks.parts ≡ L.parts }
+    requires some_look { 0 < L.parts }
+    requires turn_name { turns.name ≡ T.name }
+    requires turn_parts { turns.parts ≡ T.parts }
+    requires some_turn { 0 < T.parts }
+    requires play_name { plays.name ≡ P.name }
+    requires play_parts { plays.parts ≡ P.parts }
+    requires some_play { 0 < P.parts }
+    requires move_name { moves.name ≡ M.name }
+    requires move_parts { moves.parts ≡ M.parts }
+    requires some_move { 0 < M.parts }
     ensures { IfOk result (λ table. table ≡ table_by reported.now plan.now) }
 {
-    let mut steps: Steps<L> = Steps::new(blank);
-    make_table_by_looks(alloc, reported, plan, &mut steps)
+    let mut looks: Steps<L> = Steps::new(looks);
+    let mut work: Work<T, P, M> = Work {
+        turns: Steps::new(turns),
+        plays: Steps::new(plays),
+        moves: Steps::new(moves),
+    };
+    make_table_by_looks(alloc, reported, plan, &mut looks, &mut work)
 }
 
 /// The same table, with each look at a link counted: a look asks for the load of one link at one
-/// share (`solve_by_looks` of `link_solver`).
-pub fn make_table_by_looks<L: Ledger>(
+/// share. `work` counts the turns, the plays of the tournament between the links and the moves of
+/// groups (`solve_by_looks` of `link_solver`).
+pub fn make_table_by_looks<L: Ledger, T: Ledger, P: Ledger, M: Ledger>(
     alloc: Global,
     reported: &Reported,
     plan: &PathPlan,
     steps: &mut Steps<L>,
+    work: &mut Work<T, P, M>,
 ) -> Result<LimitTable, OutOfMemory>
     requires { IsFitted reported.now plan.now }
     ensures table { IfOk result (λ table. table ≡ table_by reported.now plan.now) }
@@ -106,8 +134,14 @@ pub fn make_table_by_looks<L: Ledger>(
     // Also where memory is wanting.
     ensures looks { let links = length reported.now.network.capacities in
         steps.new ≤ steps.old + 31 * (links + 2 * links_over_all links plan.now) }
+    ensures turns { IfOk result (λ table. work.new.turns + steps.old
+        ≤ work.old.turns + steps.new + length table.closings) }
+    ensures plays { let links = length reported.now.network.capacities in
+        (levels : ℕ) → links ≤ 2 ^ levels → work.new.plays + levels * work.old.turns
+        ≤ work.old.plays + levels * (work.new.turns + 2 * links_over_all links plan.now) }
+    ensures moves { work.new.moves ≤ work.old.moves + path_groups_in plan.now }
 {
-    let filling = filling_of(alloc, reported, plan, steps)?;
+    let filling = filling_of(alloc, reported, plan, steps, work)?;
     table_of_filling(alloc, reported, plan, filling)
 }
 
@@ -136,21 +170,28 @@ fn table_of_filling(
 }
 
 // The filling under what now stands.
-fn filling_of<L: Ledger>(
+fn filling_of<L: Ledger, T: Ledger, P: Ledger, M: Ledger>(
     alloc: Global,
     reported: &Reported,
     plan: &PathPlan,
     steps: &mut Steps<L>,
+    work: &mut Work<T, P, M>,
 ) -> Result<Filling, OutOfMemory>
     requires { IsFitted reported.now plan.now }
     ensures filling { IfOk result (IsFilling (wan_by reported.now plan.now)) }
     ensures looks { let links = length reported.now.network.capacities in
         steps.new ≤ steps.old + 31 * (links + 2 * links_over_all links plan.now) }
+    ensures turns { IfOk result (λ filling. work.new.turns + steps.old
+        ≤ work.old.turns + steps.new + length filling.closings.items) }
+    ensures plays { let links = length reported.now.network.capacities in
+        (levels : ℕ) → links ≤ 2 ^ levels → work.new.plays + levels * work.old.turns
+        ≤ work.old.plays + levels * (work.new.turns + 2 * links_over_all links plan.now) }
+    ensures moves { work.new.moves ≤ work.old.moves + path_groups_in plan.now }
 {
     let values = TreeValues {
         tree: reported.tree(),
     };
-    solve_by_looks(alloc, &values, reported.topology(), plan, steps)
+    solve_by_looks(alloc, &values, reported.topology(), plan, steps, work)
 }
 
 /// Each task's limit, where the groups have the amounts of these lines. All are kilobits per
