@@ -26,13 +26,13 @@ returns-in-Found g c =
       ends-after g.F.Follower.follow _ _ _ _ followed.0 c.serve_document.result c.in-Ok-read_front.ensures.counted followed.2,
     )
 
-pub refuse_open-requires-open : goal.refuse_open-requires-open
-refuse_open-requires-open g c =
+pub refuse_open-requires-clause-open : goal.refuse_open-requires-clause-open
+refuse_open-requires-clause-open g c =
     let bytes : List ℕ = c.in-Ok-read_front.read.0.items in
     subst (λ (b : List ℕ). IsFront b Open) (sym c.deref.ensures.value) (subst (λ front. IsFront bytes front) c.in-Open.is c.in-Ok-read_front.ensures.front)
 
-pub refuse_open-requires-end : goal.refuse_open-requires-end
-refuse_open-requires-end g c = c.in-Ok-read_front.ensures.end c.in-Open.is
+pub refuse_open-requires-clause-end : goal.refuse_open-requires-clause-end
+refuse_open-requires-clause-end g c = c.in-Ok-read_front.ensures.end c.in-Open.is
 
 pub returns-in-Open : goal.returns-in-Open
 returns-in-Open g c =
@@ -47,14 +47,14 @@ returns-in-Open g c =
 pub returns-in-Missing : goal.returns-in-Missing
 returns-in-Missing g c =
     let bytes : List ℕ = c.in-Ok-read_front.read.0.items in
-    let line : List ℕ = c.as_bytes-in-Missing.result.now in
+    let line : List ℕ = c.as_bytes.result.now in
     let front : IsFront bytes Missing = subst (λ front. IsFront bytes front) c.in-Missing.is c.in-Ok-read_front.ensures.front in
     let hopeless : HasNoDocument bytes = front.0 in
     let none : parts_of bytes ≡ None = ap parts_of (sym (append-nil bytes)) ∙ hopeless [] in
-    refused-line g.F.Follower.follow _ _ _ _ _ _ bytes line 3 c.refuse-in-Missing.result c.in-Ok-read_front.ensures.counted (c.in-Ok-read_front.ensures.read g.F.Follower.follow)
-    c.refuse-in-Missing.ensures.given c.refuse-in-Missing.ensures.partly
-    (subst (λ (l : List ℕ). IsDue g.F.Follower.follow 0 bytes l) (sym c.as_bytes-in-Missing.ensures.value) (no_front none))
-    (λ gives. no_document refl none front.1 (inr hopeless) c.as_bytes-in-Missing.ensures.value)
+    refused-line g.F.Follower.follow _ _ _ _ _ _ bytes line 3 c.refuse.result c.in-Ok-read_front.ensures.counted (c.in-Ok-read_front.ensures.read g.F.Follower.follow)
+    c.refuse.ensures.given c.refuse.ensures.partly
+    (subst (λ (l : List ℕ). IsDue g.F.Follower.follow 0 bytes l) (sym c.as_bytes.ensures.value) (no_front none))
+    (λ gives. no_document refl none front.1 (inr hopeless) c.as_bytes.ensures.value)
 
 pub returns : goal.returns
 returns g c =

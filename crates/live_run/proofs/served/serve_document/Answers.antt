@@ -28,6 +28,6 @@ returns-then-long g c =
     (subst (λ (l : List ℕ). IsDue g.F.Follower.follow 0 bytes l) (sym c.as_bytes.ensures.value) (long_document is))
     (λ gives. too_long refl is c.as_bytes.ensures.value)
 
-pub follow_document-requires-short : goal.follow_document-requires-short
-follow_document-requires-short g c =
+pub follow_document-requires-clause-short : goal.follow_document-requires-clause-short
+follow_document-requires-clause-short g c =
     ap (λ (b : List ℕ). g.F.Follower.follow.is_too_long (document_in b c.args.parts)) (sym c.deref.ensures.value) ∙ sym c.in-Ok.ensures ∙ c.if-long.false
