@@ -11,7 +11,7 @@
 ## make chaos    faults on bwe-control over both stores, judged; SECONDS=60 SEED=1 STORE=both
 ## make chaos-mutants  broken allocators, each of which the judge of chaos has to find
 ## make look     a first table in a minute; nothing of it is proved
-## make study    tables of thirty networks and demands beside stored optima
+## make study    tables of ninety demands on networks beside stored optima
 ## make study-references  the optima of the study anew, and docs/QUALITY.md
 ## make bench    times of the program on made documents
 ## make demo     real TCP that keeps to the limits, in five minutes, as root; QUICK=1 in 30 seconds

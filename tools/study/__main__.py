@@ -86,7 +86,7 @@ def page() -> None:
     from study.pictures import draw
 
     docs = ROOT / "docs"
-    parts = {part: read(part) for part in PARTS if part != "stored"}
+    parts = {part: read(part) for part in PARTS}
     text = docs / "QUALITY.md"
     text.write_text(with_tables(text.read_text(encoding="utf-8"), parts), encoding="utf-8")
     draw(parts, docs)

@@ -135,14 +135,20 @@ ORDERS = ("shortest", "longest", "chance")
 MADE = ("made16", "made32")
 
 
+SEEDS = (1, 2, 3)
+
+
 def traffics(networks: tuple[str, ...], seed: int = 1) -> list[Traffic]:
     return [Traffic(network, kind, seed) for network in networks for kind in KINDS]
 
 
 def stored() -> list[Case]:
-    """The thirty cases that `make study` holds against their stored references."""
+    """The ninety cases that `make study` holds against their stored references."""
     return [
-        Case(traffic, load, 4) for traffic in traffics(tuple(known())) for load in (1.0, 2.0, 4.0)
+        Case(traffic, load, 4)
+        for seed in SEEDS
+        for traffic in traffics(tuple(known()), seed)
+        for load in (1.0, 2.0, 4.0)
     ]
 
 

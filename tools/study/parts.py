@@ -20,16 +20,24 @@ RATIOS_AT = 2.0  # the load of the distribution of x/x*
 
 
 def stored(told: Told) -> dict[str, Any]:
-    """The thirty cases with all that `make study` needs: the document, the total, the optimum."""
+    """The ninety cases with all that `make study` needs: the document, the total, the optimum; and
+    how the table is beside that, for the page.
+    """
     found: dict[str, Any] = {}
     for case in cases.stored():
         told(case.name)
         measured = Measured(case)
         text = text_of(measured.document)
+        table = solve(text)
+        beside = measured.optimum.measures(amounts_of(table))
         found[case.name] = {
+            "seed": case.traffic.seed,
+            "load": case.load,
+            "of_fair": round(beside.of_fair, 5),
+            "fairness": round(beside.fairness, 5),
             "fits": fits_of(case.traffic),
             "document": digest(text),
-            "total": solve(text).total,
+            "total": table.total,
             "most": round(measured.optimum.most),
             "max_min": [round(amount) for amount in measured.optimum.fair.amounts],
         }

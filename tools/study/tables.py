@@ -72,6 +72,23 @@ def by_network(part: dict[str, Any]) -> str:
     return markdown(heads, lines)
 
 
+def by_seed(part: dict[str, Any]) -> str:
+    """A row a seed of the stored cases: throughput and fairness of the filling, by load."""
+    rows: Rows = list(part.values())
+    loads = sorted({row["load"] for row in rows})
+    heads = ["mean (worst)"]
+    for load in loads:
+        heads += [f"load {load:g}: throughput / max-min's", "fairness"]
+    lines = []
+    for seed in sorted({row["seed"] for row in rows}):
+        cells = [f"seed {seed}"]
+        for load in loads:
+            own = [row for row in rows if (row["seed"], row["load"]) == (seed, load)]
+            cells += [mean_and_worst(own, of) for of in ("of_fair", "fairness")]
+        lines.append(cells)
+    return markdown(heads, lines)
+
+
 def by_paths(part: dict[str, Any]) -> str:
     rows: Rows = part["rows"]
     heads = [
@@ -173,6 +190,7 @@ TABLES: dict[str, tuple[str, Callable[[dict[str, Any]], str]]] = {
     "fairness": ("load", lambda part: by_load(part, "fairness")),
     "networks": ("load", by_network),
     "claims": ("load", claims),
+    "seeds": ("stored", by_seed),
     "paths": ("paths", by_paths),
     "order": ("order", lambda part: by_method(part, "order of path groups", ORDERS)),
     "top": ("top", lambda part: by_method(part, "`top`", TOPS)),

@@ -55,9 +55,9 @@ def test_a_made_network_is_one_piece_and_always_the_same():
     assert reached == set(network.sites)
 
 
-def test_there_are_thirty_stored_cases_and_each_makes_the_document_of_its_reference():
+def test_there_are_ninety_stored_cases_and_each_makes_the_document_of_its_reference():
     references = read("stored")
-    assert len(references) == 30
+    assert len(references) == 90
     assert [case.name for case in cases.stored()] == list(references)
     for case in cases.stored()[:6]:
         document = case.document(references[case.name]["fits"])
@@ -112,6 +112,4 @@ def test_swan_is_within_alpha_of_max_min():
 
 def test_the_page_has_the_tables_of_the_references():
     page = (ROOT / "docs" / "QUALITY.md").read_text()
-    assert page == tables.with_tables(
-        page, {part: read(part) for part in PARTS if part != "stored"}
-    )
+    assert page == tables.with_tables(page, {part: read(part) for part in PARTS})
