@@ -10,16 +10,16 @@ use Rattle.plan_doc.specs.Refusals.{refused_links}
 use Rattle.plan_doc.proofs.TooManyFacts.{many_links, few_links}
 use Rattle.plan_doc.proofs.document.topology_within.Goals as goal
 
-pub returns-then-count-gt-most : goal.returns-then-count-gt-most
-returns-then-count-gt-most c =
+pub returns-then-count-most : goal.returns-then-count-most
+returns-then-count-most c =
     let links = map link_part (map link_view c.args.links.now) in
-    let count : length links ≡ c.len-count.result = omega (arith, c.len-count.ensures, length-map (map link_view c.args.links.now) link_part, length-map c.args.links.now link_view) in
-    ap (unless refused_links) (many_links c.args.most links (lt-ltb c.args.most (length links) (omega (arith, count, c.if-count-gt-most.true))) ∙ ap (λ n. Some (TooManyLinks n)) count)
+    let count : length links ≡ length c.args.links.now = length-map (map link_view c.args.links.now) link_part ∙ length-map c.args.links.now link_view in
+    ap (unless refused_links) (many_links c.args.most links (lt-ltb c.args.most (length links) (omega (arith, count, c.if-count-most.true))) ∙ ap (λ n. Some (TooManyLinks n)) count)
 
 pub returns : goal.returns
 returns c =
     let links = map link_part (map link_view c.args.links.now) in
-    let count : length links ≡ c.len-count.result = omega (arith, c.len-count.ensures, length-map (map link_view c.args.links.now) link_part, length-map c.args.links.now link_view) in
+    let count : length links ≡ length c.args.links.now = length-map (map link_view c.args.links.now) link_part ∙ length-map c.args.links.now link_view in
     subst (λ fault. Makes c.topology_of.result refused_links fault (λ topology. topology ≡ network_of links))
-    (sym (few_links c.args.most links (le-ltb c.args.most (length links) (omega (arith, count, c.if-count-gt-most.false)))))
+    (sym (few_links c.args.most links (le-ltb c.args.most (length links) (omega (arith, count, c.if-count-most.false)))))
     c.topology_of.ensures
