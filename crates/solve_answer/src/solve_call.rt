@@ -51,7 +51,8 @@ fn read_document_of<S: Source>(alloc: Global, source: &mut S) -> Result<Vec<u8>,
         → Takes (max_long_input + 1) (S.left source.old) (S.left source.new) }
 {
     let input = read_input(alloc, true, source)?;
-    if document_is_too_long(alloc, &input)? {
+    let long = document_is_too_long(alloc, &input)?;
+    if long {
         return Err(InputError::TooLong);
     }
     Ok(input)

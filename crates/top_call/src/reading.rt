@@ -34,7 +34,8 @@ pub fn read_input_of<S: Source>(
         × Takes (max_long_input + 1) (S.left source.old) (S.left source.new) }
 {
     let input = read_input(alloc, has_input(line), source)?;
-    if is_too_long(alloc, line, &input)? {
+    let long = is_too_long(alloc, line, &input)?;
+    if long {
         return Err(InputError::TooLong);
     }
     Ok(input)
@@ -52,14 +53,15 @@ fn is_too_long(alloc: Global, line: CommandLine, input: &[u8]) -> Result<bool, O
     ensures { IfOk result (λ is. is ≡ is_too_long line input.now) }
 {
     match line {
-        CommandLine::Solve
-        | CommandLine::Check
-        | CommandLine::Run { .. }
-        | CommandLine::Levels { .. } => document_is_too_long(alloc, input),
-        CommandLine::Make { .. } | CommandLine::Bulk { .. } => Ok(false),
-        CommandLine::Audit
-        | CommandLine::Tiers
-        | CommandLine::Enforce
-        | CommandLine::Estimate { .. } => parts_are_too_long(alloc, input),
+        CommandLine::Solve => document_is_too_long(alloc, input),
+        CommandLine::Check => document_is_too_long(alloc, input),
+        CommandLine::Run { .. } => document_is_too_long(alloc, input),
+        CommandLine::Levels { .. } => document_is_too_long(alloc, input),
+        CommandLine::Make { .. } => Ok(false),
+        CommandLine::Bulk { .. } => Ok(false),
+        CommandLine::Audit => parts_are_too_long(alloc, input),
+        CommandLine::Tiers => parts_are_too_long(alloc, input),
+        CommandLine::Enforce => parts_are_too_long(alloc, input),
+        CommandLine::Estimate { .. } => parts_are_too_long(alloc, input),
     }
 }
