@@ -4,7 +4,6 @@ pub mod Kept
 pub mod Lowered
 pub mod Step
 pub mod Made
-pub mod Agreeing
 pub mod Lower
 pub mod Lawful
 pub mod Complete

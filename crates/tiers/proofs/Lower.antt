@@ -15,7 +15,7 @@ use Rattle.table_laws.specs.Order.{cluster_at, limits_at}
 use Rattle.table_laws.proofs.Pieces as pieces
 use Rattle.table_laws.proofs.Walks.{numbered}
 use Rattle.tiers.specs.Laws.{AgreeUpTo, AreEqualUpTo}
-use Rattle.tiers.proofs.Agreeing.{cluster_value-same, cluster_limits-same}
+use Rattle.kept_tree.proofs.Agreeing.{cluster_value-same, cluster_limits-same}
 
 module _ (plan : Plan) (tiers : List ℕ) (last : ℕ) (capacities : List ℕ) (demand other : ℕ → ℕ) (clusters : length plan.clusters ≡ length plan.groups)
     (one_each : length tiers ≡ length plan.groups) (agree : AgreeUpTo plan tiers last demand other) where

@@ -1,0 +1,145 @@
+//! A network filled with the groups' values, of which many are kept.
+
+ghost use Rattle.std.specs.Prelude.{◌≡◌, ℕ, length, IfOk};
+ghost use Rattle.mpfa_fill.specs.Filling.{IsFilling};
+ghost use Rattle.mpfa_fill.specs.GroupValues.{wan_of};
+ghost use Rattle.path_groups.specs.Plan.{IsBuiltOn};
+ghost use Rattle.policy_tree.specs.Trees.{value_in};
+ghost use Rattle.kept_tree.specs.Known.{AreKnown, values_of};
+
+use crate::group::KnownGroup;
+use bwe_specs::OutOfMemory;
+use link_solver::solve_by_links;
+use mpfa_fill::{Filling, GroupValues};
+use path_groups::PathPlan;
+use policy_tree::PolicyTree;
+use std::alloc::Global;
+use std::cell::RefCell;
+use std::marker::{Brand, PhantomData};
+use wan_topology::Topology;
+
+/// What groups may have at shares, at the time of a filling.
+pub(crate) trait Meant {
+    ghost value: { ℕ → ℕ → ℕ };
+}
+
+impl Meant for Brand {
+    ghost value = { λ group share. 0 };
+}
+
+/// A value that was asked for and was not kept.
+#[derive(Drop)]
+struct Answer<K: Meant> {
+    group: u32,
+    share: u64,
+    value: u64,
+    of: PhantomData<K>,
+    ghost is: { value ≡ K.value group share },
+}
+
+/// The groups of a tree with what is kept of them. What else is asked for is listed.
+#[derive(Drop)]
+struct KnownValues<'a, K: Meant> {
+    tree: &'a PolicyTree,
+    known: &'a [KnownGroup],
+    answers: RefCell<Vec<Answer<K>>>,
+    ghost are: { AreKnown tree.now known.now },
+    ghost meant: { K.value ≡ value_in tree.now },
+}
+
+impl<K: Meant> KnownValues<'_, K> {
+    // Lists the value, where there is memory.
+    fn list(&self, group: u32, share: u64, value: u64)
+        requires { value ≡ value_in self.now.tree.now group share }
+    {
+        if let Ok(mut answers) = self.answers.try_borrow_mut() {
+            let answer = Answer {
+                group,
+                share,
+                value,
+                of: PhantomData,
+            };
+            let _ = answers.push(answer);
+        }
+    }
+}
+
+impl<K: Meant> GroupValues for KnownValues<'_, K> {
+    ghost meaning = { λ values. values_of values.tree.now };
+
+    fn groups(&self) -> u32 {
+        self.tree.groups()
+    }
+
+    fn top(&self) -> u64 {
+        self.tree.top()
+    }
+
+    fn value(&self, group: u32, share: u64) -> u64 {
+        if let Some(value) = self.known[group as usize].value(share) {
+            return value;
+        }
+        let value = self.tree.group_value(group, share);
+        self.list(group, share, value);
+        value
+    }
+}
+
+/// The filling with the values of the tree. Values that it asks for are kept from now on.
+pub(crate) fn filled(
+    alloc: Global,
+    tree: &PolicyTree,
+    known: &mut [KnownGroup],
+    topology: &Topology,
+    plan: &PathPlan,
+) -> Result<Filling, OutOfMemory>
+    requires built_on { IsBuiltOn topology.now plan.now }
+    requires groups { length tree.now.clusters ≡ length plan.now }
+    requires known { AreKnown tree.now known.old }
+    ensures filling { IfOk result
+        (IsFilling (wan_of (values_of tree.now) plan.now topology.now.capacities)) }
+    ensures known { AreKnown tree.now known.new }
+{
+    filled_by::<Brand>(alloc, tree, known, topology, plan)
+}
+
+// The same, where the values are told apart by their meaning.
+fn filled_by<K: Meant>(
+    alloc: Global,
+    tree: &PolicyTree,
+    known: &mut [KnownGroup],
+    topology: &Topology,
+    plan: &PathPlan,
+) -> Result<Filling, OutOfMemory>
+    requires meant { K.value ≡ value_in tree.now }
+    requires built_on { IsBuiltOn topology.now plan.now }
+    requires groups { length tree.now.clusters ≡ length plan.now }
+    requires known { AreKnown tree.now known.old }
+    ensures filling { IfOk result
+        (IsFilling (wan_of (values_of tree.now) plan.now topology.now.capacities)) }
+    ensures known { AreKnown tree.now known.new }
+{
+    let values: KnownValues<K> = KnownValues {
+        tree,
+        known: &*known,
+        answers: RefCell::new(Vec::new(alloc)),
+    };
+    let filling = solve_by_links(alloc, &values, topology, plan);
+    let KnownValues { answers, .. } = values;
+    let answers = answers.into_inner();
+    add_answers(tree, known, &answers);
+    filling
+}
+
+// Keeps the values that were listed.
+fn add_answers<K: Meant>(tree: &PolicyTree, known: &mut [KnownGroup], answers: &[Answer<K>])
+    requires meant { K.value ≡ value_in tree.now }
+    requires known { AreKnown tree.now known.old }
+    ensures { AreKnown tree.now known.new }
+{
+    for answer in answers {
+        if answer.group < tree.groups() {
+            known[answer.group as usize].add_value(answer.share, answer.value);
+        }
+    }
+}
