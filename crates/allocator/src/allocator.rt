@@ -7,7 +7,7 @@ ghost use Rattle.path_groups.specs.Plan.{IsBuiltOn};
 ghost use Rattle.policy_tree.specs.Trees.{task_numbers};
 
 use crate::reported::Reported;
-use crate::table::make_table;
+use crate::table::present_table;
 use crate::values::TreeValues;
 use bwe_specs::{OutOfMemory, Report};
 use demand_book::Maker;
@@ -18,7 +18,10 @@ use std::alloc::Global;
 use std::marker::Model;
 use wan_topology::Topology;
 
-/// Makes tables of limits from reports. It keeps nothing of a table that it made.
+/// Makes tables of limits from reports.
+///
+/// After `keep` it keeps of each table that it makes the values that were asked for and each
+/// group's limits, so that the next one costs what has changed. Before, it keeps nothing.
 #[derive(Drop)]
 pub struct Allocator {
     reported: Reported,
@@ -97,6 +100,13 @@ impl Allocator {
         ensures refused { OnErr result (self.new ≡ self.old) }
     {
         self.reported.absorb(alloc, report)
+    }
+
+    /// From now on it keeps of a table what the next one may need.
+    pub fn keep(&mut self, alloc: Global) -> Result<(), OutOfMemory>
+        ensures { self.new ≡ self.old }
+    {
+        self.reported.keep(alloc)
     }
 
     /// How many reports were taken in.
@@ -187,6 +197,6 @@ impl Maker for Allocator {
 
     fn table(&mut self, alloc: Global) -> Result<LimitTable, OutOfMemory> {
         self.reported.rematch();
-        make_table(alloc, &self.reported, &self.plan)
+        present_table(alloc, &mut self.reported, &self.plan)
     }
 }

@@ -8,8 +8,10 @@
 //! one path group the table is max-min fair up to one unit of share, the groups in another order get
 //! the same, and no other table is written as the same text. How many looks at links it takes is a
 //! clause of `make_table_by_looks`, which it calls. `Reported` keeps a tree and a network as they
-//! stand after reports; `TreeValues` lends a tree's groups to the filling. Nothing is promised of
-//! time.
+//! stand after reports; `TreeValues` lends a tree's groups to the filling. After `keep` the tree of
+//! an allocator keeps values and limits from one table to the next (`kept_tree`), so that a table
+//! after few reports costs what has changed; it is the same table, as the clause of `table` says.
+//! Nothing is promised of time.
 #![tactic(auto)]
 
 mod allocator;

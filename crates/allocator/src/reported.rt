@@ -1,14 +1,21 @@
 //! A tree and a network as they stand after reports.
 
-ghost use Rattle.std.specs.Prelude.{◌≡◌, ◌+◌, ◌^◌, ◌<◌, ◌≤◌, ◌++◌, ◌∷◌, [], ℕ, All, List, length, IfOk, OnOk, OnErr, Some, unwrap_or};
+ghost use Rattle.std.specs.Prelude.{◌≡◌, ◌+◌, ◌^◌, ◌<◌, ◌≤◌, ◌++◌, ◌∷◌, [], ℕ, All, List, length, flat_map, zip, slice_index, IfOk, OnOk, OnErr, Some, unwrap_or};
 ghost use Rattle.bwe_specs.specs.declared.report.Report.{Report};
 ghost use Rattle.demand_book.specs.Fit.{IsFit};
-ghost use Rattle.policy_tree.specs.Trees.{asking, value_in, IsTree};
+ghost use Rattle.bwe_specs.specs.Tree.{cluster_limits};
+ghost use Rattle.mpfa_fill.specs.Filling.{IsFilling};
+ghost use Rattle.policy_tree.specs.Trees.{asking, demand_in, value_in, IsTree};
 ghost use Rattle.bwe_specs.specs.Values.{AreValues};
 ghost use Rattle.wan_topology.specs.Network.{IsNetwork};
+ghost use Rattle.allocator.specs.Allocators.{IsFitted};
+ghost use Rattle.allocator.specs.Tables.{wan_by};
 ghost use Rattle.allocator.specs.Reported.{Reported as ReportedView, IsAfter, kept, with_capacity, with_report};
 
 use bwe_specs::{MAX_AMOUNT, OutOfMemory, Report, Target};
+use kept_tree::KeptTree;
+use mpfa_fill::Filling;
+use path_groups::PathPlan;
 use policy_tree::PolicyTree;
 use std::alloc::Global;
 use std::marker::Model;
@@ -20,7 +27,7 @@ use wan_topology::Topology;
 /// capacities that the network was given are kept from the first report that changes one.
 #[derive(Drop)]
 pub struct Reported {
-    tree: PolicyTree,
+    tree: KeptTree,
     topology: Topology,
     given: Option<Vec<u64>>,
     prefix: u64,
@@ -28,6 +35,8 @@ pub struct Reported {
 
 impl Model for Reported {
     ghost use Rattle.std.specs.Prelude.{unwrap_or};
+    ghost use Rattle.allocator.specs.Allocators.{IsFitted};
+    ghost use Rattle.allocator.specs.Tables.{wan_by};
     ghost use Rattle.allocator.specs.Reported.{Reported as ReportedView, kept};
 
     ghost Value = { ReportedView };
@@ -51,7 +60,7 @@ impl Reported {
         } }
     {
         Reported {
-            tree,
+            tree: KeptTree::new(tree),
             topology,
             given: None,
             prefix: 0,
@@ -65,8 +74,9 @@ impl Reported {
         ensures values { AreValues (length result.now.clusters) result.now.top
             (value_in result.now) }
     {
-        self.tree.what_holds();
-        &self.tree
+        let tree = self.tree.tree();
+        tree.what_holds();
+        tree
     }
 
     /// The network, with the capacities that were reported.
@@ -93,6 +103,41 @@ impl Reported {
         ensures { result ≡ self.now.prefix }
     {
         self.prefix
+    }
+
+    /// From now on the tree keeps what it is asked for tables.
+    pub fn keep(&mut self, alloc: Global) -> Result<(), OutOfMemory>
+        ensures { self.new ≡ self.old }
+    {
+        self.tree.keep(alloc)
+    }
+
+    /// Whether the tree keeps what it is asked for tables.
+    pub fn keeps(&self) -> bool {
+        self.tree.keeps()
+    }
+
+    /// The filling under what now stands, with values that the tree keeps.
+    pub(crate) fn fill(&mut self, alloc: Global, plan: &PathPlan) -> Result<Filling, OutOfMemory>
+        requires { IsFitted self.old plan.now }
+        ensures same { self.new ≡ self.old }
+        ensures filling { IfOk result (IsFilling (wan_by self.old plan.now)) }
+    {
+        self.tree.fill(alloc, &self.topology, plan)
+    }
+
+    /// Each task's limit, where the groups have these amounts, with limits that the tree keeps. All
+    /// are kilobits per second.
+    pub(crate) fn limits(&mut self, alloc: Global, amounts: &[u64]) -> Result<Vec<u64>, OutOfMemory>
+        requires amounts { length amounts.now ≡ length self.old.tree.clusters }
+        requires within { (group : ℕ) → group < length self.old.tree.clusters
+            → slice_index amounts.now group ≤ value_in self.old.tree group self.old.tree.top }
+        ensures same { self.new ≡ self.old }
+        ensures limits { IfOk result (λ limits. limits.items ≡ flat_map
+            (λ given. cluster_limits self.old.tree.top (demand_in self.old.tree) given.0 given.1)
+            (zip self.old.tree.clusters amounts.now)) }
+    {
+        self.tree.limits(alloc, amounts)
     }
 
     /// Makes the tree's values cheap again after demands were reported. Nothing changes.
@@ -124,7 +169,7 @@ impl Reported {
         ensures network { result.1 ≡ self.network }
     {
         let Reported { tree, topology, .. } = self;
-        (tree, topology)
+        (tree.into_tree(), topology)
     }
 
     fn absorb_demand(&mut self, task: u32, demand: u64) -> Result<(), OutOfMemory>

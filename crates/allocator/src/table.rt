@@ -9,6 +9,7 @@ ghost use Rattle.link_front.specs.Moves.{links_over_all};
 ghost use Rattle.link_solver.specs.Counts.{path_groups_in};
 ghost use Rattle.allocator.specs.Allocators.{IsFitted, table_by};
 ghost use Rattle.allocator.specs.Laws.{IsNoMoreThanAsked, IsConserved, IsShared, IsFeasible, IsHeldBack, IsTold, IsUnwasted, IsFair, IsTheSameInAnyOrder};
+ghost use Rattle.allocator.specs.Lines.{line_in};
 ghost use Rattle.allocator.specs.Tables.{wan_by};
 
 use crate::line::group_lines;
@@ -156,9 +157,31 @@ fn table_of_filling(
     requires filling { IsFilling (wan_by reported.now plan.now) filling }
     ensures { IfOk result (λ table. table ≡ table_by reported.now plan.now) }
 {
-    let (tree, topology) = (reported.tree(), reported.topology());
+    let tree = reported.tree();
     let groups = group_lines(alloc, plan, &filling)?;
     let limits = limits_of(alloc, tree, &groups)?;
+    table_of_limits(alloc, reported, plan, filling, groups, limits)
+}
+
+// The same, once the lines of its groups and its limits are made.
+fn table_of_limits(
+    alloc: Global,
+    reported: &Reported,
+    plan: &PathPlan,
+    filling: Filling,
+    groups: Vec<GroupLine>,
+    limits: Vec<u64>,
+) -> Result<LimitTable, OutOfMemory>
+    requires fitted { IsFitted reported.now plan.now }
+    requires filling { IsFilling (wan_by reported.now plan.now) filling }
+    requires groups { groups.items
+        ≡ map (line_in plan.now filling) (numbers (length plan.now)) }
+    requires limits { limits.items ≡ flat_map (λ given.
+        cluster_limits reported.now.tree.top (demand_in reported.now.tree) given.0 given.1)
+        (zip reported.now.tree.clusters (map (λ line. line.amount) groups.items)) }
+    ensures { IfOk result (λ table. table ≡ table_by reported.now plan.now) }
+{
+    let (_tree, topology) = (reported.tree(), reported.topology());
     let loads = loads_of(alloc, topology, plan, &filling.amounts)?;
     Ok(LimitTable {
         prefix: reported.prefix(),
@@ -167,6 +190,42 @@ fn table_of_filling(
         loads,
         closings: filling.closings,
     })
+}
+
+/// The same table, made with what the tree keeps, where it keeps anything: groups that nothing has
+/// changed for are not asked again, and not handed down to.
+pub(crate) fn present_table(
+    alloc: Global,
+    reported: &mut Reported,
+    plan: &PathPlan,
+) -> Result<LimitTable, OutOfMemory>
+    requires { IsFitted reported.old plan.now }
+    ensures same { reported.new ≡ reported.old }
+    ensures table { IfOk result (λ table. table ≡ table_by reported.old plan.now) }
+{
+    if reported.keeps() {
+        remade_table(alloc, reported, plan)
+    } else {
+        make_table(alloc, reported, plan)
+    }
+}
+
+// The same, where the tree keeps what it is asked.
+fn remade_table(
+    alloc: Global,
+    reported: &mut Reported,
+    plan: &PathPlan,
+) -> Result<LimitTable, OutOfMemory>
+    requires { IsFitted reported.old plan.now }
+    ensures same { reported.new ≡ reported.old }
+    ensures table { IfOk result (λ table. table ≡ table_by reported.old plan.now) }
+{
+    let _tree = reported.tree();
+    let filling = reported.fill(alloc, plan)?;
+    let groups = group_lines(alloc, plan, &filling)?;
+    let amounts = amounts_of(alloc, &groups)?;
+    let limits = reported.limits(alloc, &amounts)?;
+    table_of_limits(alloc, reported, plan, filling, groups, limits)
 }
 
 // The filling under what now stands.
@@ -209,9 +268,17 @@ pub fn limits_of(
         ≡ flat_map (λ given. cluster_limits tree.now.top (demand_in tree.now) given.0 given.1)
         (zip tree.now.clusters (map (λ line. line.amount) groups.now))) }
 {
+    let amounts = amounts_of(alloc, groups)?;
+    all_limits(alloc, tree, &amounts)
+}
+
+// What the groups of these lines get, in kilobits per second.
+fn amounts_of(alloc: Global, groups: &[GroupLine]) -> Result<Vec<u64>, OutOfMemory>
+    ensures { IfOk result (λ amounts. amounts.items ≡ map (λ line. line.amount) groups.now) }
+{
     let mut amounts = Vec::new(alloc);
     for line in groups {
         amounts.push(line.amount)?;
     }
-    all_limits(alloc, tree, &amounts)
+    Ok(amounts)
 }

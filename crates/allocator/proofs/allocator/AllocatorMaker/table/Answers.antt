@@ -8,9 +8,9 @@ use Rattle.allocator.proofs.allocator.AllocatorMaker.table.Goals as goal
 
 pub returns-clause-table : goal.returns-clause-table
 returns-clause-table c =
-    IfOk-weaker c.make_table.result _ _
+    IfOk-weaker c.present_table.result _ _
     (λ made table reports after.
     let same : IsAfter c.self.inside.reported reports = subst (λ allocating. IsAfter allocating.reported reports) (sym c.self.view_is) after in
     subst (λ allocating. made ≡ allocation (plan_in allocating) reports) c.self.view_is
     (table ∙ table-after c.self.inside.reported c.self.inside.plan reports same))
-    (rw (c.rematch.ensures) at c.make_table.ensures.table)
+    (rw (c.rematch.ensures) at c.present_table.ensures.table)
