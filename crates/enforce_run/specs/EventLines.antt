@@ -7,6 +7,7 @@ use Rattle.text_scan.specs.Cuts.{Cut, cut_at}
 use Rattle.text_scan.specs.Items.{items_of}
 use Rattle.text_scan.specs.Numbers.{printed_number_of}
 use Rattle.text_scan.specs.Words.{Text}
+use Rattle.bwe_specs.specs.declared.limits.TheConstants.{MAX_EVENTS}
 use Rattle.enforce_run.specs.declared.event.EventLine.{EventLine}
 use Rattle.enforce_run.specs.declared.event.EventLine.TheVariants.{Post, Send, Deliver, Reply, Restart}
 use Rattle.enforce_run.specs.declared.event.EventError.{EventError}
