@@ -57,7 +57,7 @@ impl LiveCore {
         ensures live { IfOk result (λ core. IsLive core script.now script.now) }
     {
         let told = LastReports::after(alloc, allocator.tasks(), allocator.links(), script)?;
-        let mut allocator = after_script(alloc, allocator, script)?;
+        let mut allocator = keeping_after(alloc, allocator, script)?;
         let table = allocator.table(alloc)?;
         Ok(LiveCore {
             allocator,
@@ -130,4 +130,25 @@ impl LiveCore {
     {
         Ok(self.told.reports(alloc)?)
     }
+}
+
+// The allocator after a script, which keeps of each table what the next one may need.
+fn keeping_after(
+    alloc: Global,
+    allocator: Allocator,
+    script: &[Report],
+) -> Result<Allocator, OutOfMemory>
+    requires first { ⟦<Allocator as Maker>⟧.absorbed allocator [] }
+    requires few { length script.now ≤ MAX_REPORTS }
+    requires fit { All (IsFit (⟦<Allocator as Maker>⟧.plan_tasks (⟦<Allocator as Maker>⟧.plan allocator))
+        (⟦<Allocator as Maker>⟧.plan_links (⟦<Allocator as Maker>⟧.plan allocator)))
+        script.now }
+    ensures absorbed { IfOk result
+        (λ after. ⟦<Allocator as Maker>⟧.absorbed after script.now) }
+    ensures plan { IfOk result
+        (λ after. ⟦<Allocator as Maker>⟧.plan after ≡ ⟦<Allocator as Maker>⟧.plan allocator) }
+{
+    let mut allocator = after_script(alloc, allocator, script)?;
+    allocator.keep(alloc)?;
+    Ok(allocator)
 }
