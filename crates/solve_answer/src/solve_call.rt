@@ -50,8 +50,14 @@ fn read_document_of<S: Source>(alloc: Global, source: &mut S) -> Result<Vec<u8>,
     ensures far_too_long { IsErrOf result InputError.FarTooLong
         → Takes (max_long_input + 1) (S.left source.old) (S.left source.new) }
 {
-    let input = read_input(alloc, true, source)?;
-    let long = document_is_too_long(alloc, &input)?;
+    let input = match read_input(alloc, true, source) {
+        Ok(input) => input,
+        Err(error) => return Err(error),
+    };
+    let long = match document_is_too_long(alloc, &input) {
+        Ok(long) => long,
+        Err(_) => return Err(InputError::OutOfMemory),
+    };
     if long {
         return Err(InputError::TooLong);
     }

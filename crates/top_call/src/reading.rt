@@ -33,8 +33,14 @@ pub fn read_input_of<S: Source>(
     ensures far_too_long { IsErrOf result InputError.FarTooLong → (reads line ≡ true)
         × Takes (max_long_input + 1) (S.left source.old) (S.left source.new) }
 {
-    let input = read_input(alloc, has_input(line), source)?;
-    let long = is_too_long(alloc, line, &input)?;
+    let input = match read_input(alloc, has_input(line), source) {
+        Ok(input) => input,
+        Err(error) => return Err(error),
+    };
+    let long = match is_too_long(alloc, line, &input) {
+        Ok(long) => long,
+        Err(_) => return Err(InputError::OutOfMemory),
+    };
     if long {
         return Err(InputError::TooLong);
     }
