@@ -1,4 +1,4 @@
-use Rattle.std.proofs.Common.{◌≡◌, ◌∙◌, true, false, ap, sym}
+use Rattle.std.proofs.Common.{◌∙◌, ap, sym}
 use Rattle.input_lengths.specs.Lengths.{document_is_too_long}
 use Rattle.solve_answer.proofs.solve_call.read_document_of.Goals as goal
 

@@ -1,4 +1,4 @@
-use Rattle.std.proofs.Common.{refl, ap, absurd, Err, true, false}
+use Rattle.std.proofs.Common.{refl, ap, Err}
 use Rattle.one_run.proofs.Ends.{ending-finished, ending-refused}
 use Rattle.solve_answer.proofs.solve_call.solve_once.Goals as goal
 

@@ -1,4 +1,4 @@
-use Rattle.std.proofs.Common.{◌≡◌, ◌∙◌, true, false, ap, sym}
+use Rattle.std.proofs.Common.{◌∙◌, ap, sym}
 use Rattle.top_call.specs.TopCall.{is_too_long}
 use Rattle.top_call.proofs.reading.read_input_of.Goals as goal
 
