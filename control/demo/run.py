@@ -6,6 +6,7 @@ from __future__ import annotations
 import argparse
 import os
 import pickle
+import shutil
 import signal
 import subprocess
 import sys
@@ -202,6 +203,9 @@ def why_not() -> str | None:
         require_kernel(Netlink())
     except ControlError as error:
         return str(error)
+    for command, package in (("ping", "iputils-ping"), ("iperf3", "iperf3")):
+        if shutil.which(command) is None:
+            return f"it needs {command}: apt-get install {package}"
     if subprocess.run(["unshare", "--net", "true"], capture_output=True, check=False).returncode:
         return "it needs root, for network namespaces"
     return None
