@@ -41,8 +41,17 @@ class Judge:
 
 
 def by_reader(calls: list[Call]) -> list[list[Block]]:
-    """What each reader saw, over all of its calls."""
-    found: defaultdict[str, list[Block]] = defaultdict(list)
+    """What each reader saw, over all of its calls.
+
+    A call that began while another one of that reader was at work is of a reader of its own.
+    """
+    found: defaultdict[str, list[list[Block]]] = defaultdict(list)
     for call in calls:
-        found[call.event.text("who")] += call.blocks
-    return list(found.values())
+        readers = found[call.event.text("who")]
+        free = (it for it in readers if not it or it[-1].at < call.event.at)
+        own = next(free, None)
+        if own is None:
+            own = []
+            readers.append(own)
+        own += call.blocks
+    return [it for readers in found.values() for it in readers]

@@ -159,16 +159,21 @@ class ReaderJudge:
         return calls
 
     def judge_readers(self, calls: Calls, floors: Floors) -> None:
-        stood, last = Stood(self.tables), defaultdict[str, int](int)
+        stood, seen = Stood(self.tables), defaultdict[str, list[Block]](list)
         for call in calls.of("limits"):
             self.verdict.count("reads by the command", not call.event.more.get("follow"))
+            who = call.event.text("who")
+            # Two reads of one who are at work side by side at times: neither is behind the other.
+            before = [it.prefix() for it in seen[who] if it.at < call.event.at]
+            last = max(before, default=0)
+            seen[who] += call.blocks
             for place, block in enumerate(call.blocks):
                 self.verdict.count("blocks")
-                prefix, who = block.prefix(), call.event.text("who")
-                if prefix < last[who]:
-                    text = f"{who} saw the prefix fall from {last[who]} to {prefix}"
-                    self.verdict.fault(2, last[who], "falls", text)
-                last[who] = max(prefix, last[who])
+                prefix = block.prefix()
+                if prefix < last:
+                    text = f"{who} saw the prefix fall from {last} to {prefix}"
+                    self.verdict.fault(2, last, "falls", text)
+                last = max(prefix, last)
                 floor = floors.before(call.event.at)
                 if place == 0 and prefix < floor:
                     text = f"{who} read {prefix}, and {floor} had been seen before it began"

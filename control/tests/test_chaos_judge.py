@@ -168,6 +168,19 @@ def test_a_reader_who_sees_the_prefix_fall(story):
     finds(story, 2, "falls", prefix)
 
 
+def test_two_reads_side_by_side_are_not_one_behind_the_other(story):
+    early = story.shown("r0")
+    first, second = (story.begin_call("limits", "look", "r0") for _ in range(2))
+    story.report("r0", b"demand t0 20000009\n")
+    story.post()
+    story.event(second, "block", text=early)
+    story.event(first, "block", text=story.shown("r0"))
+    assert not verdict_of(story).faults
+    third = story.begin_call("limits", "look", "r0")
+    story.event(third, "block", text=early)
+    assert {it.promise for it in verdict_of(story).faults} == {2, 3}
+
+
 def test_a_reader_who_sees_what_never_stood_together(story):
     early = story.shown("r0")
     story.report("r0", b"demand t0 20000009\n")
