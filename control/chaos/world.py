@@ -17,6 +17,7 @@ from chaos.scene import NETWORK, PREFIX, READ_BY, REPORTERS, Reports, document
 from chaos.values import posted_of
 
 ALLOCATORS = ("a1", "a2", "a3")
+HISTORY = "10"  # seconds that SQLite keeps, so that it is compacted in a run
 CATCH_UP = 120.0  # seconds in which what is reported has to be posted once all is well
 
 
@@ -99,7 +100,7 @@ class World:
         await self.begin_with(self.folder / "document.json")
         self.serve(self.record())
         for name in ALLOCATORS:
-            arguments = ["allocate", "--name", name, "--every", "0.05"]
+            arguments = ["allocate", "--name", name, "--every", "0.05", "--history", HISTORY]
             self.allocators[name] = Daemon(
                 self.stage, self.allocator_host(name), name, arguments, self.fork(name)
             )
