@@ -160,9 +160,13 @@ def results(program, count):
 
 def fault_in_full(program, kind):
     document = wide.hard(kind, 1, FULL_LINKS - (kind == "shed"), FULL_TASKS, FULL_TOP)
-    ran = subprocess.run(
-        [program, "solve"], input=wide.text(document), capture_output=True, timeout=SECONDS
-    )
+    line = [program, "solve"]
+    try:
+        ran = subprocess.run(
+            line, input=wide.text(document), capture_output=True, timeout=SECONDS
+        )
+    except subprocess.TimeoutExpired:
+        return f"no table after {SECONDS} seconds"
     steps = Steps(document)
     wanted = steps.table().encode()
     print(f"{kind}: {len(steps.closings)} closings", flush=True)

@@ -3,7 +3,7 @@
 from __future__ import annotations
 
 from bwe_tools import program
-from bwe_tools.document import Document, text_of, to_raw
+from bwe_tools.document import Document, document_text
 from bwe_tools.table import Table
 
 
@@ -20,4 +20,4 @@ def levels(document: Document, share: int) -> dict[str, int]:
 
 
 def _bytes(document: Document) -> bytes:
-    return text_of(to_raw(document)).encode()
+    return document_text(document).encode()

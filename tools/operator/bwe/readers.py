@@ -10,7 +10,7 @@ from bwe_tools.commands.from_csv import read_links
 from bwe_tools.commands.from_graphml import read_graph
 from bwe_tools.commands.from_sndlib import read_network
 from bwe_tools.convert import Choices, Conversion
-from bwe_tools.document import Document, ToolError, of_raw, parse, read_bytes, text_of, to_raw
+from bwe_tools.document import Document, ToolError, document_text, of_raw, parse, read_bytes
 from bwe_tools.matrices import read_matrices as matrices_of
 from bwe_tools.network import Network
 from bwe_tools.rows import read_demands
@@ -27,7 +27,7 @@ def read(path: Name) -> Document:
 def write(document: Document, path: Name) -> None:
     """Writes a document as `bwe` reads it."""
     try:
-        Path(path).write_text(text_of(to_raw(document)), encoding="utf-8")
+        Path(path).write_text(document_text(document), encoding="utf-8")
     except OSError as fault:
         raise ToolError(f"{fspath(path)} cannot be written: {fault.strerror}") from None
 

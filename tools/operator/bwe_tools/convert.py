@@ -6,6 +6,7 @@ from __future__ import annotations
 
 import json
 from collections import Counter
+from collections.abc import Iterator
 from dataclasses import dataclass
 from functools import wraps
 from itertools import permutations
@@ -17,6 +18,7 @@ from bwe_tools import rules
 from bwe_tools.document import ToolError, least_version, text_of
 from bwe_tools.limits import OF_4
 from bwe_tools.network import Demand, Namer, Network, rate
+from bwe_tools.progress import Progress
 from bwe_tools.routes import Routes
 
 OWNER, HOSTS = "noc", "hosts"
@@ -241,9 +243,9 @@ class Conversion:
             by_pair.setdefault((demand.source, demand.target), []).append(demand)
         most = max((demand.amount for demand in demands), default=1)
         group_names, task_names, groups, script, unreached = Namer(), Namer(), [], [], []
-        for (source, target), of_pair in by_pair.items():
-            ends = self.sites[source], self.sites[target]
-            ways = routes.between(*ends, self.choices.paths)
+        pairs = [(self.sites[source], self.sites[target]) for source, target in by_pair]
+        for (source, target), ends, ways in zip(by_pair, pairs, self.all_ways(routes, pairs)):
+            of_pair = by_pair[source, target]
             if not ways:
                 unreached.append((source, target))
                 continue
@@ -266,6 +268,13 @@ class Conversion:
             "script": script,
         }
         return {"version": least_version(parts)} | parts
+
+    def all_ways(self, routes: Routes, pairs) -> Iterator[list]:
+        """The paths of each pair in turn; of many pairs it is said how far that is."""
+        with Progress("pairs of sites whose paths are found") as told:
+            for number, ways in enumerate(routes.of_all(pairs, self.choices.paths), 1):
+                told(number, len(pairs))
+                yield ways
 
     def users(self, group: str, demands, most: int, task_names: Namer, script: list) -> list:
         """The users of a group with their jobs and tasks; each task's demand goes to the script."""

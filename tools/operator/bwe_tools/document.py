@@ -8,8 +8,9 @@ from __future__ import annotations
 
 import json
 import sys
-from collections.abc import Iterator
+from collections.abc import Callable, Iterator
 from dataclasses import dataclass
+from itertools import islice
 from operator import gt
 from typing import IO, Any, Optional
 
@@ -156,7 +157,9 @@ def read_bytes(path: str) -> bytes:
 
 def parse(data: bytes, path: str = "-") -> Document:
     """The document of some bytes; `path` is how a fault names where they come from."""
-    return of_raw(parse_raw(data, path))
+    raw = parse_raw(data, path)
+    with json_text.collector_at_rest():
+        return _of_raw(raw, _given_up)
 
 
 def parse_raw(data: bytes, path: str = "-") -> Raw:
@@ -165,7 +168,7 @@ def parse_raw(data: bytes, path: str = "-") -> Raw:
         raise ToolError(too_long(path, OF_4.size))
     raw: Raw
     try:
-        _, raw = json_text.parse(data)
+        raw = json_text.value_of(json_text.decoded(data))
     except json_text.NotJson as fault:
         if len(data) > BEFORE_4.size:
             raise ToolError(too_long(path, BEFORE_4.size)) from None
@@ -209,21 +212,33 @@ def faults(raw: Raw) -> Iterator[Fault]:
 def of_raw(raw: Raw) -> Document:
     """The document of JSON that is shaped as one."""
     with json_text.collector_at_rest():
-        return _of_raw(raw)
+        return _of_raw(raw, iter)
 
 
-def _of_raw(raw: Raw) -> Document:
+Taking = Callable[[list[Raw]], Iterator[Raw]]
+
+
+def _of_raw(raw: Raw, entries_of: Taking) -> Document:
     return Document(
         version=raw["version"],
         top=raw["top"],
-        links=tuple(link_of(link) for link in raw["links"]),
-        groups=tuple(group_of(group) for group in raw["groups"]),
+        links=tuple(map(link_of, entries_of(raw["links"]))),
+        groups=tuple(map(group_of, entries_of(raw["groups"]))),
         reporters=tuple(raw["reporters"]),
-        script=tuple(report_of(report) for report in raw["script"]),
+        script=tuple(map(report_of, entries_of(raw["script"]))),
         closings=tuple(
             Closing(closing["link"], closing["share"]) for closing in raw.get("closings", [])
         ),
     )
+
+
+def _given_up(entries: list[Raw]) -> Iterator[Raw]:
+    """The entries of a list, of which each is given up as it is taken: a great document stands
+    once in memory and not twice.
+    """
+    entries.reverse()
+    while entries:
+        yield entries.pop()
 
 
 def function_of(raw: list[list[int]]) -> Function:
@@ -273,17 +288,21 @@ def report_of(raw: Raw) -> Report:
 def to_raw(document: Document) -> Raw:
     """The JSON of a document: what `of_raw` reads back as the same document."""
     with json_text.collector_at_rest():
-        return _to_raw(document)
+        return {
+            key: list(value) if isinstance(value, map) else value
+            for key, value in _members(document).items()
+        }
 
 
-def _to_raw(document: Document) -> Raw:
+def _members(document: Document) -> Raw:
+    """The members of a document's JSON, in which long lists are made as they are read."""
     raw: Raw = {
         "version": document.version,
         "top": document.top,
-        "links": [raw_link(link) for link in document.links],
-        "groups": [raw_group(group) for group in document.groups],
+        "links": map(raw_link, document.links),
+        "groups": map(raw_group, document.groups),
         "reporters": list(document.reporters),
-        "script": [raw_report(report) for report in document.script],
+        "script": map(raw_report, document.script),
     }
     if document.closings:
         raw["closings"] = [{"link": one.link, "share": one.share} for one in document.closings]
@@ -347,14 +366,19 @@ def pieces(raw: Raw) -> Iterator[str]:
     for key, value in raw.items():
         yield f'{before}"{key}":'
         before = ",\n "
-        if isinstance(value, list) and value and isinstance(value[0], dict):
-            yield "[\n  " + ENCODE(value[0])
-            for start in range(1, len(value), ENTRIES):
-                yield "".join(",\n  " + ENCODE(one) for one in value[start : start + ENTRIES])
-            yield "]"
+        if isinstance(value, map) or (value and isinstance(value, list) and type(value[0]) is dict):
+            yield from _entries(iter(value))
         else:
             yield ENCODE(value)
     yield "}\n"
+
+
+def _entries(entries: Iterator[Raw]) -> Iterator[str]:
+    start = "[\n  "
+    while piece := ",\n  ".join(map(ENCODE, islice(entries, ENTRIES))):
+        yield start + piece
+        start = ",\n  "
+    yield "[]" if start[0] == "[" else "]"
 
 
 def dump(raw: Raw) -> str:
@@ -377,6 +401,14 @@ def text_of(raw: Raw) -> str:
     if len(text) <= limits_of(raw["version"]).size:
         return text
     return dump({**raw, "version": NEWEST})
+
+
+def document_text(document: Document) -> str:
+    """The text of a document (`text_of`), for which its JSON is not made as a whole."""
+    text = "".join(pieces(_members(document)))
+    if len(text) <= limits_of(document.version).size:
+        return text
+    return "".join(pieces({**_members(document), "version": NEWEST}))
 
 
 def at_least_3(document: Document) -> int:

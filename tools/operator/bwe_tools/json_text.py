@@ -12,6 +12,7 @@ from collections.abc import Iterator
 from contextlib import contextmanager
 from dataclasses import dataclass
 from itertools import accumulate
+from typing import Any
 
 MOST_LEVELS = 127
 MOST_WHOLE = 2**64 - 1
@@ -70,7 +71,7 @@ def refuse_constant(text: str):
     raise NotJson(f"{text} is no number of JSON", -1)
 
 
-def parse(data: bytes):
+def parse(data: bytes) -> tuple[str, Any]:
     """The text and its value. What `bwe` refuses as no JSON is NotJson."""
     text = decoded(data)
     return text, value_of(text)
@@ -87,7 +88,7 @@ def decoded(data: bytes) -> str:
         ) from None
 
 
-def value_of(text: str):
+def value_of(text: str) -> Any:
     """The value of a text. What `bwe` refuses as no JSON is NotJson."""
     has_doubtful = look_outside(text)
     try:
@@ -117,7 +118,7 @@ class OneOfEach:
     def __init__(self) -> None:
         self.known: dict[str, str] = {}
 
-    def put(self, found: dict) -> dict:
+    def put(self, found: dict[str, Any]) -> dict[str, Any]:
         if "reporter" in found:
             self.put_key(found, "reporter")
             self.put_key(found, "task" if "task" in found else "name")
@@ -125,8 +126,8 @@ class OneOfEach:
             self.put_links(found)
         return found
 
-    def put_links(self, found: dict) -> None:
-        links = found.get("links")
+    def put_links(self, found: dict[str, Any]) -> None:
+        links: Any = found.get("links")
         try:
             "".join(links)
         except TypeError:  # other than texts
@@ -134,7 +135,7 @@ class OneOfEach:
         if type(links) is list:
             found["links"] = list(map(self.known.setdefault, links, links))
 
-    def put_key(self, found: dict, key: str) -> None:
+    def put_key(self, found: dict[str, Any], key: str) -> None:
         text = found.get(key)
         if type(text) is str:
             found[key] = self.known.setdefault(text, text)
@@ -294,7 +295,7 @@ class Places:
         self.text = text
         self.lines = array("q", [0])
         self.lines.extend(found.end() for found in re.finditer("\n", text))
-        self.known: dict[int, dict | array] = {}
+        self.known: dict[int, dict[str, tuple[int, int]] | array[int]] = {}
 
     def offset_of(self, place, is_key: bool = False) -> int:
         """Where the value at a place stands, or its key. Of a key that an object repeats the last
@@ -308,7 +309,7 @@ class Places:
             key_at, at = found if isinstance(found, tuple) else (found, found)
         return key_at if is_key else at
 
-    def read(self, at: int) -> dict | array:
+    def read(self, at: int) -> dict[str, tuple[int, int]] | array[int]:
         """Where the members of an object stand, with their keys, or the entries of a list."""
         if self.text[at] == "{":
             return {step: (key, value) for step, key, value in members(self.text, at)}

@@ -10,7 +10,7 @@ from functools import cached_property
 from pathlib import Path
 from types import TracebackType
 
-from bwe_tools.document import Document, ToolError, text_of, to_raw
+from bwe_tools.document import Document, ToolError, document_text
 from bwe_tools.live_change import KeptTable, TableChange, merged, parse_change
 from bwe_tools.live_program import LiveProgram, RefusedReport
 from bwe_tools.table import Table, parse_table
@@ -60,7 +60,7 @@ class Live:
         self._link_owners = {link.name: link.owner for link in document.links}
         self._rows: list[str] = []
         self._unread: list[Change] = []
-        self._child = LiveProgram(text_of(to_raw(document)).encode(), program, timeout)
+        self._child = LiveProgram(document_text(document).encode(), program, timeout)
         self._kept = KeptTable(parse_table(self._child.first, "the answer of `bwe-live`"))
 
     def __enter__(self) -> Live:

@@ -2,13 +2,18 @@
 
 from __future__ import annotations
 
-from collections.abc import Iterable, Mapping
+import os
+from collections.abc import Iterable, Iterator, Mapping, Sequence
+from concurrent.futures import ProcessPoolExecutor
+from functools import partial
 from itertools import islice
 
 import networkx
 
 MOST_LINKS = 32
 MOST_LOOKS = 64
+MANY, AT_ONCE = 2_000, 64  # pairs for which all processors work, and those that one takes at once
+Pair = tuple[str, str]
 
 
 class Routes:
@@ -60,6 +65,26 @@ class Routes:
             return edge["length"] + (detour if node[0] == "link" and node[1] in links else 0)
 
         return link_names(networkx.shortest_path(self.graph, source, target, length_of))
+
+
+    def of_all(self, pairs: Sequence[Pair], most: int) -> Iterator[list[list[str]]]:
+        """The paths of each pair in turn (`between`); of many pairs on all processors."""
+        if len(pairs) <= MANY or os.cpu_count() == 1:
+            yield from (self.between(*pair, most) for pair in pairs)
+            return
+        with ProcessPoolExecutor(initializer=_keep, initargs=(self,)) as pool:
+            yield from pool.map(partial(_between_kept, most), pairs, chunksize=AT_ONCE)
+
+
+_kept: list[Routes] = []  # in a process that works for another one
+
+
+def _keep(routes: Routes) -> None:
+    _kept[:] = [routes]
+
+
+def _between_kept(most: int, pair: Pair) -> list[list[str]]:
+    return _kept[0].between(*pair, most)
 
 
 def common_links(paths) -> set:

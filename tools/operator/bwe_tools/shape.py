@@ -5,6 +5,7 @@ from __future__ import annotations
 import json
 from collections.abc import Iterable, Iterator
 from functools import lru_cache
+from typing import Any
 
 import jsonschema
 
@@ -153,7 +154,7 @@ def found_in(raw) -> Iterator[Fault]:
     return (fault for fault in map(fault_of, validator().iter_errors(raw)) if fault is not None)
 
 
-def found_in_entry(root: dict, key: str, at: int, entry) -> Iterator[Fault]:
+def found_in_entry(root: dict[str, Any], key: str, at: int, entry: Any) -> Iterator[Fault]:
     """The faults of an entry of a list of the root, which stands there alone."""
     for error in validator().iter_errors({**root, key: [entry]}):
         fault = fault_of(error, at) if [*error.absolute_path][:2] == [key, 0] else None
@@ -161,7 +162,7 @@ def found_in_entry(root: dict, key: str, at: int, entry) -> Iterator[Fault]:
             yield fault
 
 
-def by_parts(raw: dict) -> Iterator[Fault]:
+def by_parts(raw: dict[str, Any]) -> Iterator[Fault]:
     """The faults of the root, and of each entry of its lists that has not its shape: the others,
     a million maybe, cost no look of the schema's library.
     """

@@ -164,7 +164,7 @@ def is_shaped(raw: Any) -> bool:
     )
 
 
-def unsound_entries(raw: dict) -> Iterable[tuple[str, int]]:
+def unsound_entries(raw: dict[str, Any]) -> Iterable[tuple[str, int]]:
     """The key and number of each entry of a list of the root that has not its shape."""
     shape = Shape(raw["version"] if is_whole(raw.get("version")) else 3)
     for key in LISTS:

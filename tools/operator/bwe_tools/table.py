@@ -28,7 +28,7 @@ FORMS = {
 }
 
 
-@dataclass(frozen=True)
+@dataclass(frozen=True, slots=True)
 class Closing:
     """A link that closed, and the share at which it did; of a table of tiers the tier in whose
     filling it did.
@@ -44,7 +44,7 @@ class Closing:
         return self.link if self.tier is None else f"{self.link} in tier {self.tier}"
 
 
-@dataclass(frozen=True)
+@dataclass(frozen=True, slots=True)
 class LinkLoad:
     """What all amounts put on a link, in kilobits per second."""
 
@@ -52,7 +52,7 @@ class LinkLoad:
     load: int
 
 
-@dataclass(frozen=True)
+@dataclass(frozen=True, slots=True)
 class PathGroupAmount:
     """What a group has on one of its path groups, and the link that closed it, if one did."""
 
@@ -60,7 +60,7 @@ class PathGroupAmount:
     closed_by: str | None
 
 
-@dataclass(frozen=True)
+@dataclass(frozen=True, slots=True)
 class GroupAmount:
     """What a group got, and the share at which it stopped."""
 
@@ -70,7 +70,7 @@ class GroupAmount:
     path_groups: list[PathGroupAmount]
 
 
-@dataclass(frozen=True)
+@dataclass(frozen=True, slots=True)
 class TaskLimit:
     """What a task may send, in kilobits per second."""
 
@@ -78,7 +78,7 @@ class TaskLimit:
     limit: int
 
 
-@dataclass(frozen=True)
+@dataclass(frozen=True, slots=True)
 class Table:
     """A whole table, as `bwe solve` or `bwe tiers` writes it. Amounts, loads and limits are in
     kilobits per second; `tiers` is how many tiers there are, None where the table has none.

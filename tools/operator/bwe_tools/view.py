@@ -10,7 +10,7 @@ from bwe_tools.rate import rate
 from bwe_tools.table import Closing, GroupAmount, Table
 
 
-@dataclass(frozen=True)
+@dataclass(frozen=True, slots=True)
 class LinkView:
     """A link after the script. `closed_at` is the share at which it filled, None if it did not."""
 
@@ -34,7 +34,7 @@ class LinkView:
         return "open" if self.closed_at is None else f"full at share {self.closed_at}"
 
 
-@dataclass(frozen=True)
+@dataclass(frozen=True, slots=True)
 class PathGroupView:
     """A path group: paths as weights and links, what its group has on it, and what closed it.
 
@@ -48,7 +48,7 @@ class PathGroupView:
     also: tuple[str, ...] = ()
 
 
-@dataclass(frozen=True)
+@dataclass(frozen=True, slots=True)
 class TaskView:
     name: str
     group: str
@@ -64,7 +64,7 @@ class TaskView:
         return self.limit < self.demand
 
 
-@dataclass(frozen=True)
+@dataclass(frozen=True, slots=True)
 class GroupView:
     """A group: its tasks' demands, what its functions allow of them, and what it got."""
 
@@ -83,7 +83,7 @@ class GroupView:
         return self.amount < self.asks
 
 
-@dataclass(frozen=True)
+@dataclass(frozen=True, slots=True)
 class View:
     top: int
     reports: int

@@ -7,7 +7,7 @@ import subprocess
 import networkx
 import pytest
 
-from bwe_tools import rules, shape, units
+from bwe_tools import routes, rules, shape, units
 from bwe_tools.network import Namer
 from bwe_tools.program import find_program
 from bwe_tools.routes import Routes
@@ -578,6 +578,15 @@ def test_limits_of_a_document_are_told_in_a_sentence(tmp_path):
     assert "65,538 links in both directions are more than a document's 65,536" in fails(
         "from-csv", written(tmp_path, "l", star(32_769)), demands
     )
+
+
+def test_many_pairs_are_shared_out_and_get_the_same_paths(monkeypatch):
+    ends = [(one, other) for one in "abcdef" for other in "abcdef" if one < other]
+    links = [(f"{one}{other}", *pair) for one, other in ends for pair in [(one, other)]]
+    found = routes.Routes(links + [(f"{other}{one}", other, one) for one, other in ends])
+    alone = list(found.of_all(ends, 3))
+    monkeypatch.setattr(routes, "MANY", 2)
+    assert list(found.of_all(ends, 3)) == alone == [found.between(*pair, 3) for pair in ends]
 
 
 def star(arms):

@@ -7,7 +7,7 @@ from collections.abc import Callable, Iterator, Sequence
 import click
 
 from bwe_tools.columns import columns, few
-from bwe_tools.document import text_of, to_raw
+from bwe_tools.document import document_text
 from bwe_tools.files import read_document, write_output
 from bwe_tools.matrices import Matrix, read_matrices
 from bwe_tools.measures import Measures
@@ -75,7 +75,7 @@ def command(
     with Progress("split: matrices that are solved by linear programs") as progress:
         optima = optima_of(parsed, chosen, progress)
     written = split(parsed, optima, best_for == "worst", least / 100)
-    write_output(output, text_of(to_raw(written.document)))
+    write_output(output, document_text(written.document))
     gain = gain_of(parsed, written.document, chosen, optima)
     click.echo("\n".join(_page(written, gain, len(parsed.groups))), err=True)
 
