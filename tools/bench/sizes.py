@@ -3,7 +3,7 @@
 powers of ten.
 
     tools/bench/sizes.py -o docs/sizes.svg >table.md
-    tools/bench/sizes.py --program bwe=new/bwe --program plain=/tmp/plain -o sizes.svg
+    tools/bench/sizes.py --program bwe=new/bwe --program plain=other/plain -o sizes.svg
 
 Without --program it is the program of $BWE, or the built one. The documents are those of
 tools/bench/wide.py: meshes of 8 to 256 sites with all pairs, 16 tasks a pair and up to 1,048,576 in
