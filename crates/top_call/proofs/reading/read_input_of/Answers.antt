@@ -8,7 +8,7 @@ returns-in-Err-clause-too_long g c = λ is. absurd (c.in-Err.ensures.not_judged 
 pub returns-then-long-clause-too_long : goal.returns-then-long-clause-too_long
 returns-then-long-clause-too_long g c = λ _. (
   c.in-Ok.input.items,
-  c.in-Ok.ensures.input,
+  rw c.has_input.ensures at c.in-Ok.ensures.input,
   ap (is_too_long c.args.line) (sym c.deref.ensures.value) ∙ sym c.in-Ok-is_too_long.ensures ∙ c.if-long.true,
 )
 
