@@ -22,7 +22,7 @@ reply_of status text = record { status = status; text = text }
 
 -- there is a number for each reporter
 pub sent-few : (plan : Plan) (document : Document) (readers reads : ℕ) (log : CrewLog Table) → IsRunOf plan document.script.items (reporter_count document) readers reads log
-    → reporter_count document ≤ 64 → length log.sent.items < 4_294_967_296
+    → reporter_count document ≤ 4_096 → length log.sent.items < 4_294_967_296
 sent-few plan document readers reads log run few =
     omega (arith, ap length run.legal.sent, length-map run.scripts (λ script. length script.items), split-count (reporter_count document) document.script.items run.scripts run.split, few)
 
