@@ -97,14 +97,14 @@ fn fill<M: Maker, R: Abort>(rt: &R, alloc: Global, core: &mut CoreState<M>) -> R
     requires plan { (M.plan_tasks (M.plan core.old.maker) ≡ 2)
         × (M.plan_links (M.plan core.old.maker) ≡ 1) }
 {
-    let piece = reported(alloc, 80, 199_999)?;
+    let piece = reported(alloc, 80, 4_194_303)?;
     answers(rt, alloc, core, piece, Ok(CoreAnswer::Placed { first: 0 }));
     let piece = reported(alloc, 80, 2)?;
-    let full = Err(CoreError::Full { held: 199_999 });
+    let full = Err(CoreError::Full { held: 4_194_303 });
     answers(rt, alloc, core, piece, full);
     assert_eq!(rt;
         (core.log_length(), core.posted(), core.floor(0)),
-        (199_999, 0, 0)
+        (4_194_303, 0, 0)
     );
     Ok(())
 }
