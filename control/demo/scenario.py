@@ -179,15 +179,15 @@ FULL = Plan(
 )
 # With what comes before and after it on a machine at rest, 30 seconds in all.
 QUICK = Plan(
-    21,
+    18,
     (
         Event(0, "nothing", label="no limits"),
-        Event(4, "enforce", label="limits in force"),
-        Event(10, "report", ("ac", "20000"), label="a→c has\n20 Mbit/s"),
-        Event(10.5, "line", ("ac", "20000")),
-        Event(14, "kill leader", label="leader\nkilled"),
-        Event(17.5, "kill agent", label="agent\nkilled"),
-        Event(19, "start agent"),
+        Event(3, "enforce", label="limits in force"),
+        Event(8, "report", ("ac", "20000"), label="a→c has\n20 Mbit/s"),
+        Event(8.5, "line", ("ac", "20000")),
+        Event(11.5, "kill leader", label="leader\nkilled"),
+        Event(14.5, "kill agent", label="agent\nkilled"),
+        Event(16, "start agent"),
     ),
     idle=1,
     settling=2,
