@@ -1,4 +1,4 @@
-"""Documents at the limits of version 4, for the scripts of cases: `stdin.py` and `stdout.py` beside
+"""Documents at the limits of the format, for the scripts of cases: `stdin.py` and `stdout.py` beside
 a case put them together and write them, so that no megabyte is stored.
 
 A document is given by its members, each the bytes of its JSON; what is not given is that of
@@ -67,6 +67,19 @@ def one_group(tasks: int = 1) -> bytes:
     """A list of one group, which has a job of so many tasks."""
     group = GROUP % (JOB % listed(TASK, tasks))
     return b"[" + group.replace(b'"g#"', b'"g0"') + b"]"
+
+
+def reports(count: int) -> bytes:
+    """A document of version 1 with so many reports of one task, the last of which asks for 7 of 9."""
+    job = JOB.replace(b"[1,1]", b"[9,9]") % (b"[" + TASK + b"]")
+    before = repeated(REPORT, count - 1)[:-1]
+    return document(
+        version=b"1",
+        top=b"9",
+        links=b"[" + LINK.replace(b"#", b"0").replace(b":1}", b":100}") + b"]",
+        groups=b"[" + (GROUP % job).replace(b"#", b"0") + b"]",
+        script=before + b"," + REPORT.replace(b":1}", b":7}") + b"]",
+    )
 
 
 def chains(hops: int) -> tuple[bytes, bytes]:

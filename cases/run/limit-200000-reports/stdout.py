@@ -1,6 +1,6 @@
 #!/usr/bin/python3
 """The run of 200,000 reports of one reporter, whose one reader reads at the end alone."""
-demands = [k % 9 for k in range(199999)] + [7]
+demands = [1] * 199999 + [7]
 print("history 200000")
 for at, demand in enumerate(demands):
     print(f"report {at} r0 t0 {demand}")

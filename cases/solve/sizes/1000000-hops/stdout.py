@@ -1,14 +1,8 @@
 #!/usr/bin/python3
-"""The table of 123 groups with 1,954 path groups that ask for nothing: none is stopped."""
-GROUPS = range(123)
-print("table 0")
-for k in range(32):
-    print(f"link l{k} load 0")
-print("link d load 0")
-for k in GROUPS:
-    print(f"group g{k} share 1 amount 0")
-    for place in range(16 if k < 122 else 2):
-        print(f"place {place} amount 0 open")
-for k in GROUPS:
-    print(f"task t{k} limit 0")
-print("total 0")
+"""The table of groups of 16 path groups that ask for nothing."""
+from large import numbered, path_groups_of, write_lines
+
+write_lines("table 0", numbered(b"link l# load 0\n", 32), "link d load 0")
+for group, places in enumerate(path_groups_of(1000000)):
+    write_lines(f"group g{group} share 1 amount 0", numbered(b"place # amount 0 open\n", places))
+write_lines(numbered(b"task t# limit 0\n", len(path_groups_of(1000000))), "total 0")
