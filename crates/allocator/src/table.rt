@@ -132,7 +132,7 @@ pub fn make_table_by_looks<L: Ledger, T: Ledger, P: Ledger, M: Ledger>(
     requires { IsFitted reported.now plan.now }
     ensures table { IfOk result (λ table. table ≡ table_by reported.now plan.now) }
 
-    // Also where memory is wanting.
+    // Also where memory runs out.
     ensures looks { let links = length reported.now.network.capacities in
         steps.new ≤ steps.old + 31 * (links + 2 * links_over_all links plan.now) }
     ensures turns { IfOk result (λ table. work.new.turns + steps.old

@@ -28,7 +28,7 @@ abbrev pub IsEvent : Standing → CoreEvent → Result CoreAnswer CoreError → 
 IsEvent old event answer new = (total : List Report → ℕ) (floors : List ℕ)
     → Steps total (core_state old floors) event answer (core_state new floors)
 
--- the event Report. Want of memory leaves the state as it was
+-- the event Report. `OutOfMemory` leaves the state as it was
 abbrev pub IsReportStep : Standing → ℕ → List Report → Result ℕ ReportError → Standing → Type 0
 IsReportStep old reporter piece (Ok first) new =
     IsEvent old (event.Report reporter piece) (Ok (Placed first)) new

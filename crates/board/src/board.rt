@@ -24,8 +24,8 @@ use std::sync::{Mutex, Wait};
 
 /// A log under a lock, whose tables are published. End it by `close`, which waits for the readers.
 ///
-/// Want of memory stands, in each call, also for comparisons of logs that no clause can tell to
-/// hold, though in a run they always do.
+/// In each call `OutOfMemory` stands also for comparisons of logs that no clause can tell to hold,
+/// though in a run they always do.
 pub struct Board<M: Maker, N: Profile<M::Table>, B: Bases> {
     // It is taken before the log lock, and never inside it.
     shop: Mutex<Workshop<M, N, B>>,
@@ -54,8 +54,8 @@ impl<M: Maker, N: Profile<M::Table>, B: Bases> Board<M, N, B> {
 
     /// Adds the reports of a pass at the end of the log, and answers the place of the first.
     ///
-    /// All of them enter at one step, or none does. Full comes before want of memory. It costs by
-    /// the piece, and waits for the log lock alone.
+    /// All of them enter at one step, or none does. A full log is refused before memory can run
+    /// out. It costs by the piece, and waits for the log lock alone.
     pub fn report<R: Wait>(
         &self,
         rt: &R,

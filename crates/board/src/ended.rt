@@ -18,7 +18,7 @@ pub struct Ended<T: Posted, B: Bases> {
     pub table: T,
 }
 
-/// Memory was wanting at the end of a board. The passes come back, and `finish` can be called
+/// Memory ran out at the end of a board. The passes come back, and `finish` can be called
 /// again.
 #[derive(Drop)]
 pub struct FinishRefused<B: Bases> {

@@ -84,7 +84,7 @@ impl<M: Maker> CoreState<M> {
 
     /// One event of Core run. Only a report and a post take memory.
     ///
-    /// After a post that was refused for want of memory the maker may have taken in more than the
+    /// After a post that was refused as memory ran out the maker may have taken in more than the
     /// posted table covers, which a later post then covers too.
     pub fn step(&mut self, alloc: Global, event: CoreEvent) -> Result<CoreAnswer, CoreError>
         requires meant { IsMeant self.old.reporters (length self.old.state.floors)

@@ -180,7 +180,7 @@ impl<T: Posted, N: Profile<T>, B: Bases> Pair<T, N, B> {
     }
 
     /// Takes over the published pair where something was published since, and says whether it then
-    /// covers all that is published. Where memory is wanting it stays as it is.
+    /// covers all that is published. Where memory runs out it stays as it is.
     ///
     /// Each publish raises what the table covers, so where nothing was published it costs one
     /// comparison.

@@ -38,7 +38,7 @@ pub enum ReadError {
     ReadFault,
     /// The source gave more bytes than the limit.
     TooLong,
-    /// Memory is wanting.
+    /// Memory ran out.
     OutOfMemory,
 }
 

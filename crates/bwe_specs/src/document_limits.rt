@@ -9,8 +9,7 @@ use crate::limits::{
 
 /// How many there may be, at most, of what a document of version 4 may have more of.
 ///
-/// `hops` are all entries of all lists of links of paths; `tasks` counts a task as often as its
-/// weight says.
+/// `hops` are all entries of all lists of links of paths.
 #[derive(Clone, Copy, Debug, PartialEq, Eq, Drop)]
 pub struct DocumentLimits {
     pub links: u64,

@@ -42,7 +42,7 @@ impl Model for CappedSum {
 }
 
 impl CappedSum {
-    /// One task for each weight, in order, with demand 0. No clause says when memory is wanting.
+    /// One task for each weight, in order, with demand 0. No clause says when memory runs out.
     pub fn new(
         alloc: Global,
         function: BwFunction,

@@ -46,7 +46,7 @@ pub fn seen_right<V: GroupValues, L: Ledger>(
         → AreRightToTop (wan_of (V.meaning values.now) plan.now topology.now.capacities)
         (reverse closings.now) → ⊥) }
 
-    // Also where memory is wanting.
+    // Also where memory runs out.
     ensures looks { let links = length topology.now.capacities in
         steps.new
         ≤ steps.old + (links + length closings.now + 2 * links_over_all links plan.now) }

@@ -103,7 +103,7 @@ impl<M: Maker> Control<M> {
         })
     }
 
-    /// One event of Control plane. What is refused for want of memory changes nothing.
+    /// One event of Control plane. What is refused because memory ran out changes nothing.
     pub fn step(&mut self, alloc: Global, event: ControlEvent) -> Result<(), OutOfMemory>
         requires meant { IsMeant
             (IsFit (M.plan_tasks (M.plan self.old.maker)) (M.plan_links (M.plan self.old.maker)))

@@ -87,7 +87,7 @@ next_event regions before line =
 abbrev pub events_of : ℕ → Text → Result (List EventLine) ℕ
 events_of regions text = items_of (next_event regions) text
 
--- the answer is what was wanted, or memory was wanting
+-- the answer is what was wanted, or memory ran out
 abbrev pub Answers : Result (List EventLine) ℕ → Result (Vec EventLine Global) EventError → Type 0
 Answers wanted (Ok events) = wanted ≡ Ok events.items
 Answers wanted (Err (BadLine line)) = wanted ≡ Err line

@@ -7,7 +7,7 @@ use Rattle.enforcer_core.specs.declared.event.WorldAnswer.{WorldAnswer}
 use Rattle.enforcer_core.specs.declared.event.WorldAnswer.TheVariants.{Posted, Sent, Took, Older, Acked, Restarted}
 use Rattle.enforcer_core.specs.World.{Limits, World, first_world, tasks_at, acked_at, region_at, down_at, limits_in, settled_of, answer_to, world_after, IsMeant}
 
--- the world after all events; one that was refused for want of memory leaves the world, and is left
+-- the world after all events; one that was refused as memory ran out leaves the world, and is left
 -- out
 abbrev pub run : {T : Type 0} → (T → ℕ) → (T → ℕ → ℕ) → World T → List (WorldEvent T) → World T
 run covers limit_at world [] = world

@@ -104,7 +104,7 @@ pub data Ending (follow : Follow) (words : ℕ) (talk_after : Option Talk)
   -- a write failed, and a prefix of what was due is written
   write_fault : HasRisen faults.writes faults_after.writes → IsFirstOfDue follow words passed
       → Ending follow words talk_after faults faults_after passed 5
-  -- memory was wanting, and whole answers are written
+  -- memory ran out, and whole answers are written
   out_of_memory : AreWhole follow passed
       → Ending follow words talk_after faults faults_after passed 6
 

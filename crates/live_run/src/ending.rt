@@ -13,7 +13,7 @@ pub enum Stop {
     ReadFault,
     /// A write failed.
     WriteFault,
-    /// Memory was wanting, or a number of 64 bits is used up.
+    /// Memory ran out, or a number of 64 bits is used up.
     OutOfMemory,
 }
 

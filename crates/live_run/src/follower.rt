@@ -37,7 +37,7 @@ pub trait Follower: Drop + Sized {
     /// The answer to the next line, made whole; `None` stands for a line that is too long or has
     /// not ended.
     ///
-    /// After an `Err` nothing is said of the follower: memory is wanting, or a number of 64 bits is
+    /// After an `Err` nothing is said of the follower: memory runs out, or a number of 64 bits is
     /// used up.
     fn answer(&mut self, alloc: Global, line: Option<&[u8]>) -> Result<Vec<u8>, OutOfMemory>
         ensures text { IfOk result (λ text. (document : List ℕ) (lines : List Held)

@@ -6,7 +6,7 @@
 //! (`specs/Answers.antt`): the table text, or the line of a refusal, and then the answer of each
 //! line. The laws of `specs/Laws.antt` are contracts of functions here: tables that are kept by
 //! changes, counts that never fall, refused lines that count for nothing, and the promise of a
-//! snapshot, also of its printed bytes. Nothing is promised of time, nor after a want of memory.
+//! snapshot, also of its printed bytes. Nothing is promised of time, nor once memory has run out.
 #![tactic(auto)]
 
 mod answer;

@@ -16,7 +16,7 @@ pub trait GroupValues {
     /// The top share, at most 1,000,000,000.
     ///
     /// Whoever asks for it learns that each group's value is 0 at share 0 and never falls up to the
-    /// top, and that all groups have together at most 20,000,000,000,000,000 there.
+    /// top, and that all groups have together at most 1,048,576,000,000,000,000 there.
     fn top(&self) -> u64
         ensures top { result ≡ (meaning self.now).top }
         ensures values { AreGroupValues (meaning self.now) };

@@ -39,7 +39,7 @@ pub fn solve<'a, V: GroupValues, L: Ledger>(
     ensures filling { IfOk result
         (IsFilling (wan_of (V.meaning values.now) plan.now topology.now.capacities)) }
 
-    // Also where memory is wanting.
+    // Also where memory runs out.
     ensures ticks { let closings =
         (filling (wan_of (V.meaning values.now) plan.now topology.now.capacities)).closings in
         steps.new ≤ steps.old + 62 * (length closings + 1) }

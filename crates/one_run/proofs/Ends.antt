@@ -29,7 +29,7 @@ module _ {Line S K : Type 0} (lines : Lines Line) (line : Option Line) (served :
   pub ending-usage : {result : ℕ} → line ≡ None → served.source_after ≡ served.source → WritesAll 2 usage_line result → Ending lines line served result
   ending-usage none same writes = ending-writes (no_line none same) writes
 
-  -- want of memory before anything was read
+  -- memory ran out before anything was read
   pub ending-unparsed : served.source_after ≡ served.source → Keeps (served.written served.sink) (served.written served.sink_after) → Ending lines line served 6
   ending-unparsed same keeps = out_of_memory (λ _. same) keeps
 
@@ -37,7 +37,7 @@ module _ {Line S K : Type 0} (lines : Lines Line) (line : Option Line) (served :
     unread : (lines.reads is ≡ false → served.source_after ≡ served.source) → reads_input lines line ≡ false → served.source_after ≡ served.source
     unread untouched reads = untouched (sym (ap (reads_input lines) same) ∙ reads)
 
-    -- the answer for an input, or want of memory for it
+    -- the answer for an input, or memory ran out for it
     pub ending-finished : {E : Type 0} {input : List ℕ} {result : ℕ} → (lines.reads is ≡ false → served.source_after ≡ served.source)
         → IsInput served.left served.source served.source_after (lines.reads is) input → lines.is_too_long is input ≡ false
         → (answer : Result Reply E) → IfOk answer (λ reply. lines.replies is input reply)

@@ -104,7 +104,7 @@ pub data Ending {Line S K
       → HasRisen (served.write_faults served.sink) (served.write_faults served.sink_after)
       → AppendsPrefix (served.written served.sink) (served.written served.sink_after) text
       → Ending lines line served 5
-  -- memory was wanting, and nothing was written; where there is no input to read, nothing was read
+  -- memory ran out, and nothing was written; where there is no input to read, nothing was read
   -- either
   out_of_memory : (reads_input lines line ≡ false → served.source_after ≡ served.source)
       → Keeps (served.written served.sink) (served.written served.sink_after)

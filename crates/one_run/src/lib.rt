@@ -40,7 +40,7 @@ pub enum InputError {
     TooLong,
     /// The input goes on after 1,073,741,824 bytes.
     FarTooLong,
-    /// Memory is wanting.
+    /// Memory ran out.
     OutOfMemory,
 }
 
@@ -105,7 +105,7 @@ pub fn write_usage<K: Sink>(sink: &mut K) -> u8
     write_text(sink, USAGE.as_bytes(), 2)
 }
 
-/// Writes the answer and gives its status, or 5 where the sink fails; 6 where memory was wanting
+/// Writes the answer and gives its status, or 5 where the sink fails; 6 where memory ran out
 /// for the answer.
 pub fn finish<K: Sink>(sink: &mut K, answer: Result<Answer, OutOfMemory>) -> u8
     ensures { MatchResult answer
@@ -119,7 +119,7 @@ pub fn finish<K: Sink>(sink: &mut K, answer: Result<Answer, OutOfMemory>) -> u8
     }
 }
 
-/// Ends a call that has no input to answer: 4 where the source failed, 6 where memory was wanting,
+/// Ends a call that has no input to answer: 4 where the source failed, 6 where memory ran out,
 /// and 8 with its line for an input that is too long.
 pub fn refuse_input<K: Sink>(sink: &mut K, error: InputError) -> u8
     ensures fault { error ≡ InputError.ReadFault

@@ -9,7 +9,7 @@ use std::env::{self, Env};
 use std::io;
 
 /// The words after the program's name. Where they cannot be read, the status to end with
-/// ("Statuses", docs/FORMAT.md): 6 for want of memory, else 7.
+/// ("Statuses", docs/FORMAT.md): 6 where memory ran out, else 7.
 ///
 /// Nothing is promised of which words there are, nor of when they cannot be read: `env::args` says
 /// nothing of it.

@@ -62,7 +62,7 @@ group_fault network number group =
 unfoldable pub plan_fault : Network → List Group → Option PathFault
 plan_fault network groups = first_fault (group_fault network) 0 groups
 
--- the error names this fault, or says that memory was wanting
+-- the error names this fault, or says that memory ran out
 abbrev pub TellsFault : Option PathFault → PathError → Type 0
 TellsFault fault (Refused told) = fault ≡ Some told
 TellsFault fault OutOfMemory = Unit {0}

@@ -32,7 +32,7 @@ pub enum PathFault {
 pub enum PathError {
     /// The groups have this fault.
     Refused { fault: PathFault },
-    /// Memory was wanting.
+    /// Memory ran out.
     OutOfMemory,
 }
 

@@ -31,7 +31,7 @@ pub record IsDocumentOf (accepted : Accepted) (document : Document) : Type 0 whe
   pub task_owners : document.task_owners.items ≡ accepted.task_owners
   pub link_owners : document.link_owners.items ≡ accepted.link_owners
 
--- the error is the refusal, or says that memory was wanting
+-- the error is the refusal, or says that memory ran out
 abbrev pub NamesRefusal : {A : Type 0} → Result A Refusal → DocError → Type 0
 NamesRefusal read error = IfSome (refusal_of error) (λ refusal. read ≡ Err refusal)
 

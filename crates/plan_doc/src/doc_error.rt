@@ -16,7 +16,7 @@ use wan_topology::TopologyFault;
 /// the lowest number is answered.
 ///
 /// Refusals 2 to 7 name the first place in the order of the walk; `Limit` has the order of `What`,
-/// and names the number found. `entry` is a place in the script, from 0. Want of memory has no
+/// and names the number found. `entry` is a place in the script, from 0. `OutOfMemory` has no
 /// number that is printed.
 #[derive(Drop)]
 pub enum DocError {

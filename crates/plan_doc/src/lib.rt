@@ -13,7 +13,7 @@
 //! by the tree of its JSON value, which finds the first fault. Each name is hashed once where it
 //! stands, and once where it is referred to unless it is found where it is likely; no name is
 //! looked for in a list. Each pass is linear. Nothing is promised of time, and nothing of which
-//! growth is refused where memory is wanting.
+//! growth is refused where memory runs out.
 #![tactic(auto)]
 
 mod doc_error;

@@ -206,7 +206,7 @@ fn push_refusal(text: &mut String, error: &DocError) -> Result<(), AllocError>
     }
 }
 
-/// The line of a refusal ("Refusals", docs/FORMAT.md). Want of memory has none, and is answered as
+/// The row of a refusal ("Refusals", docs/FORMAT.md). `OutOfMemory` has none, and is answered as
 /// itself.
 #[tactic(auto, unfolding(crate::specs::RefusalLines::refusal_line))]
 pub fn refusal_line(alloc: Global, error: &DocError) -> Result<Vec<u8>, OutOfMemory>

@@ -44,7 +44,7 @@ abbrev pub tree_fault : List Cluster → Option TreeFault
 tree_fault clusters =
     fault_by (position is_childless (walk clusters)) (length (task_numbers clusters))
 
--- the error names this fault, or says that memory was wanting
+-- the error names this fault, or says that memory ran out
 abbrev pub TellsFault : Option TreeFault → TreeError → Type 0
 TellsFault fault (Refused told) = fault ≡ Some told
 TellsFault fault OutOfMemory = Unit {0}

@@ -9,7 +9,7 @@ pub enum TreeFault {
     /// The node has no child, and no lower node has none. A job without tasks is one.
     #[error("node {node} has no child")]
     EmptyNode { node: u32 },
-    /// There are more than 20,000 tasks.
+    /// There are more tasks than any document may have: 1,048,576.
     #[error("there are {count} tasks")]
     TooManyTasks { count: u64 },
 }
@@ -20,7 +20,7 @@ pub enum TreeError {
     /// The tree has this fault.
     #[error("{fault}")]
     Refused { fault: TreeFault },
-    /// Memory was wanting.
+    /// Memory ran out.
     #[error("out of memory")]
     OutOfMemory,
 }

@@ -17,26 +17,10 @@
 //! where the outline meets the amount, and a look comes with guesses of the last share at which the
 //! value stays the same and of what it is after that. It never takes more than 62 looks. A
 //! `rematch` itself takes no search: some values of functions for each point, at most 64 points a
-//! node, and a sort of the demands of each job that was told a new one. Measured by a plain model
-//! that looks as this code does, with one cluster of one user with three jobs, functions of four
-//! points on all three levels, weights from 1 to 10, at 200 shares of ten made trees for each row:
-//!
-//! | top | amounts up to some | tasks a job | sums of each job for one group value | at most |
-//! |---|---|---|---|---|
-//! | 1,000 | 10,000,000 | 20 | 11 | 36 |
-//! | 1,000,000 | 10,000,000 | 20 | 14 | 45 |
-//! | 1,000,000 | 10,000,000 | 1,000 | 19 | 77 |
-//! | 1,000,000,000 | 1,000,000,000 | 20 | 13 | 38 |
-//! | 1,000,000,000 | 10,000,000 | 20 | 15 | 45 |
-//! | 1,000,000,000 | 10,000,000 | 1,000 | 17 | 40 |
-//! | 1,000,000,000 | 100,000 | 20 | 15 | 48 |
-//!
-//! With weights up to 1,000 the fifth row has 18 and 90 at most, with five users 36 and 141. With
-//! four users, and nodes' functions that go up to as much as their tasks may have together, the
-//! second and the fifth row have 18 and 33, and at most 57 and 87. A changed demand makes the sum
-//! of its own job slow until the next `rematch`, and no other. A node is looked up by its number in
-//! the order of the numbers. Nothing is promised of that cost in a contract, nor of how values are
-//! kept.
+//! node, and a sort of the demands of each job that was told a new one; docs/PERFORMANCE.md counts
+//! them. A changed demand makes the sum of its own job slow until the next `rematch`, and no other.
+//! A node is looked up by its number in the order of the numbers. Nothing is promised of that cost
+//! in a contract, nor of how values are kept.
 #![tactic(auto)]
 
 mod childless;

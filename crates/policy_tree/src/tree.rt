@@ -51,7 +51,7 @@ impl PolicyTree {
     ///
     /// The fault that is told is the first one in the order of `TreeFault`. It costs one step for
     /// each node and each task, and a sort of the matched shares of each configured function. No
-    /// clause says when memory is wanting.
+    /// clause says when memory runs out.
     pub fn build(alloc: Global, spec: TreeSpec) -> Result<PolicyTree, TreeError>
         requires low { 1 ≤ spec.top }
         requires high { spec.top ≤ MAX_SHARE }

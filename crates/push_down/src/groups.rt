@@ -12,7 +12,7 @@ use std::alloc::{AllocError, Global};
 /// Each task's limit, in the order of their numbers, where the groups have these amounts. All are
 /// kilobits per second.
 ///
-/// No clause says when memory is wanting.
+/// No clause says when memory runs out.
 pub fn all_limits(
     alloc: Global,
     tree: &PolicyTree,

@@ -41,7 +41,7 @@ pub struct TaskLimit {
 /// docs/DEFINITIONS.md).
 ///
 /// `amount` is what the group has, at most its value at the top, in kilobits per second. No clause
-/// says when memory is wanting.
+/// says when memory runs out.
 pub fn distribute(
     alloc: Global,
     tree: &PolicyTree,

@@ -20,7 +20,7 @@
 //!   `a_told_reader_and_an_untold_one_see_the_report`, by its second reader;
 //! - a `read` that stops entering one after three reads, and a `round` that posts nothing and answers
 //!   what is posted: `an_untold_reader_sees_the_table_of_each_round`;
-//! - a `settle` that posts nothing, and any call that always answers want of memory: the test of
+//! - a `settle` that posts nothing, and any call that always answers `OutOfMemory`: the test of
 //!   the told reader, which makes each call;
 //! - a solve under the log lock: `a_report_is_answered_while_a_table_is_made`, whose turns run out;
 //! - a report or a round that the gate is not told of: the calls that

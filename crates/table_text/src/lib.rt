@@ -5,8 +5,8 @@
 //! the whole texts ("Table text", "Bulk text", "Check text" and "Levels text", docs/FORMAT.md).
 //! `name_of` is the name that a text prints for a number. Texts that share lines with a table's put
 //! them by `push_closings` and `push_limits`, and single lines by `push_value` and its like. Texts
-//! are made whole before anything is written, so a want of memory is met before the first byte goes
-//! out.
+//! are made whole before anything is written, so memory runs out before the first byte is written,
+//! or not at all.
 #![tactic(auto)]
 
 mod bulk;

@@ -27,7 +27,7 @@ part_fault groups part = lowest_below (groups + 2) (λ at. not (is_due groups pa
 abbrev pub tiers_in : ℕ → List ℕ → List ℕ
 tiers_in groups part = map (λ group. slice_index part group - 48) (numbers groups)
 
--- the error names this fault, or says that memory was wanting
+-- the error names this fault, or says that memory ran out
 abbrev pub TellsFault : Option ℕ → TiersError → Type 0
 TellsFault fault (Refused at) = fault ≡ Some at
 TellsFault fault OutOfMemory = Unit {0}

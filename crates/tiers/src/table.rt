@@ -8,7 +8,7 @@ use std::marker::Model;
 ///
 /// `tiers` has the closings of each tier from 0 to the greatest one given, in their order, and none
 /// where there is no group. A link that a tier has filled may close again in a later one. Limits
-/// are by task, lines by group and loads by link. All groups get at most 20,000,000,000,000,000
+/// are by task, lines by group and loads by link. All groups get at most 1,048,576,000,000,000,000
 /// together. `prefix` is the number of reports that it covers.
 #[derive(Debug, Drop)]
 pub struct TierTable {

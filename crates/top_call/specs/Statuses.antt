@@ -57,7 +57,7 @@ NothingIsWritten S K = (line : Option CommandLine) (served : Served S K) (status
     → IsServed line served status → (status ≡ 4) ⊎ (status ≡ 6) → IsSilent served
 
 -- What is accepted is answered: a line whose input is taken in, where nothing fails, ends with 0, 1
--- or, where memory is wanting, 6
+-- or, where memory runs out, 6
 abbrev pub AcceptedIsAnswered : Type 0 → Type 0 → Type 0
 AcceptedIsAnswered S K = (is : CommandLine) (served : Served S K) (status : ℕ)
     → IsServed (Some is) served status → IsWithoutFault served → IsTakenIn is served

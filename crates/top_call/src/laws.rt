@@ -38,7 +38,7 @@ pub fn runs_are_legal()
 
 /// The same of two calls. Where a call for `run` ended with status 0, a call for `audit` on its
 /// document and what it wrote writes `legal` with status 0, unless its source or its sink fails, or
-/// memory is wanting.
+/// memory runs out.
 pub fn what_ran_is_found_legal<S: Source, K: Sink, T: Source, L: Sink>()
     ensures { WhatRanIsFoundLegal S K T L }
 {}

@@ -15,7 +15,7 @@ use std::alloc::Global;
 
 /// The whole input of a line that reads one, and nothing for another. An input is refused where the
 /// source fails, where it is too long (above 67,108,864 bytes with a document that is not of version
-/// 4, or above 1,073,741,824 bytes), and where memory is wanting.
+/// 4, or above 1,073,741,824 bytes), and where memory runs out.
 pub fn read_input_of<S: Source>(
     alloc: Global,
     line: CommandLine,

@@ -29,7 +29,7 @@ topology_fault links =
     if nat_lt 65_536 (length links) then Some (TooManyLinks (length links))
     else first_link_fault [] 0 links
 
--- the error names this fault, or says that memory was wanting
+-- the error names this fault, or says that memory ran out
 abbrev pub TellsFault : Option TopologyFault → TopologyError → Type 0
 TellsFault fault (Refused told) = fault ≡ Some told
 TellsFault fault OutOfMemory = Unit {0}

@@ -9,7 +9,7 @@ use std::fmt;
 /// other three that it has.
 #[derive(Clone, Copy)]
 pub enum TopologyFault {
-    /// There are more than 4,096 links.
+    /// There are more links than any document may have: 65,536.
     TooManyLinks { count: u64 },
     /// The link's name stood before.
     RepeatedLink { link: u32 },
@@ -24,7 +24,7 @@ pub enum TopologyFault {
 pub enum TopologyError {
     /// The links have this fault.
     Refused { fault: TopologyFault },
-    /// Memory was wanting.
+    /// Memory ran out.
     OutOfMemory,
 }
 
