@@ -1,0 +1,2 @@
+pub mod OwnerFacts
+pub mod OwnerLoop

@@ -9,8 +9,8 @@ use Rattle.enforcer_core.proofs.Runs.{law}
 use Rattle.enforce_run.specs.declared.event.EventLine.{EventLine}
 use Rattle.enforce_run.specs.declared.event.EventLine.TheVariants.{Post, Send, Deliver, Reply, Restart}
 use Rattle.enforce_run.specs.EventLines.{AreThere}
-use Rattle.world_laws.specs.Laws.{HasTakenPosted}
-use Rattle.world_laws.proofs.Settling.{settles}
+use Rattle.enforcer_core.specs.Settled.{HasTakenPosted}
+use Rattle.enforcer_core.proofs.Settling.{settles}
 use Rattle.enforce_run.specs.Playing.{Played, IsIn, event_in, played_from, played_of, played_on, prefix_of}
 use Rattle.enforce_run.specs.Lawful.{AreLawful, DoSettle, WrittenEventsAreLawful, events_from, world_of}
 use Rattle.enforce_run.specs.Playing as playing

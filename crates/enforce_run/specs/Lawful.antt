@@ -6,7 +6,7 @@ use Rattle.enforcer_core.specs.World.{World, first_world, world_after}
 use Rattle.enforcer_core.specs.Laws.{IsLawful}
 use Rattle.enforce_run.specs.declared.event.EventLine.{EventLine}
 use Rattle.enforce_run.specs.EventLines.{AreThere}
-use Rattle.world_laws.specs.Laws.{HasTakenPosted, IsInForce}
+use Rattle.enforcer_core.specs.Settled.{HasTakenPosted, IsInForce}
 use Rattle.enforce_run.specs.Playing.{event_in, played_of}
 
 -- what written events are in the worlds that they meet, one after the other

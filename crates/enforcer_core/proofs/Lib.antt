@@ -1,3 +1,4 @@
 pub mod Whole
 pub mod Steps
 pub mod Runs
+pub mod Settling

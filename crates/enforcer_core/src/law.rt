@@ -1,6 +1,7 @@
-//! The law on all runs of the world.
+//! The laws on all runs of the world.
 
 ghost use Rattle.enforcer_core.specs.Laws.{IsWorldLaw};
+ghost use Rattle.enforcer_core.specs.Settled.{EnforcementSettles};
 
 use demand_book::Posted;
 
@@ -10,4 +11,11 @@ use demand_book::Posted;
 /// put in force with a prefix below what was settled then ("World law", docs/DEFINITIONS.md).
 pub fn world_law<T: Posted>()
     ensures { IsWorldLaw T.frame T.covers T.limit_at }
+{}
+
+/// Enforcement settles: where each region has taken the posted table and not restarted since, the
+/// limits in force of all regions together are those of that one table ("Laws of a table",
+/// docs/DEFINITIONS.md).
+pub fn enforcement_settles<T: Posted>()
+    ensures { EnforcementSettles T.frame T.covers T.limit_at }
 {}

@@ -13,7 +13,7 @@ use Rattle.live_lines.specs.declared.line.LineCause.TheVariants.{NoLine}
 use Rattle.live_lines.specs.declared.line.LineMeaning.TheVariants.{Post, State, Refused}
 use Rattle.text_scan.specs.Words.{Text, words_of}
 use Rattle.live_lines.specs.Known.{Known}
-use Rattle.owner_rule.specs.Owners.{owner_of}
+use Rattle.doc_names.specs.Owners.{owner_of}
 use Rattle.live_lines.specs.Meaning.{IfNewReport, command_of, meaning_of, meaning_of_words, report_of, reported}
 
 pub no_words : (known : Known) (words : List Text) → words ≡ [] → Refused NoLine ≡ meaning_of_words known words

@@ -1,7 +1,7 @@
 -- What is known of a document: its names, and who owns each task and link.
 use Rattle.std.specs.Prelude.{◌≡◌, ℕ, List, Option, Some}
 use Rattle.bwe_specs.specs.declared.report.Report.{Report}
-pub use Rattle.owner_rule.specs.Owners.{owner_of}
+pub use Rattle.doc_names.specs.Owners.{owner_of}
 use Rattle.doc_names.specs.declared.Names.{Names}
 use Rattle.doc_names.specs.NameTexts.{NameTexts, texts_of}
 

@@ -13,7 +13,7 @@ use Rattle.live_lines.specs.declared.line.LineCause.TheVariants.{NoLine, Unknown
 use Rattle.live_lines.specs.declared.line.LineMeaning.{LineMeaning}
 use Rattle.live_lines.specs.declared.line.LineMeaning.TheVariants.{NewReport, Post, State, Refused}
 use Rattle.live_lines.specs.Known.{Known}
-use Rattle.owner_rule.specs.Owners.{owner_of, is_owner}
+use Rattle.doc_names.specs.Owners.{owner_of, is_owner}
 
 -- ---- steps, of which the first that fails gives the cause
 

@@ -6,14 +6,13 @@ ghost use Rattle.bwe_specs.specs.declared.limits.TheConstants.{MAX_AMOUNT};
 ghost use Rattle.demand_book.specs.Fit.{IsFit};
 ghost use Rattle.doc_names.specs.NameTexts.{texts_of};
 ghost use Rattle.text_scan.specs.Words.{words_of};
-ghost use Rattle.owner_rule.specs.Owners as owners;
+ghost use Rattle.doc_names.specs.Owners as owners;
 ghost use Rattle.live_lines.specs.Known.{IsByOwner, known_by};
 ghost use Rattle.live_lines.specs.Meaning as spec;
 
 use crate::line::{LineCause, LineMeaning};
 use bwe_specs::{OutOfMemory, Report, Target};
-use doc_names::Names;
-use owner_rule::{is_owner, owner_of};
+use doc_names::{Names, is_owner, owner_of};
 use std::alloc::Global;
 use std::marker::Model;
 use text_scan::{NameIndex, Words, amount_in_range, is_number, number_of};

@@ -27,7 +27,7 @@ use Rattle.doc_passes.specs.Numbers.{Numbers, numbers}
 use Rattle.doc_passes.specs.NumbersView.{numbers_view}
 use Rattle.plan_doc.specs.Functions.{refused_in_groups}
 use Rattle.plan_doc.specs.TreeParts.{cluster_part}
-use Rattle.owner_rule.specs.Owners.{not_owned}
+use Rattle.doc_names.specs.Owners.{not_owned}
 use Rattle.plan_doc.specs.Refusals.{Refusal, refused_function, refused_links, refused_paths, refused_tree, not_owner}
 use Rattle.plan_doc.specs.Document as documents
 use Rattle.plan_doc.specs.Document.{Accepted, accepted, unless, links_of, clusters_of, network_fault, policy_fault, document_by, over_ok, parts_ok}
@@ -41,7 +41,7 @@ use Rattle.doc_passes.proofs.NumberFacts.{numbers_of}
 use Rattle.policy_tree.proofs.Numbers.{length-numbered}
 use Rattle.plan_doc.proofs.NodeFacts.{length-task_numbers}
 use Rattle.plan_doc.proofs.PlanFacts.{length-capacities}
-use Rattle.owner_rule.proofs.OwnerFacts.{IsOwned, by_owners}
+use Rattle.doc_names.proofs.OwnerFacts.{IsOwned, by_owners}
 
 -- ---- the passes on names and numbers
 

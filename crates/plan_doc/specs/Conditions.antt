@@ -5,7 +5,7 @@ use Rattle.bwe_specs.specs.declared.report.Report.{Report}
 use Rattle.path_groups.specs.Plan.{IsBuiltOn}
 use Rattle.plan_doc.specs.declared.document.Document.{Document}
 use Rattle.doc_names.specs.NameTexts.{texts_of}
-use Rattle.owner_rule.specs.Owners.{owner_of}
+use Rattle.doc_names.specs.Owners.{owner_of}
 use Rattle.doc_passes.specs.Passed.{HasOwnerBelow, IsReport, IsClosing}
 
 -- how many links, tasks and reporters there are

@@ -26,7 +26,7 @@ use Rattle.plan_doc.specs.Functions.{refused_in_groups}
 use Rattle.plan_doc.specs.TreeParts.{cluster_part}
 use Rattle.plan_doc.specs.Links.{link_part}
 use Rattle.plan_doc.specs.TooMany.{links_fault, clusters_fault}
-use Rattle.owner_rule.specs.Owners.{not_owned}
+use Rattle.doc_names.specs.Owners.{not_owned}
 use Rattle.plan_doc.specs.Refusals.{Refusal, not_json, bad_shape, above_limit, out_of_range, repeated_name, unknown_name, refused_function, refused_links, refused_paths, refused_tree, not_owner}
 
 -- an accepted document, by numbers; the demands of its tasks are 0

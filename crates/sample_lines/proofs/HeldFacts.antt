@@ -18,8 +18,8 @@ use Rattle.text_scan.specs.Words.{Text}
 use Rattle.text_scan.proofs.ItemFacts.{items_keep}
 use Rattle.sample_lines.specs.Known.{Known, known_by}
 use Rattle.sample_lines.specs.SampleLine.{Fields, amount_of, fields_of, sample_of}
-use Rattle.owner_rule.specs.Owners.{is_owner}
-use Rattle.owner_rule.proofs.OwnerFacts.{owner_is}
+use Rattle.doc_names.specs.Owners.{is_owner}
+use Rattle.doc_names.proofs.OwnerFacts.{owner_is}
 use Rattle.sample_lines.specs.SampleLines.{next_sample}
 use Rattle.sample_lines.specs.SampleReports.{amounts_of, report_of, reports_behind}
 use Rattle.doc_names.specs.declared.Names.{Names}

@@ -6,7 +6,7 @@ use Rattle.text_scan.specs.Words.{Text}
 use Rattle.sample_lines.specs.declared.sample.Sample.{Sample}
 use Rattle.sample_lines.specs.Known.{Known}
 use Rattle.sample_lines.specs.SampleLine.{Fields, amount_of, fields_of, sample_of}
-use Rattle.owner_rule.specs.Owners.{is_owner}
+use Rattle.doc_names.specs.Owners.{is_owner}
 
 abbrev pub sample_by : Bool → ℕ → ℕ → ℕ → Option Sample
 sample_by owns reporter task amount = cond owns (let made : Sample = record { reporter = reporter; task = task; amount = amount } in Some made) None

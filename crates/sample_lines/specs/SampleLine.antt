@@ -1,6 +1,6 @@
 -- A line of samples: `<reporter> <task> <amount>`, with single blanks.
 use Rattle.std.specs.Prelude.{ℕ, slice_get, Option, Some, None, if◌then◌else◌, option_and_then}
-use Rattle.owner_rule.specs.Owners.{is_owner}
+use Rattle.doc_names.specs.Owners.{is_owner}
 use Rattle.text_scan.specs.Cuts.{cut_at}
 use Rattle.text_scan.specs.Names.{number_of_name}
 use Rattle.text_scan.specs.Numbers.{amount_in_range, printed_number_of}

@@ -5,8 +5,7 @@ ghost use Rattle.sample_lines.specs.SampleLine as spec;
 ghost use Rattle.sample_lines.specs.Known.{known_by};
 
 use bwe_specs::{OutOfMemory, Target};
-use doc_names::Names;
-use owner_rule::{is_owner, owner_of};
+use doc_names::{Names, is_owner, owner_of};
 use std::alloc::Global;
 use std::marker::Model;
 use text_scan::{NameIndex, amount_in_range, cut_at, printed_number_of};

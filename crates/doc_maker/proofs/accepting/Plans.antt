@@ -24,7 +24,7 @@ use Rattle.doc_passes.specs.Limits.{sum_of}
 use Rattle.doc_passes.specs.Counts.{group_tasks, task_count}
 use Rattle.plan_doc.specs.Links.{link_part}
 use Rattle.plan_doc.specs.TreeParts.{weights_of, job_part, user_part, cluster_part}
-use Rattle.owner_rule.specs.Owners.{not_owned}
+use Rattle.doc_names.specs.Owners.{not_owned}
 use Rattle.plan_doc.specs.Document.{links_of, clusters_of, policy_fault}
 use Rattle.plan_doc.specs.TooMany.{clusters_fault}
 use Rattle.policy_tree.proofs.Numbers.{length-numbered}

@@ -2,7 +2,7 @@ use Rattle.std.proofs.Common.{◌≡◌, ℕ, Option, false, true, Some, sym, ap
 use Rattle.std.specs.Prelude.{slice_get}
 use Rattle.sample_lines.specs.Known.{Known, known_by}
 use Rattle.sample_lines.specs.SampleLine.{Fields, sample_of}
-use Rattle.owner_rule.specs.Owners.{is_owner}
+use Rattle.doc_names.specs.Owners.{is_owner}
 use Rattle.sample_lines.proofs.SampleFacts.{sample_is}
 use Rattle.sample_lines.proofs.sample.Known.sample.Goals as goal
 

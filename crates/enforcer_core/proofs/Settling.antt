@@ -6,7 +6,7 @@ use Rattle.enforcer_core.specs.declared.event.WorldEvent.TheVariants as event
 use Rattle.enforcer_core.specs.World.{Limits, World, first_world, world_after, limits_in, region_at, IsMeant}
 use Rattle.enforcer_core.specs.Laws.{AreMeant, AreOfPosted, Posts, WasPosted, run}
 use Rattle.enforcer_core.proofs.Runs.{law}
-use Rattle.world_laws.specs.Laws.{EnforcementSettles}
+use Rattle.enforcer_core.specs.Settled.{EnforcementSettles}
 
 module _ {F T : Type 0} (frame : T → F) (covers : T → ℕ) (limit_at : T → ℕ → ℕ) where
   -- the later table covers no fewer reports, and is the same where it covers as many

@@ -4,7 +4,7 @@ use Rattle.std.specs.Prelude.{All}
 use Rattle.std.proofs.lemmas.Bool.{eqb-true}
 use Rattle.std.proofs.lemmas.List.Elements.{All-nil, All-cons}
 use Rattle.bwe_specs.specs.declared.report.Report.{Report}
-use Rattle.owner_rule.specs.Owners.{owner_of, is_owner, not_owned}
+use Rattle.doc_names.specs.Owners.{owner_of, is_owner, not_owned}
 
 -- whoever is the owner is the one that was found
 pub owner_is : (owner : Option ℕ) (reporter : ℕ) → is_owner owner reporter ≡ true → owner ≡ Some reporter

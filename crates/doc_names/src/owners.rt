@@ -2,12 +2,10 @@
 //!
 //! `plan_doc` asks for the first entry of a script that is not by the owner, `live_lines` and
 //! `sample_lines` ask of one report. Owners are lists by number: each task has a reporter, and a
-//! link may have none. `specs/Owners.antt` says the whole of it. Nothing here takes memory; a
-//! question costs one look into a list.
-#![tactic(auto)]
+//! link may have none. Nothing here takes memory; a question costs one look into a list.
 
 ghost use Rattle.std.specs.Prelude.{◌≡◌};
-ghost use Rattle.owner_rule.specs.Owners as owners;
+ghost use Rattle.doc_names.specs.Owners as owners;
 
 use bwe_specs::{Report, Target};
 

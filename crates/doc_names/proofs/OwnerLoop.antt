@@ -2,7 +2,7 @@
 use Rattle.std.proofs.Common.{◌≡◌, ℕ, suc, ◌+◌, ◌<◌, ◌≤◌, Bool, true, false, cond, List, [], length, drop, get_or, Option, Some, None, sym, ap, ◌∙◌, add-one, drop-cons}
 use Rattle.std.proofs.lemmas.List.{drop_all}
 use Rattle.bwe_specs.specs.declared.report.Report.{Report}
-use Rattle.owner_rule.specs.Owners.{owner_of, is_owner, not_owned}
+use Rattle.doc_names.specs.Owners.{owner_of, is_owner, not_owned}
 
 module _ (tasks : List ℕ) (links : List (Option ℕ)) (script : List Report) (i : ℕ) (d : Report) (owner : Option ℕ) (may : Bool) where
   not_owned-drop : i < length script → owner ≡ owner_of tasks links (get_or script i d).target → may ≡ is_owner owner (get_or script i d).reporter

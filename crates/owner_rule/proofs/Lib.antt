@@ -1,2 +1,0 @@
-pub mod OwnerFacts
-pub mod OwnerLoop
