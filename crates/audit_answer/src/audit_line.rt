@@ -18,7 +18,7 @@ use bwe_specs::{OutOfMemory, Report};
 use demand_book::Maker;
 use document_scripts::scripts_of_document;
 use one_run::Answer;
-use opened_document::{Opened, Parted, open, read_parts};
+use opened_document::{OpenedDocument, Parted, open, read_parts};
 use plan_doc::Document;
 use run_audit::{AuditVerdict, audit_text};
 use std::alloc::Global;
@@ -43,7 +43,7 @@ fn audit_document(alloc: Global, document: Document, text: &[u8]) -> Result<Answ
 {
     let scripts = scripts_of_document(alloc, &document)?;
     let given = capacities_of(alloc, &document.topology)?;
-    let Opened {
+    let OpenedDocument {
         allocator,
         script,
         names,

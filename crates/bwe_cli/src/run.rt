@@ -19,7 +19,7 @@ use crew_log::CrewLog;
 use document_scripts::scripts_of_document;
 use limit_table::LimitTable;
 use one_run::{Answer, finish, refuse_input};
-use opened_document::{Opened, open, refused};
+use opened_document::{OpenedDocument, open, refused};
 use plan_doc::{Document, Names, read_document};
 use run_text::run_text;
 use std::alloc::Global;
@@ -104,7 +104,7 @@ fn run_document<G: Gate + Sync, R: Threads + Wait + Sync>(
     ensures names { IfOk result (λ made. made.1 ≡ document.names) }
 {
     let scripts = scripts_of_document(alloc, &document)?;
-    let Opened {
+    let OpenedDocument {
         allocator,
         names,
         ..

@@ -6,7 +6,7 @@ ghost use Rattle.bwe_live.specs.Live.{live};
 
 use bwe_specs::OutOfMemory;
 use input_lengths::document_is_too_long;
-use live_run::{Follower, Opened, serve};
+use live_run::{Follower, OpenedFollower, serve};
 use live_session::LiveSession;
 use live_stream::Stream;
 use std::alloc::Global;
@@ -37,9 +37,9 @@ impl Follower for Following {
         document_is_too_long(alloc, document)
     }
 
-    fn open(alloc: Global, document: &[u8]) -> Result<Opened<Following>, OutOfMemory> {
+    fn open(alloc: Global, document: &[u8]) -> Result<OpenedFollower<Following>, OutOfMemory> {
         let opened = LiveSession::open(alloc, document)?;
-        Ok(Opened {
+        Ok(OpenedFollower {
             text: opened.text,
             follower: match opened.session {
                 Some(session) => Some(Following { session }),

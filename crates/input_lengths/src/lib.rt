@@ -39,6 +39,6 @@ pub fn parts_are_too_long(alloc: Global, input: &[u8]) -> Result<bool, OutOfMemo
         return Ok(true);
     };
     let front = &input[..parts.end as usize];
-    let is_long = is_of_version_4(alloc, &front[parts.start as usize..])?;
-    Ok(!is_long)
+    let of_version_4 = is_of_version_4(alloc, &front[parts.start as usize..])?;
+    Ok(!of_version_4)
 }

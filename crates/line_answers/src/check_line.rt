@@ -15,7 +15,7 @@ use bottleneck_cert::Verdict;
 use bwe_specs::{Closing, OutOfMemory};
 use demand_book::Maker;
 use one_run::Answer;
-use opened_document::{Opened, open_after_script, refused};
+use opened_document::{OpenedDocument, open_after_script, refused};
 use plan_doc::{Document, read_document};
 use std::alloc::Global;
 use table_text::check_text;
@@ -42,7 +42,7 @@ fn check_document(alloc: Global, document: Document) -> Result<Answer, OutOfMemo
 }
 
 // The verdict on a document's closings, under the reports that its allocator has taken in.
-fn check_opened(alloc: Global, opened: &Opened) -> Result<Answer, OutOfMemory>
+fn check_opened(alloc: Global, opened: &OpenedDocument) -> Result<Answer, OutOfMemory>
     ensures { IfOk result (λ answer. (script : List Report)
         → ⟦<Allocator as Maker>⟧.absorbed opened.now.allocator script
         → answer ≡ check_reply (texts_of opened.now.names)

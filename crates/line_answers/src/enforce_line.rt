@@ -12,7 +12,7 @@ use bwe_specs::OutOfMemory;
 use demand_book::Maker;
 use enforce_run::{EventError, EventLine, event_refusal_line, read_events};
 use one_run::Answer;
-use opened_document::{Opened, Parted, open, read_parts};
+use opened_document::{OpenedDocument, Parted, open, read_parts};
 use plan_doc::Document;
 use std::alloc::Global;
 
@@ -67,7 +67,7 @@ fn play(
         ≡ enforced_reply (texts_of document.names) (plan_in document) document.script.items
         document.task_owners.items events.now) }
 {
-    let Opened {
+    let OpenedDocument {
         allocator,
         script,
         names,

@@ -12,7 +12,7 @@ ghost use Rattle.line_answers.specs.Replies.{levels_accepted, levels_reply, valu
 use bwe_specs::OutOfMemory;
 use doc_names::Names;
 use one_run::Answer;
-use opened_document::{Opened, open_after_script, refused};
+use opened_document::{OpenedDocument, open_after_script, refused};
 use parallel_values::values_at;
 use plan_doc::{Document, read_document};
 use policy_tree::PolicyTree;
@@ -42,7 +42,7 @@ fn document_levels(alloc: Global, share: u64, document: Document) -> Result<Answ
 }
 
 // What each group may have at the share under the demands of the allocator's tree.
-fn opened_levels(alloc: Global, share: u64, opened: &Opened) -> Result<Answer, OutOfMemory>
+fn opened_levels(alloc: Global, share: u64, opened: &OpenedDocument) -> Result<Answer, OutOfMemory>
     ensures { IfOk result (λ answer. answer
         ≡ levels_reply share (texts_of opened.now.names) opened.now.allocator.reported.tree.top
         (demand_in opened.now.allocator.reported.tree)
@@ -90,7 +90,7 @@ fn opened_levels_on_threads<R: Threads + Sync>(
     rt: &R,
     alloc: Global,
     share: u64,
-    opened: &Opened,
+    opened: &OpenedDocument,
 ) -> Result<Answer, OutOfMemory>
     ensures { IfOk result (λ answer. answer
         ≡ levels_reply share (texts_of opened.now.names) opened.now.allocator.reported.tree.top

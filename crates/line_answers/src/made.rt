@@ -13,7 +13,7 @@ use bwe_specs::OutOfMemory;
 use demand_book::Maker;
 use doc_maker::make_document;
 use one_run::Answer;
-use opened_document::{Opened, open_after_script, refused};
+use opened_document::{OpenedDocument, open_after_script, refused};
 use plan_doc::{Document, read_document};
 use std::alloc::Global;
 use table_text::bulk_text;
@@ -73,7 +73,7 @@ fn summary_opened(
     alloc: Global,
     groups: u32,
     tasks: u32,
-    opened: &mut Opened,
+    opened: &mut OpenedDocument,
 ) -> Result<Answer, OutOfMemory>
     ensures { IfOk result (λ answer. (script : List Report)
         → ⟦<Allocator as Maker>⟧.absorbed opened.old.allocator script

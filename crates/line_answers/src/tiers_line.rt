@@ -9,7 +9,7 @@ ghost use Rattle.line_answers.specs.TiersReply.{tiered_reply, tiers_accepted, ti
 
 use bwe_specs::OutOfMemory;
 use one_run::Answer;
-use opened_document::{Opened, Parted, open_after_script, read_parts};
+use opened_document::{OpenedDocument, Parted, open_after_script, read_parts};
 use plan_doc::Document;
 use std::alloc::Global;
 use tier_text::{TiersError, read_tiers, refused_tiers, tier_text};
@@ -56,7 +56,7 @@ fn fill(alloc: Global, document: Document, tiers: &[u8]) -> Result<Answer, OutOf
         ≡ tiered_reply (texts_of document.names) (plan_in document) document.script.items
         tiers.now) }
 {
-    let Opened {
+    let OpenedDocument {
         allocator,
         names,
         ..

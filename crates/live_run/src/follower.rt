@@ -9,7 +9,7 @@ use std::alloc::Global;
 
 /// What is written first for a document, and its follower where it is accepted.
 #[derive(Drop)]
-pub struct Opened<F> {
+pub struct OpenedFollower<F> {
     pub text: Vec<u8>,
     pub follower: Option<F>,
 }
@@ -27,7 +27,7 @@ pub trait Follower: Drop + Sized {
         ensures { IfOk result (λ is. is ≡ follow.is_too_long document.now) };
 
     /// The follower of a document's bytes, with the text that is due first.
-    fn open(alloc: Global, document: &[u8]) -> Result<Opened<Self>, OutOfMemory>
+    fn open(alloc: Global, document: &[u8]) -> Result<OpenedFollower<Self>, OutOfMemory>
         ensures text { IfOk result (λ opened. opened.text.items ≡ follow.first_text document.now) }
         ensures refused { IfOk result (λ opened. IsNone opened.follower
             → follow.accepts document.now ≡ false) }

@@ -17,5 +17,5 @@ mod line;
 mod served;
 
 pub use ending::Stop;
-pub use follower::{Follower, Opened};
+pub use follower::{Follower, OpenedFollower};
 pub use served::serve;

@@ -12,7 +12,7 @@ use crate::answer::answer_meaning;
 use bwe_specs::OutOfMemory;
 use live_core::LiveCore;
 use live_lines::Known;
-use opened_document::{Opened, open};
+use opened_document::{OpenedDocument, open};
 use plan_doc::{Document, read_document, refusal_line};
 use std::alloc::Global;
 use std::marker::Model;
@@ -102,7 +102,7 @@ impl LiveSession {
             (λ session. (accepted : Accepted) → IsDocumentOf accepted document
             → IsSession session accepted []) }
     {
-        let Opened {
+        let OpenedDocument {
             allocator,
             script,
             names,

@@ -10,6 +10,6 @@ mod opened;
 mod parted;
 mod refusal;
 
-pub use opened::{Opened, open, open_after_script};
+pub use opened::{OpenedDocument, open, open_after_script};
 pub use parted::{Parted, read_parts};
 pub use refusal::refused;

@@ -15,7 +15,7 @@ use std::alloc::Global;
 
 /// An allocator of a document's plan, beside the rest of the document.
 #[derive(Drop)]
-pub struct Opened {
+pub struct OpenedDocument {
     pub allocator: Allocator,
     pub script: Vec<Report>,
     pub closings: Vec<Closing>,
@@ -25,7 +25,7 @@ pub struct Opened {
 }
 
 /// Takes an accepted document apart. The allocator has taken in nothing yet.
-pub fn open(document: Document) -> Opened
+pub fn open(document: Document) -> OpenedDocument
     requires { IsUsable document }
     ensures plan { ⟦<Allocator as Maker>⟧.plan result.allocator ≡ plan_in document }
     ensures first { ⟦<Allocator as Maker>⟧.absorbed result.allocator [] }
@@ -56,7 +56,7 @@ pub fn open(document: Document) -> Opened
         link_owners,
         ..
     } = document;
-    Opened {
+    OpenedDocument {
         allocator: Allocator::new(tree, topology, plan),
         script,
         closings,
@@ -67,7 +67,7 @@ pub fn open(document: Document) -> Opened
 }
 
 /// Takes an accepted document apart. The allocator has taken in the document's script.
-pub fn open_after_script(alloc: Global, document: Document) -> Result<Opened, OutOfMemory>
+pub fn open_after_script(alloc: Global, document: Document) -> Result<OpenedDocument, OutOfMemory>
     requires { IsUsable document }
     ensures plan { IfOk result (λ opened.
         ⟦<Allocator as Maker>⟧.plan opened.allocator ≡ plan_in document) }
@@ -81,7 +81,7 @@ pub fn open_after_script(alloc: Global, document: Document) -> Result<Opened, Ou
     ensures task_owners { IfOk result (λ opened. opened.task_owners ≡ document.task_owners) }
     ensures link_owners { IfOk result (λ opened. opened.link_owners ≡ document.link_owners) }
 {
-    let Opened {
+    let OpenedDocument {
         allocator,
         script,
         closings,
@@ -90,7 +90,7 @@ pub fn open_after_script(alloc: Global, document: Document) -> Result<Opened, Ou
         link_owners,
     } = open(document);
     let allocator = after_script(alloc, allocator, &script)?;
-    Ok(Opened {
+    Ok(OpenedDocument {
         allocator,
         script,
         closings,

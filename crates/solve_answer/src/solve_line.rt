@@ -12,7 +12,7 @@ use allocator::Allocator;
 use bwe_specs::OutOfMemory;
 use demand_book::Maker;
 use one_run::Answer;
-use opened_document::{Opened, open_after_script, refused};
+use opened_document::{OpenedDocument, open_after_script, refused};
 use plan_doc::{Document, read_document};
 use std::alloc::Global;
 use table_text::table_text;
@@ -38,7 +38,7 @@ pub fn solve_document(alloc: Global, document: Document) -> Result<Answer, OutOf
 }
 
 // The table of what a document's allocator has taken in.
-fn solve_opened(alloc: Global, opened: &mut Opened) -> Result<Answer, OutOfMemory>
+fn solve_opened(alloc: Global, opened: &mut OpenedDocument) -> Result<Answer, OutOfMemory>
     ensures { IfOk result (λ answer. (script : List Report)
         → ⟦<Allocator as Maker>⟧.absorbed opened.old.allocator script
         → answer ≡ table_reply (texts_of opened.old.names)

@@ -3,7 +3,7 @@
 ghost use Rattle.std.specs.Prelude.{true, false, [], unwrap_or};
 
 use bwe_specs::OutOfMemory;
-use live_run::{Follower, Opened, serve};
+use live_run::{Follower, OpenedFollower, serve};
 use live_stream::{Event, MemoryStream};
 use std::alloc::Global;
 use std::test::Fail;
@@ -26,8 +26,8 @@ impl Follower for Echo {
         Ok(false)
     }
 
-    fn open(alloc: Global, document: &[u8]) -> Result<Opened<Echo>, OutOfMemory> {
-        Ok(Opened {
+    fn open(alloc: Global, document: &[u8]) -> Result<OpenedFollower<Echo>, OutOfMemory> {
+        Ok(OpenedFollower {
             text: Vec::from_slice(alloc, document)?,
             follower: Some(Echo),
         })
