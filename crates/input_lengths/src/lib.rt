@@ -38,7 +38,6 @@ pub fn parts_are_too_long(alloc: Global, input: &[u8]) -> Result<bool, OutOfMemo
     let Some(parts) = find_parts(input) else {
         return Ok(true);
     };
-    let front = &input[..parts.end as usize];
-    let of_version_4 = is_of_version_4(alloc, &front[parts.start as usize..])?;
+    let of_version_4 = is_of_version_4(alloc, parts.document(input))?;
     Ok(!of_version_4)
 }

@@ -27,9 +27,11 @@ pub fn read_parts(alloc: Global, input: &[u8]) -> Result<Parted<'_>, OutOfMemory
         let answer = no_parts(alloc)?;
         return Ok(Parted::Refused { answer });
     };
-    let (front, part) = (&input[..parts.end as usize], &input[parts.end as usize..]);
-    match read_document(alloc, &front[parts.start as usize..]) {
-        Ok(document) => Ok(Parted::Read { document, part }),
+    match read_document(alloc, parts.document(input)) {
+        Ok(document) => Ok(Parted::Read {
+            document,
+            part: parts.second(input),
+        }),
         Err(error) => {
             let answer = refused(alloc, &error)?;
             Ok(Parted::Refused { answer })

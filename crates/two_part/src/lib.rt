@@ -6,8 +6,8 @@
 //! (`specs/TwoPart.antt`). It takes no memory. Nothing is promised of what the two parts hold.
 #![tactic(auto)]
 
-ghost use Rattle.std.specs.Prelude.{◌≡◌, ◌==◌, List, ℕ, length, position, Some, IfSome};
-ghost use Rattle.two_part.specs.TwoPart.{AreParts, IsTwoPart, parts_behind, parts_of};
+ghost use Rattle.std.specs.Prelude.{◌≡◌, ◌==◌, List, ℕ, length, drop, position, Some, IfSome};
+ghost use Rattle.two_part.specs.TwoPart.{AreParts, IsTwoPart, document_in, parts_behind, parts_of};
 
 use text_scan::number_of;
 
@@ -20,6 +20,25 @@ pub const NO_PARTS: &str = "refused 14 parts\n";
 pub struct Parts {
     pub start: u64,
     pub end: u64,
+}
+
+impl Parts {
+    /// The document among the bytes in which these parts were found.
+    pub fn document<'a>(&self, bytes: &'a [u8]) -> &'a [u8]
+        requires { AreParts bytes.now self.now }
+        ensures { result.now ≡ document_in bytes.now self.now }
+    {
+        let front = &bytes[..self.end as usize];
+        &front[self.start as usize..]
+    }
+
+    /// The second part: what stands behind the document.
+    pub fn second<'a>(&self, bytes: &'a [u8]) -> &'a [u8]
+        requires { AreParts bytes.now self.now }
+        ensures { result.now ≡ drop self.now.end bytes.now }
+    {
+        &bytes[self.end as usize..]
+    }
 }
 
 /// The parts of the bytes ("Two-part inputs", docs/FORMAT.md), `None` where they do not begin so.
