@@ -26,28 +26,39 @@ pub struct Outline {
 }
 
 impl Outline {
-    /// An outline of no point, with memory for those to come if it is to have any.
-    pub fn new(alloc: Global, is_drawn: bool) -> Result<Outline, OutOfMemory> {
-        let points = if is_drawn {
-            Vec::with_capacity(alloc, MAX_POINTS)?
-        } else {
-            Vec::new(alloc)
+    /// An outline of no point yet, with memory for as many as the parts' sum has now. That of one
+    /// part has none, as it goes as the part does.
+    pub fn new<P: ShareFunction>(alloc: Global, parts: &[P]) -> Result<Outline, OutOfMemory> {
+        if parts.len() < 2 {
+            return Ok(Outline {
+                points: Vec::new(alloc),
+            });
+        }
+        let mut widest = Outline {
+            points: Vec::with_capacity(alloc, MAX_POINTS)?,
         };
+        widest.add_shares(parts, 0);
+        let points = Vec::with_capacity(alloc, widest.points.len())?;
         Ok(Outline { points })
     }
 
     /// Draws the sum of the parts: the points are at the shares where the parts bend. It takes no
-    /// memory, and draws nothing where `new` took none.
+    /// memory, and draws no more points than `new` took memory for.
     pub fn redraw<P: ShareFunction>(&mut self, parts: &[P], top: u64) {
         self.points.clear();
+        self.add_shares(parts, top);
+        self.points.sort_unstable();
+        for point in self.points.iter_mut() {
+            *point = (point.0, near_sum(parts, point.0));
+        }
+    }
+
+    // Adds share 0, the top, and those at which the parts bend.
+    fn add_shares<P: ShareFunction>(&mut self, parts: &[P], top: u64) {
         self.add(0);
         self.add(top);
         for part in parts {
             part.add_bends(self);
-        }
-        self.points.sort_unstable();
-        for point in self.points.iter_mut() {
-            *point = (point.0, near_sum(parts, point.0));
         }
     }
 
@@ -67,9 +78,11 @@ impl Outline {
         }
     }
 
-    /// Adds the shares of another outline.
+    /// Adds the shares of another outline, but for its first and its last one: each outline has
+    /// those, which are share 0 and the top.
     pub fn add_outline(&mut self, other: &Outline) {
-        for point in other.points.iter() {
+        let inner = other.points.len().saturating_sub(2);
+        for point in other.points.iter().skip(1).take(inner) {
             self.add(point.0);
         }
     }

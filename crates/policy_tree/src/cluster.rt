@@ -51,7 +51,7 @@ impl ClusterNode {
         let ClusterSpec { function, users } = spec;
         let transform = transform_of(alloc, function)?;
         let users = user_nodes(alloc, users)?;
-        let outline = Outline::new(alloc, users.len() > 1)?;
+        let outline = Outline::new(alloc, users.as_slice())?;
         Ok(ClusterNode {
             transform,
             users,

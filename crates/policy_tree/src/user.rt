@@ -50,7 +50,7 @@ impl UserNode {
         let UserSpec { function, jobs } = spec;
         let transform = transform_of(alloc, function)?;
         let jobs = job_nodes(alloc, jobs)?;
-        let outline = Outline::new(alloc, jobs.len() > 1)?;
+        let outline = Outline::new(alloc, jobs.as_slice())?;
         Ok(UserNode {
             transform,
             jobs,
