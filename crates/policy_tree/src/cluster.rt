@@ -161,7 +161,7 @@ fn user_nodes(alloc: Global, specs: Vec<UserSpec>) -> Result<Vec<UserNode>, OutO
     ensures idle { IfOk result (λ users. users.items ≡ map idle_user specs.items) }
     ensures are { IfOk result (λ users. All IsUserState users.items) }
 {
-    let mut users = Vec::new(alloc);
+    let mut users = Vec::with_capacity(alloc, specs.len())?;
     for spec in specs {
         let user = UserNode::new(alloc, spec)?;
         users.push(user)?;
@@ -179,7 +179,7 @@ pub(crate) fn cluster_nodes(
     ensures idle { IfOk result (λ clusters. clusters.items ≡ map idle_cluster specs.items) }
     ensures are { IfOk result (λ clusters. All IsClusterState clusters.items) }
 {
-    let mut clusters = Vec::new(alloc);
+    let mut clusters = Vec::with_capacity(alloc, specs.len())?;
     for spec in specs {
         let cluster = ClusterNode::new(alloc, spec)?;
         clusters.push(cluster)?;

@@ -150,7 +150,7 @@ fn job_nodes(alloc: Global, specs: Vec<JobSpec>) -> Result<Vec<JobNode>, OutOfMe
     ensures idle { IfOk result (λ jobs. jobs.items ≡ map idle_job specs.items) }
     ensures are { IfOk result (λ jobs. All IsJobState jobs.items) }
 {
-    let mut jobs = Vec::new(alloc);
+    let mut jobs = Vec::with_capacity(alloc, specs.len())?;
     for spec in specs {
         let job = JobNode::new(alloc, spec)?;
         jobs.push(job)?;
