@@ -1,9 +1,9 @@
 -- The lists of children, node after node.
-use Rattle.std.proofs.Common.{◌≡◌, ℕ, zero, suc, ◌+◌, ◌<◌, List, [], ◌∷◌, ◌++◌, length, get_or, take, map, flat_map, sum_by, Vec, refl, sym, ◌∙◌, ap, ap₂, arith}
+use Rattle.std.proofs.Common.{◌≡◌, ℕ, zero, suc, ◌+◌, ◌<◌, ◌≤◌, List, [], ◌∷◌, ◌++◌, length, get_or, take, map, flat_map, sum_by, Vec, refl, sym, ◌∙◌, ap, ap₂, arith}
 use Rattle.std.specs.Global.{Global}
 use Rattle.std.specs.List.{range_with_len}
 use Rattle.std.proofs.lemmas.List.{length-append, length-map, append-nil, append_assoc, take_more, get_or-map}
-use Rattle.std.proofs.lemmas.List.Sums.{sum_by-cons}
+use Rattle.std.proofs.lemmas.List.Sums.{sum_by-cons, sum_by_more_le}
 use Rattle.policy_tree.specs.States.{JobState, UserState, ClusterState, job_tasks, user_tasks, cluster_tasks}
 use Rattle.policy_tree.specs.Numbering.{numbered, numbered_job, numbered_user, numbered_cluster, numbered_clusters}
 use Rattle.policy_tree.specs.Walk.{Node, OfJob, job_nodes, user_nodes, cluster_nodes, walk}
@@ -112,6 +112,25 @@ cluster-size first cluster = omega (arith, length-nodes user_tasks numbered_user
 
 pub walk-size : (clusters : List ClusterState) → length (walk (numbered_clusters clusters)) ≡ sum_by cluster_size clusters
 walk-size clusters = length-nodes cluster_tasks numbered_cluster cluster_nodes cluster_size cluster-size 0 clusters
+
+-- no more items than nodes, where each item is one with others under it
+pub length-within : {X : Type 0} (size : X → ℕ) → ((x : X) → 1 ≤ size x) → (xs : List X) → length xs ≤ sum_by size xs
+length-within size some [] = omega arith
+length-within size some (x ∷ xs) = omega (arith, some x, sum_by-cons size x xs, length-within size some xs)
+
+-- so a place among nodes is below the number of all nodes
+pub clusters-within : (clusters : List ClusterState) → length clusters ≤ sum_by cluster_size clusters
+clusters-within clusters = length-within cluster_size (λ cluster. omega arith) clusters
+
+pub users-within : (clusters : List ClusterState) (place : ℕ) (d : ClusterState) → place < length clusters → length (get_or clusters place d).users ≤ sum_by cluster_size clusters
+users-within clusters place d lt =
+    omega (arith, length-within user_size (λ user. omega arith) (get_or clusters place d).users, sum_by_more_le cluster_size clusters place d lt)
+
+pub jobs-within : (clusters : List ClusterState) (place : ℕ) (d : ClusterState) (user : ℕ) (e : UserState) → place < length clusters → user < length (get_or clusters place d).users
+    → length (get_or (get_or clusters place d).users user e).jobs ≤ sum_by cluster_size clusters
+jobs-within clusters place d user e lt lt_user =
+    let users = (get_or clusters place d).users in
+    omega (arith, length-within job_size (λ job. omega arith) (get_or users user e).jobs, sum_by_more_le user_size users user e lt_user, sum_by_more_le cluster_size clusters place d lt)
 
 -- a node's own list, and then those of the nodes under it
 own-first : (n : ℕ) (old new : List (List ℕ)) (own : List ℕ) (node : Node) (nodes : List Node) → own ≡ child_numbers n node

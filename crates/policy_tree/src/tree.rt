@@ -92,7 +92,12 @@ impl PolicyTree {
         ensures refused { OnErr result (self.new ≡ self.old) }
     {
         let home = self.homes[task as usize];
-        self.clusters[home.cluster].set(home.user, home.job, home.task, demand)?;
+        self.clusters[home.cluster as usize].set(
+            home.user as usize,
+            home.job as usize,
+            home.task,
+            demand,
+        )?;
         Ok(())
     }
 
@@ -111,7 +116,11 @@ impl PolicyTree {
         ensures { result ≡ demand_in self.now task }
     {
         let home = self.homes[task as usize];
-        self.clusters[home.cluster].demand(home.user, home.job, home.task)
+        self.clusters[home.cluster as usize].demand(
+            home.user as usize,
+            home.job as usize,
+            home.task,
+        )
     }
 
     /// How many groups there are.
@@ -217,7 +226,12 @@ impl PolicyTree {
         ensures { result ≡ task_value_in self.now task share }
     {
         let home = self.homes[task as usize];
-        self.clusters[home.cluster].task_value(home.user, home.job, home.task, share)
+        self.clusters[home.cluster as usize].task_value(
+            home.user as usize,
+            home.job as usize,
+            home.task,
+            share,
+        )
     }
 
     /// What a group may have at a share, in kilobits per second.

@@ -2,9 +2,10 @@ use Rattle.std.proofs.Common.{refl, ◌≡◌, ℕ, ◌+◌, ◌<◌, ◌≤◌,
 use Rattle.std.proofs.lemmas.List.{length-map, take_all}
 use Rattle.std.proofs.lemmas.List.Sums.{sum_by_more}
 use Rattle.policy_tree.specs.declared.home.Home.{Home}
-use Rattle.policy_tree.specs.States.{JobState, UserState, job_tasks}
+use Rattle.policy_tree.specs.States.{JobState, UserState, ClusterState, job_tasks}
 use Rattle.policy_tree.specs.Kept.{user_counts, cluster_counts, counts_of, users_count, clusters_count, IsHome}
 use Rattle.policy_tree.proofs.Homes.{AreHomesBelow, homes-push, homes-counted, counts-cluster, counts-user, counts-job}
+use Rattle.policy_tree.proofs.ChildLists.{walk-size, clusters-within, users-within, jobs-within}
 use Rattle.policy_tree.proofs.home.homes_of.Goals as goal
 use Rattle.policy_tree.proofs.home.homes_of.Goals.{After-users-user_node-items, After-jobs-job_node-items, After-tasks-task-end}
 
@@ -102,6 +103,55 @@ loop-cluster-preserved c =
     homes-counted all c.loop-user.homes.items _ _
     (omega (arith, sum_by_more users_count all c.loop-cluster.cluster [] within, done))
     c.loop-user.invariant
+
+-- places are below the number of nodes, which has 32 bits
+users_size : (c : After-users-user_node-items) → length c.users-user_node-items.result.now ≡ length (get_or c.args.clusters.now c.loop-cluster.cluster c.index-clusters-cluster.result).users
+users_size c =
+    ap (λ (users : List UserState). length users) c.users-user_node-items.ensures.users
+    ∙ ap (λ (cluster : ClusterState). length cluster.users) c.index-clusters-cluster.is
+
+jobs_size : (c : After-jobs-job_node-items)
+    → length c.jobs-job_node-items.result.now
+    ≡ length (get_or (get_or c.args.clusters.now c.loop-cluster.cluster c.index-clusters-cluster.result).users c.loop-user.user c.user_node-item.result).jobs
+jobs_size c =
+    let user = c.user_node-item.result in
+    ap (λ (jobs : List JobState). length jobs) c.jobs-job_node-items.ensures.jobs
+    ∙ ap (λ (state : UserState). length state.jobs) c.user_node-item.is
+    ∙ ap (λ (users : List UserState). length (get_or users c.loop-user.user user).jobs) c.users-user_node-items.ensures.users
+    ∙ ap (λ (cluster : ClusterState). length (get_or cluster.users c.loop-user.user user).jobs) c.index-clusters-cluster.is
+
+pub overflow_cast-home : goal.overflow_cast-home
+overflow_cast-home c =
+    let clusters = c.args.clusters.now in
+    omega (arith, clusters-within clusters, walk-size clusters, c.requires, c.loop-cluster-test.true)
+
+pub overflow_cast-home-in-loop-task : goal.overflow_cast-home-in-loop-task
+overflow_cast-home-in-loop-task c =
+    let clusters = c.args.clusters.now in
+    let b = (goal.at.overflow_cast-home-in-loop-task c).After-users-user_node-items in
+    omega (
+      arith,
+      users_size b,
+      users-within clusters c.loop-cluster.cluster c.index-clusters-cluster.result c.loop-cluster-test.true,
+      walk-size clusters,
+      c.requires,
+      c.loop-user-test.true,
+    )
+
+pub overflow_cast-home-in-loop-task-2 : goal.overflow_cast-home-in-loop-task-2
+overflow_cast-home-in-loop-task-2 c =
+    let clusters = c.args.clusters.now in
+    let b = (goal.at.overflow_cast-home-in-loop-task-2 c).After-users-user_node-items in
+    let d = (goal.at.overflow_cast-home-in-loop-task-2 c).After-jobs-job_node-items in
+    let there : c.loop-user.user < length (get_or clusters c.loop-cluster.cluster c.index-clusters-cluster.result).users = omega (arith, users_size b, c.loop-user-test.true) in
+    omega (
+      arith,
+      jobs_size d,
+      jobs-within clusters c.loop-cluster.cluster c.index-clusters-cluster.result c.loop-user.user c.user_node-item.result c.loop-cluster-test.true there,
+      walk-size clusters,
+      c.requires,
+      c.loop-job-test.true,
+    )
 
 pub returns : goal.returns
 returns c =
