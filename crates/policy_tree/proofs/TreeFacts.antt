@@ -23,7 +23,6 @@ use Rattle.policy_tree.specs.declared.home.Home.{Home}
 use Rattle.policy_tree.specs.States.{JobState, UserState, ClusterState, job_tasks, user_tasks, cluster_tasks, cluster_meaning, IsKeptFunction, IsJobState, IsUserState, IsClusterState}
 use Rattle.policy_tree.specs.Asked.{HasTop}
 use Rattle.policy_tree.specs.Walk.{walk}
-use Rattle.policy_tree.specs.Children.{child_lists}
 use Rattle.policy_tree.specs.Changes.{job_at, user_at, cluster_at, job_with, user_with, cluster_with}
 use Rattle.policy_tree.specs.Numbering.{numbered, points_by, numbered_task, numbered_tasks, numbered_job, numbered_jobs, numbered_user, numbered_users, numbered_cluster, numbered_clusters, job_demands, user_demands, cluster_demands, demands_of}
 use Rattle.policy_tree.specs.Trees.{Tree, demand_in, value_in, job_numbers, user_numbers, cluster_numbers, task_numbers, IsTree, tree_of}
@@ -131,8 +130,8 @@ user-demands-few user is = demands-few job_demands IsJobState job-demands-few us
 cluster-demands-few : (cluster : ClusterState) → IsClusterState cluster → All (λ demand. demand ≤ MAX_AMOUNT) (cluster_demands cluster)
 cluster-demands-few cluster is = demands-few user_demands IsUserState user-demands-few cluster.users is.users
 
-pub tree-is : (top : ℕ) (clusters : List ClusterState) (homes : List Home) (firsts : List ℕ) (lists : List (List ℕ)) → IsKeptTree top clusters homes firsts lists → IsTree (tree_of top clusters)
-tree-is top clusters homes firsts lists kept = record {
+pub tree-is : (top : ℕ) (clusters : List ClusterState) (homes : List Home) (firsts : List ℕ) → IsKeptTree top clusters homes firsts → IsTree (tree_of top clusters)
+tree-is top clusters homes firsts kept = record {
   low = kept.low;
   high = kept.high;
   functions = clusters-are top 0 clusters kept.are kept.tops;
@@ -158,10 +157,10 @@ value-agrees top clusters have group share lt =
     ∙ ap (λ (values : List (ℕ → ℕ)). get_or values group (λ s. 0)) lists
     ∙ get_or-map cluster_meaning clusters group _ (λ s. 0) lt)
 
-pub values-are : (top : ℕ) (clusters : List ClusterState) (homes : List Home) (firsts : List ℕ) (lists : List (List ℕ)) → IsKeptTree top clusters homes firsts lists → AreValues (length (numbered_clusters clusters)) top (value_in (tree_of top clusters))
-values-are top clusters homes firsts lists kept =
+pub values-are : (top : ℕ) (clusters : List ClusterState) (homes : List Home) (firsts : List ℕ) → IsKeptTree top clusters homes firsts → AreValues (length (numbered_clusters clusters)) top (value_in (tree_of top clusters))
+values-are top clusters homes firsts kept =
     let tree = tree_of top clusters in
-    let share_function = value-share_function tree (tree-is top clusters homes firsts lists kept).functions in
+    let share_function = value-share_function tree (tree-is top clusters homes firsts kept).functions in
     let size = length-numbered cluster_tasks numbered_cluster 0 clusters in
     let all : sum_below (length clusters) (λ group. value_in tree group top) ≡ children_sum (map cluster_meaning clusters) top =
     sum_below-same (length clusters) (λ group. value_in tree group top) (λ group. cluster_meaning (cluster_at clusters group) top) (λ group lt. value-agrees top clusters kept.tops group top lt)
@@ -221,9 +220,9 @@ tops-with top clusters cluster user job task demand have within within_user with
     }) have
 
 -- what is kept, with another demand
-pub kept-with : (top : ℕ) (clusters : List ClusterState) (homes : List Home) (firsts : List ℕ) (lists : List (List ℕ)) (number : ℕ) (home : Home) (demand : ℕ) → IsKeptTree top clusters homes firsts lists → IsAt clusters number home → demand ≤ 1_000_000_000_000
-    → IsKeptTree top (set clusters home.cluster (cluster_with (cluster_at clusters home.cluster) home.user home.job home.task demand)) homes firsts lists
-kept-with top clusters homes firsts lists number home demand kept is few =
+pub kept-with : (top : ℕ) (clusters : List ClusterState) (homes : List Home) (firsts : List ℕ) (number : ℕ) (home : Home) (demand : ℕ) → IsKeptTree top clusters homes firsts → IsAt clusters number home → demand ≤ 1_000_000_000_000
+    → IsKeptTree top (set clusters home.cluster (cluster_with (cluster_at clusters home.cluster) home.user home.job home.task demand)) homes firsts
+kept-with top clusters homes firsts number home demand kept is few =
     let held = cluster_at clusters home.cluster in
     record {
       low = kept.low;
@@ -235,21 +234,20 @@ kept-with top clusters homes firsts lists number home demand kept is few =
       tasks = subst (λ (counts : List (List (List ℕ))). AreHomes counts homes) (sym (counts-with clusters home.cluster home.user home.job home.task demand)) kept.tasks;
       starts = subst (λ (counts : List (List (List ℕ))). AreFirsts counts firsts) (sym (counts-with clusters home.cluster home.user home.job home.task demand)) kept.starts;
       nodes = subst (λ (numbered : List Cluster). length (walk numbered) < 4_294_967_296) (sym (numbered-with clusters home.cluster home.user home.job home.task demand)) kept.nodes;
-      children = kept.children ∙ ap (λ (numbered : List Cluster). child_lists 0 (walk numbered)) (sym (numbered-with clusters home.cluster home.user home.job home.task demand));
     }
 
 -- each task is at home
-pub length-homes : (top : ℕ) (clusters : List ClusterState) (homes : List Home) (firsts : List ℕ) (lists : List (List ℕ)) → IsKeptTree top clusters homes firsts lists → length (demands_of clusters) ≡ length homes
-length-homes top clusters homes firsts lists kept = sym (kept.tasks.size ∙ counts_of-length clusters)
+pub length-homes : (top : ℕ) (clusters : List ClusterState) (homes : List Home) (firsts : List ℕ) → IsKeptTree top clusters homes firsts → length (demands_of clusters) ≡ length homes
+length-homes top clusters homes firsts kept = sym (kept.tasks.size ∙ counts_of-length clusters)
 
-pub home-known : (top : ℕ) (clusters : List ClusterState) (homes : List Home) (firsts : List ℕ) (lists : List (List ℕ)) (tree : Tree) → IsKeptTree top clusters homes firsts lists → tree_of top clusters ≡ tree
+pub home-known : (top : ℕ) (clusters : List ClusterState) (homes : List Home) (firsts : List ℕ) (tree : Tree) → IsKeptTree top clusters homes firsts → tree_of top clusters ≡ tree
     → (task : ℕ) → task < length tree.demands → task < length homes
-home-known top clusters homes firsts lists tree kept same task lt =
-    let e : length tree.demands ≡ length homes = ap (λ (t : Tree). length t.demands) (sym same) ∙ length-homes top clusters homes firsts lists kept in
+home-known top clusters homes firsts tree kept same task lt =
+    let e : length tree.demands ≡ length homes = ap (λ (t : Tree). length t.demands) (sym same) ∙ length-homes top clusters homes firsts kept in
     omega arith
 
-pub home-is : (top : ℕ) (clusters : List ClusterState) (homes : List Home) (firsts : List ℕ) (lists : List (List ℕ)) → IsKeptTree top clusters homes firsts lists → (task : ℕ) (home : Home) → task < length homes → home ≡ get_or homes task home → IsAt clusters task home
-home-is top clusters homes firsts lists kept task home lt read = home-at clusters task home (subst (IsHome (counts_of clusters) task) (sym read) (kept.tasks.each task home lt))
+pub home-is : (top : ℕ) (clusters : List ClusterState) (homes : List Home) (firsts : List ℕ) → IsKeptTree top clusters homes firsts → (task : ℕ) (home : Home) → task < length homes → home ≡ get_or homes task home → IsAt clusters task home
+home-is top clusters homes firsts kept task home lt read = home-at clusters task home (subst (IsHome (counts_of clusters) task) (sym read) (kept.tasks.each task home lt))
 
 pub length-clusters : (top : ℕ) (clusters : List ClusterState) (tree : Tree) → tree_of top clusters ≡ tree → length tree.clusters ≡ length clusters
 length-clusters top clusters tree same = ap (λ (t : Tree). length t.clusters) (sym same) ∙ length-numbered cluster_tasks numbered_cluster 0 clusters
@@ -261,9 +259,9 @@ first-numbered top clusters group =
     ∙ ap (λ (numbers : List ℕ). length numbers) (clusters-numbers (take group clusters))
     ∙ length-range_with_len 0 (sum_by cluster_tasks (take group clusters))
 
-pub first-kept : (top : ℕ) (clusters : List ClusterState) (homes : List Home) (firsts : List ℕ) (lists : List (List ℕ)) → IsKeptTree top clusters homes firsts lists → (group : ℕ) → group < length clusters
+pub first-kept : (top : ℕ) (clusters : List ClusterState) (homes : List Home) (firsts : List ℕ) → IsKeptTree top clusters homes firsts → (group : ℕ) → group < length clusters
     → get_or firsts group 0 ≡ first_in (tree_of top clusters) group
-first-kept top clusters homes firsts lists kept group lt =
+first-kept top clusters homes firsts kept group lt =
     kept.starts.each group (omega (arith, length-map clusters cluster_counts, lt)) ∙ counts-before clusters group ∙ sym (first-numbered top clusters group)
 
 pub cluster-of : (top : ℕ) (clusters : List ClusterState) → All (HaveClusterTop top) clusters → (group : ℕ) → group < length clusters → IsClusterOf (tree_of top clusters) group (cluster_at clusters group)

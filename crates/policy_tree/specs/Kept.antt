@@ -1,4 +1,4 @@
--- What a tree keeps beside its nodes: where each task is, and the numbers of children.
+-- What a tree keeps beside its nodes: where each task is, and where each group's tasks begin.
 use Rattle.std.specs.Prelude.{◌≡◌, ℕ, ◌+◌, ◌<◌, ◌≤◌, List, [], length, map, take, sum, sum_by, slice_index, slice_index_or, All}
 use Rattle.bwe_specs.specs.declared.limits.TheConstants.{MAX_SHARE, MAX_TASKS}
 use Rattle.policy_tree.specs.declared.home.Home.{Home}
@@ -6,7 +6,6 @@ use Rattle.policy_tree.specs.States.{JobState, UserState, ClusterState, job_task
 use Rattle.policy_tree.specs.Asked.{HasTop}
 use Rattle.policy_tree.specs.Numbering.{numbered_clusters}
 use Rattle.policy_tree.specs.Walk.{walk}
-use Rattle.policy_tree.specs.Children.{child_lists}
 
 -- how many tasks each job has
 abbrev pub user_counts : UserState → List ℕ
@@ -62,9 +61,9 @@ pub record HaveClusterTop (top : ℕ) (cluster : ClusterState) : Type 0 where
   pub configured : HasTop top cluster.configured
   pub users : All (HaveUserTop top) cluster.users
 
--- the nodes of a tree, the homes of its tasks, and the children of each node
-pub record IsKeptTree (top : ℕ) (clusters : List ClusterState) (homes : List Home) (firsts : List ℕ)
-    (lists : List (List ℕ)) : Type 0 where
+-- the nodes of a tree, the homes of its tasks, and the first task of each group
+pub record IsKeptTree (top : ℕ) (clusters : List ClusterState) (homes : List Home)
+    (firsts : List ℕ) : Type 0 where
   pub low : 1 ≤ top
   pub high : top ≤ MAX_SHARE
   pub groups : length clusters < 4_294_967_296
@@ -74,4 +73,3 @@ pub record IsKeptTree (top : ℕ) (clusters : List ClusterState) (homes : List H
   pub tasks : AreHomes (counts_of clusters) homes
   pub starts : AreFirsts (counts_of clusters) firsts
   pub nodes : length (walk (numbered_clusters clusters)) < 4_294_967_296
-  pub children : lists ≡ child_lists 0 (walk (numbered_clusters clusters))

@@ -29,7 +29,6 @@ pub struct PolicyTree {
     clusters: Vec<ClusterNode>,
     homes: Vec<Home>,
     firsts: Vec<u32>,
-    children: Vec<Vec<u32>>,
 }
 
 impl Model for PolicyTree {
@@ -37,13 +36,12 @@ impl Model for PolicyTree {
 
     ghost Value = { Tree };
 
-    ghost use Rattle.bwe_specs.specs.Lists.{lists_of};
     ghost use Rattle.policy_tree.specs.Kept.{IsKeptTree};
 
     ghost view = { λ tree. tree_of tree.top tree.clusters.items };
 
-    ghost invariant = { λ tree. IsKeptTree
-        tree.top tree.clusters.items tree.homes.items tree.firsts.items (lists_of tree.children.items) };
+    ghost invariant = { λ tree.
+        IsKeptTree tree.top tree.clusters.items tree.homes.items tree.firsts.items };
 }
 
 impl PolicyTree {
@@ -71,13 +69,11 @@ impl PolicyTree {
         let firsts = firsts_of(alloc, clusters.as_slice())?;
         let clusters = cluster_nodes(alloc, clusters)?;
         let homes = homes_of(alloc, clusters.as_slice())?;
-        let children = children_of(alloc, clusters.as_slice())?;
         Ok(PolicyTree {
             top,
             clusters,
             homes,
             firsts,
-            children,
         })
     }
 
@@ -173,11 +169,11 @@ impl PolicyTree {
         self.firsts[group as usize]
     }
 
-    /// How many nodes there are: clusters, users and jobs.
+    /// How many nodes there are: clusters, users and jobs. They are counted at each call.
     pub fn nodes(&self) -> u32
         ensures { result ≡ length (walk self.now.clusters) }
     {
-        self.children.len() as u32
+        count_of(self.clusters.as_slice())
     }
 
     /// Of which kind a node is ("Numbering rule", docs/DEFINITIONS.md).
@@ -194,11 +190,17 @@ impl PolicyTree {
     }
 
     /// The numbers of a node's children in their order: of its users, its jobs, or its tasks.
-    pub fn children(&self, node: u32) -> &[u32]
+    ///
+    /// The tree keeps no such list: each call makes those of all nodes, in one walk. No clause says
+    /// when memory runs out.
+    pub fn children(&self, alloc: Global, node: u32) -> Result<Vec<u32>, OutOfMemory>
         requires { node < length (walk self.now.clusters) }
-        ensures { result.now ≡ child_numbers node (node_in self.now node) }
+        ensures { IfOk result (λ numbers.
+            numbers.items ≡ child_numbers node (node_in self.now node)) }
     {
-        self.children[node as usize].as_slice()
+        let lists = children_of(alloc, self.clusters.as_slice())?;
+        let numbers = Vec::from_slice(alloc, lists[node as usize].as_slice())?;
+        Ok(numbers)
     }
 
     /// The number of a group's cluster.

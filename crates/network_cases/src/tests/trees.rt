@@ -2,6 +2,7 @@
 
 use super::made::{ask, ask_each, first_value, one_task, two_jobs, two_weights};
 use bw_function::BwFunction;
+use bwe_specs::OutOfMemory;
 use policy_tree::{ClusterSpec, Kind, PolicyTree, TreeError, TreeFault, TreeSpec};
 use std::alloc::Global;
 use std::test::Fail;
@@ -42,7 +43,8 @@ fn an_amount_between_two_shares_is_not_reached(rt: HostRuntime) -> Result<(), Fa
 fn nodes_and_tasks_are_known_by_their_numbers(rt: HostRuntime) -> Result<(), Fail> {
     let tree = configured_user(rt.alloc(), &[(0, 0), (10, 60)])?;
     assert!(rt; has_a_cluster_a_user_and_two_jobs(&tree));
-    assert!(rt; has_children_in_order(&tree));
+    let in_order = has_children_in_order(rt.alloc(), &tree)?;
+    assert!(rt; in_order);
     assert!(rt; has_values_of_nodes_and_tasks(&tree));
     Ok(())
 }
@@ -55,14 +57,20 @@ fn has_a_cluster_a_user_and_two_jobs(tree: &PolicyTree) -> bool {
         && (tree.kind(2), tree.kind(3)) == (Kind::Job, Kind::Job)
 }
 
-fn has_children_in_order(tree: &PolicyTree) -> bool {
+fn has_children_in_order(alloc: Global, tree: &PolicyTree) -> Result<bool, OutOfMemory> {
     if tree.nodes() != 4 {
-        return false;
+        return Ok(false);
     }
-    tree.children(0) == [1].as_slice()
-        && tree.children(1) == [2, 3].as_slice()
-        && tree.children(2) == [0].as_slice()
-        && tree.children(3) == [1].as_slice()
+    let users = tree.children(alloc, 0)?;
+    let jobs = tree.children(alloc, 1)?;
+    let first = tree.children(alloc, 2)?;
+    let second = tree.children(alloc, 3)?;
+    Ok(
+        users.as_slice() == [1].as_slice()
+            && jobs.as_slice() == [2, 3].as_slice()
+            && first.as_slice() == [0].as_slice()
+            && second.as_slice() == [1].as_slice(),
+    )
 }
 
 fn has_values_of_nodes_and_tasks(tree: &PolicyTree) -> bool {

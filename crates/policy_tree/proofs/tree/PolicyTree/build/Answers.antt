@@ -8,7 +8,6 @@ use Rattle.policy_tree.proofs.TreeFacts.{idle-firsts}
 use Rattle.policy_tree.specs.Kept.{HaveClusterTop, AreFirsts, AreHomes, counts_of}
 use Rattle.policy_tree.specs.Trees.{Tree, tree_of}
 use Rattle.policy_tree.specs.Numbering.{numbered_clusters}
-use Rattle.policy_tree.specs.Children.{child_lists}
 use Rattle.policy_tree.specs.Walk.{walk, tree_fault}
 use Rattle.policy_tree.proofs.Counting.{weights-few, clusters-few, length-walk, length-task_numbers}
 use Rattle.policy_tree.proofs.Idle.{idle_clusters-tasks, idle_clusters-top, idle-demands}
@@ -43,7 +42,6 @@ invariant_of-result c =
       tasks = subst (λ (states : List ClusterState). AreHomes (counts_of states) c.in_ok-homes.homes.items) c.as_slice-3.ensures.value c.in_ok-homes.ensures;
       starts = subst (λ (states : List ClusterState). AreFirsts (counts_of states) c.in_ok-firsts.firsts.items) (sym idle) (idle-firsts specs c.in_ok-firsts.firsts (subst (λ (list : List ClusterSpec). AreFirstsOf list c.in_ok-firsts.firsts) c.as_slice-2.ensures.value c.in_ok-firsts.ensures));
       nodes = subst (λ (states : List ClusterState). length (walk (numbered_clusters states)) < 4_294_967_296) (sym idle) c.requires.nodes;
-      children = c.in_ok-children.ensures ∙ ap (λ (states : List ClusterState). child_lists 0 (walk (numbered_clusters states))) c.as_slice-4.ensures.value;
     }
 
 pub returns-clause-built : goal.returns-clause-built
@@ -52,9 +50,3 @@ returns-clause-built c =
     ap (tree_of c.args.spec.top) c.in_ok-clusters.ensures.idle
     ∙ ap {B = Tree} (λ demands. record { top = c.args.spec.top; clusters = clusters_of specs; demands = demands })
     (idle-demands specs ∙ ap (λ (n : ℕ). replicate n 0) (idle_clusters-tasks specs ∙ sym (length-task_numbers specs)))
-
-pub children_of-requires-clause-tasks : goal.children_of-requires-clause-tasks
-children_of-requires-clause-tasks c =
-    let specs = c.args.spec.clusters.items in
-    let count = ap (λ (states : List ClusterState). sum_by cluster_tasks states) (c.as_slice-4.ensures.value ∙ c.in_ok-clusters.ensures.idle) ∙ idle_clusters-tasks specs in
-    omega (arith, count, few (goal.at.children_of-requires-clause-tasks c).In_default)

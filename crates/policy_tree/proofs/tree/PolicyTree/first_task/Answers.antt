@@ -21,5 +21,5 @@ returns c =
     let size = length-map clusters cluster_counts in
     let known : c.args.group < length c.self.inside.firsts.items = omega (arith, c.self.invariant.starts.size, size, within) in
     get_or_read c.self.inside.firsts.items c.args.group c.index.result.now known c.index.ensures 0
-    ∙ first-kept _ clusters _ _ _ c.self.invariant c.args.group within
+    ∙ first-kept _ clusters _ _ c.self.invariant c.args.group within
     ∙ ap (λ (tree : Tree). first_in tree c.args.group) c.self.view_is

@@ -5,20 +5,19 @@ use Rattle.policy_tree.specs.States.{ClusterState, job_tasks}
 use Rattle.policy_tree.specs.Changes.{job_at, user_at, cluster_at, cluster_with}
 use Rattle.policy_tree.specs.Trees.{Tree, tree_of, asking}
 use Rattle.policy_tree.specs.Kept.{IsKeptTree}
-use Rattle.bwe_specs.specs.Lists.{lists_of}
 use Rattle.policy_tree.proofs.Homes.{IsAt, demands-with}
 use Rattle.policy_tree.proofs.TreeFacts.{home-known, home-is, kept-with, numbered-with}
 use Rattle.policy_tree.proofs.tree.PolicyTree.set_demand.Goals as goal
 use Rattle.policy_tree.proofs.tree.PolicyTree.set_demand.Goals.{After-index-home, After-index_mut}
 
 found : (c : After-index-home) → IsAt c.self.inside.clusters.items c.args.task c.index-home.result.now
-found c = home-is _ _ _ _ _ c.self.invariant c.args.task c.index-home.result.now (home-known _ _ _ _ _ _ c.self.invariant c.self.view_is c.args.task c.requires.task) c.index-home.ensures
+found c = home-is _ _ _ _ c.self.invariant c.args.task c.index-home.result.now (home-known _ _ _ _ _ c.self.invariant c.self.view_is c.args.task c.requires.task) c.index-home.ensures
 
 read : (c : After-index_mut) → c.index-home.result.now.cluster < length c.self.inside.clusters.items → c.index_mut.result.now ≡ cluster_at c.self.inside.clusters.items c.index-home.result.now.cluster
 read c within = get_or_read c.self.inside.clusters.items c.index-home.result.now.cluster c.index_mut.result.now within c.index_mut.ensures.value _
 
 pub index-home-requires : goal.index-home-requires
-index-home-requires c = let lt = home-known _ _ _ _ _ _ c.self.invariant c.self.view_is c.args.task c.requires.task in omega (arith, c.self.inside.homes.ok.0)
+index-home-requires c = let lt = home-known _ _ _ _ _ c.self.invariant c.self.view_is c.args.task c.requires.task in omega (arith, c.self.inside.homes.ok.0)
 
 pub index_mut-requires : goal.index_mut-requires
 index_mut-requires c = let at = found (goal.at.index_mut-requires c).After-index-home in omega (arith, c.self.inside.clusters.ok.0, at.cluster)
@@ -44,7 +43,7 @@ invariant_of-self c =
     let clusters = c.self.inside.clusters.items in
     let place = c.index-home.result.now.cluster in
     let same : set clusters place c.set.new.self ≡ clusters = ap (set clusters place) (c.in_err-set.ensures.refused ∙ read (goal.at.invariant_of-self c).After-index_mut at.cluster) ∙ set-get_or clusters place _ in
-    subst (λ (states : List ClusterState). IsKeptTree c.self.inside.top states c.self.inside.homes.items c.self.inside.firsts.items (lists_of c.self.inside.children.items)) (sym same) c.self.invariant
+    subst (λ (states : List ClusterState). IsKeptTree c.self.inside.top states c.self.inside.homes.items c.self.inside.firsts.items) (sym same) c.self.invariant
 
 pub returns-in_err-set-clause-refused : goal.returns-in_err-set-clause-refused
 returns-in_err-set-clause-refused c =
@@ -60,8 +59,8 @@ invariant_of-self-2 c =
     let home = c.index-home.result.now in
     let changed : c.set.new.self ≡ cluster_with (cluster_at c.self.inside.clusters.items home.cluster) home.user home.job home.task c.args.demand =
     c.in_ok-set.ensures.ok ∙ ap (λ (cluster : ClusterState). cluster_with cluster home.user home.job home.task c.args.demand) (read (goal.at.invariant_of-self-2 c).After-index_mut at.cluster) in
-    subst (λ (cluster : ClusterState). IsKeptTree c.self.inside.top (set c.self.inside.clusters.items home.cluster cluster) c.self.inside.homes.items c.self.inside.firsts.items (lists_of c.self.inside.children.items)) (sym changed)
-    (kept-with c.self.inside.top c.self.inside.clusters.items c.self.inside.homes.items c.self.inside.firsts.items (lists_of c.self.inside.children.items) c.args.task home c.args.demand c.self.invariant at c.requires.demand)
+    subst (λ (cluster : ClusterState). IsKeptTree c.self.inside.top (set c.self.inside.clusters.items home.cluster cluster) c.self.inside.homes.items c.self.inside.firsts.items) (sym changed)
+    (kept-with c.self.inside.top c.self.inside.clusters.items c.self.inside.homes.items c.self.inside.firsts.items c.args.task home c.args.demand c.self.invariant at c.requires.demand)
 
 pub returns-clause-ok : goal.returns-clause-ok
 returns-clause-ok c =

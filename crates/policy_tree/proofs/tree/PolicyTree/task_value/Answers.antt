@@ -11,13 +11,13 @@ use Rattle.policy_tree.proofs.tree.PolicyTree.task_value.Goals as goal
 use Rattle.policy_tree.proofs.tree.PolicyTree.task_value.Goals.{After-index-home, After-index}
 
 found : (c : After-index-home) → IsAt c.self.inside.clusters.items c.args.task c.index-home.result.now
-found c = home-is _ _ _ _ _ c.self.invariant c.args.task c.index-home.result.now (home-known _ _ _ _ _ _ c.self.invariant c.self.view_is c.args.task c.requires) c.index-home.ensures
+found c = home-is _ _ _ _ c.self.invariant c.args.task c.index-home.result.now (home-known _ _ _ _ _ c.self.invariant c.self.view_is c.args.task c.requires) c.index-home.ensures
 
 read : (c : After-index) → c.index-home.result.now.cluster < length c.self.inside.clusters.items → c.index.result.now ≡ cluster_at c.self.inside.clusters.items c.index-home.result.now.cluster
 read c within = get_or_read c.self.inside.clusters.items c.index-home.result.now.cluster c.index.result.now within c.index.ensures _
 
 pub index-home-requires : goal.index-home-requires
-index-home-requires c = let lt = home-known _ _ _ _ _ _ c.self.invariant c.self.view_is c.args.task c.requires in omega (arith, c.self.inside.homes.ok.0)
+index-home-requires c = let lt = home-known _ _ _ _ _ c.self.invariant c.self.view_is c.args.task c.requires in omega (arith, c.self.inside.homes.ok.0)
 
 pub index-requires : goal.index-requires
 index-requires c = let at = found (goal.at.index-requires c).After-index-home in omega (arith, c.self.inside.clusters.ok.0, at.cluster)

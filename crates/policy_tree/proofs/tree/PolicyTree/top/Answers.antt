@@ -5,8 +5,8 @@ use Rattle.policy_tree.proofs.TreeFacts.{tree-is, values-are}
 use Rattle.policy_tree.proofs.tree.PolicyTree.top.Goals as goal
 
 pub returns-clause-tree : goal.returns-clause-tree
-returns-clause-tree c = subst IsTree c.self.view_is (tree-is _ _ _ _ _ c.self.invariant)
+returns-clause-tree c = subst IsTree c.self.view_is (tree-is _ _ _ _ c.self.invariant)
 
 pub returns-clause-values : goal.returns-clause-values
 returns-clause-values c =
-    subst (λ (tree : Tree). AreValues (length tree.clusters) tree.top (value_in tree)) c.self.view_is (values-are _ _ _ _ _ c.self.invariant)
+    subst (λ (tree : Tree). AreValues (length tree.clusters) tree.top (value_in tree)) c.self.view_is (values-are _ _ _ _ c.self.invariant)
