@@ -88,24 +88,24 @@ def map_of_crates() -> list[str]:
 
 
 def planted() -> list[str]:
-    """What `rt plant` said, by crate: how many bodies, and those that no clause refuses.
+    """What `rt plant` said: how many bodies, and by crate those that no clause refuses.
 
-    Bodies that are out of memory (`memory`) stand in the data alone.
+    The counts of a crate and its bodies that are out of memory (`memory`) stand in the data alone.
     """
     plant = data("mutations.toml")["plant"]
-    counts: list[str] = []
-    rows = head("crate", "let through")
-    for crate in crates():
-        said = plant.get(crate.name, {})
-        if "tried" in said:
-            left = f" ({said['left']})" if "left" in said else ""
-            counts.append(f"`{crate.name}` {said['refused']}/{said['tried']}{left}")
-        same = said.get("same", 0)
-        other = [f"{same} answer{'s' if same == 1 else ''} the same"] if same else []
-        other += [said["other"]] if "other" in said else []
-        if other:
-            rows.append(row(f"`{crate.name}`", "; ".join(other)))
-    return [", ".join(counts) + ".", "", *rows]
+    judged = [said for said in plant.values() if "tried" in said]
+    tried, refused, left = (
+        sum(said.get(key, 0) for said in judged) for key in ("tried", "refused", "left")
+    )
+    same = sum(said.get("same", 0) for said in judged)
+    rows = [row(f"`{name}`", said["other"]) for name, said in plant.items() if "other" in said]
+    return [
+        f"In {len(judged)} crates {tried} bodies were judged, of which a clause refuses {refused}; "
+        f"{left} were not judged. {same} answer the same. What else is let through:",
+        "",
+        *head("crate", "let through"),
+        *rows,
+    ]
 
 
 def not_planted() -> list[str]:
@@ -133,12 +133,14 @@ def mutants(folder: str) -> dict[str, int]:
 
 
 def counted() -> list[str]:
-    """How many mutants there are, and which crates have none."""
+    """How many mutants there are, and in how many crates."""
     quick, slow = mutants("must-fail"), mutants("wrong")
-    none = [f"`{crate.name}`" for crate in crates() if crate.name not in {**quick, **slow}]
+    none = len(crates()) - len({**quick, **slow})
     return [
         f"There are {sum(quick.values())} in {len(quick)} crates, which the gate tries, and "
-        f"{sum(slow.values())} slow ones in {len(slow)}. Without mutants are {', '.join(none)}."
+        f"{sum(slow.values())} slow ones in {len(slow)}. The other {none} crates are plain data, "
+        "laws, tests or a `main` without a contract: a mutant of a definition shows nothing about "
+        "code."
     ]
 
 
