@@ -1,4 +1,4 @@
--- What stands after one report more.
+-- The tree and the network after one report more.
 use Rattle.std.proofs.Common.{◌≡◌, ℕ, ◌<◌, List, [], ◌∷◌, ◌++◌, length, get_or, set, sym, ap, ◌∙◌, subst, arith, inl, inr, Result, Ok, Err, OnOk}
 use Rattle.std.proofs.lemmas.Bool.{cases_eq}
 use Rattle.std.proofs.lemmas.List.{length-set, get_or-set_same, get_or-set_other, length_push}
@@ -25,7 +25,7 @@ report_of reporter amount target = record { reporter = reporter; target = target
 same_target : (report : Report) (target : Target) → report.target ≡ target → report ≡ report_of report.reporter report.amount target
 same_target report target is = ap (report_of report.reporter report.amount) is
 
--- one report more is told
+-- the demands and capacities after one report more
 pub IsAfter-told : (reported : Reported) (reports : List Report) (reporter : ℕ) (target : Target) (amount : ℕ)
     → IsInRange (length reported.tree.demands) (length reported.network.capacities) target → IsAfter reported reports
     → IsAfter (with_report reported (record { reporter = reporter; target = target; amount = amount }))

@@ -55,7 +55,7 @@ module _ (wan : Wan) (never : NeverFalls wan) (bound : sum_below (length wan.gro
       subst (λ amounts. group_amount wan amounts group ≤ wan.value group wan.top) (sym (filling-amounts wan never))
       (group_amount-le wan never group closings wan.top right.0 (last_share-le wan closings right.0) (le_refl wan.top))
 
--- the amounts of the lines are those of the groups
+-- the amounts of the rows are those of the groups
 pub amounts-of_lines : (wan : Wan) (count : ℕ) → length wan.groups ≡ count
     → map (λ line. line.amount) (map (group_line wan (filling wan)) (numbers (length wan.groups))) ≡ map (group_amount wan (filling wan).amounts) (numbers count)
 amounts-of_lines wan count all =
@@ -122,7 +122,7 @@ module _ (wan : Wan) (filled : Filling) (is : IsFilling wan filled) where
       ap (λ share. line_parts share (sum row) (map (line_of_place wan.groups filled.closings.items group row) (numbers count))) share
       ∙ ap₂ (line_parts (group_stop wan (filling wan) group)) (row-sum group lt) places
 
-  -- the lines of the filling
+  -- the rows of the groups of the filling
   pub lines-are : map (line_in wan.groups filled) (numbers (length wan.groups)) ≡ map (group_line wan (filling wan)) (numbers (length wan.groups))
   lines-are = map-numbers no_line (line_in wan.groups filled) (group_line wan (filling wan)) (length wan.groups) line-is
 

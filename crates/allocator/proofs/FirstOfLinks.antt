@@ -88,7 +88,7 @@ firsts-end closings count firsts so past = record {
     here = λ inside. absurd (omega (arith, inside, before.0));
   }
 
--- of a link that is further than all there is no closing
+-- a link above all numbers has no closing
 pub first-past : (closings : List Closing) (firsts : List ℕ) (link : ℕ) → AreFirsts closings firsts → length firsts ≤ link → IsFirst closings link (length closings)
 first-past closings firsts link are past = record {
   upto = omega arith;

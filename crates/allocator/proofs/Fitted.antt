@@ -57,7 +57,7 @@ zeros-read zero place nothing = refl
 zeros-read (suc count) zero nothing = refl
 zeros-read (suc count) (suc place) nothing = zeros-read count place nothing
 
--- what stands before any report
+-- the tree and the network before any report
 abbrev pub idle : Tree → Network → Reported
 idle tree network = record { tree = tree; network = network; given = network.capacities; prefix = 0 }
 
@@ -78,7 +78,7 @@ after-idle tree network asks_nothing = record {
   capacities = fill_by_all (capacity_after network.capacities []) network.capacities (length network.capacities) 0 refl (λ k lt. refl);
 }
 
--- the table of what stands is that of the plan and the reports
+-- the table is that of the plan and the reports
 pub table-after : (reported : Reported) (groups : List PathGroups) (reports : List Report) → IsAfter reported reports → table_by reported groups ≡ allocation (plan_by reported groups) reports
 unfolding allocation
 table-after reported groups reports after =

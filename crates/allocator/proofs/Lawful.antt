@@ -1,4 +1,4 @@
--- The laws of a table of what stands.
+-- The laws of the table under the demands and capacities that were reported last.
 use Rattle.std.proofs.Common.{◌≡◌, ℕ, ◌<◌, ◌≤◌, List, [], length, map, flat_map, reverse, get_or, slice_index, sum, None, Result, Ok, Err, IfOk, refl, sym, ap, ◌∙◌, subst, arith, zero-add}
 use Rattle.std.proofs.lemmas.List.{reverse-reverse}
 use Rattle.std.proofs.lemmas.List.FromFn.{length-range_with_len, length-map-range_with_len, get_or-map-range_with_len}

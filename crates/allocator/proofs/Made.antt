@@ -1,4 +1,4 @@
--- What a filling of what stands makes: the table.
+-- The table that a filling makes.
 use Rattle.std.proofs.Common.{◌≡◌, ℕ, ◌<◌, ◌≤◌, List, length, map, flat_map, zip, slice_index, sum_by, ap₂, sym, ap, ◌∙◌, subst, arith, zero-add}
 use Rattle.std.proofs.lemmas.List.FromFn.{length-map-range_with_len, get_or-map-range_with_len}
 use Rattle.bwe_specs.specs.declared.limits.TheConstants.{MAX_TOTAL}
@@ -73,7 +73,7 @@ module _ (reported : Reported) (groups : List PathGroups) (fitted : IsFitted rep
             limits-are
             ∙ ap (λ amounts. flat_map (λ given. cluster_limits reported.tree.top (demand_in reported.tree) given.0 given.1) (zip reported.tree.clusters amounts)) made-amounts
 
-        -- the table is that of what stands
+        -- the table is that of the tree and the network
         pub made-table : table_parts reported.prefix limits lines loads closings ≡ table_by reported groups
         made-table =
             ap (λ limits. table_parts reported.prefix limits lines loads closings) made-limits

@@ -1,4 +1,4 @@
--- A table of what stands is told by its text, and is that of every plan that has the groups in another order.
+-- A table is told by its text, and is that of every plan with the groups in another order.
 use Rattle.std.proofs.Common.{◌≡◌, ℕ, ◌<◌, ◌≤◌, ◌^◌, List, [], length, get_or, slice_index, sym, ap, ◌∙◌, subst, arith}
 use Rattle.std.specs.List.{All}
 use Rattle.std.proofs.lemmas.List.{length-map, get_or-map, get_or_default}

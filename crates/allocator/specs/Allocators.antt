@@ -24,7 +24,7 @@ plan_by reported groups =
 abbrev pub plan_in : Allocating → Plan
 plan_in allocating = plan_by allocating.reported allocating.groups
 
--- the table under the demands and capacities that now stand
+-- the table under the demands and capacities that were reported last
 abbrev pub table_by : Reported → List PathGroups → Table
 table_by reported groups =
     table_under (plan_by reported groups) reported.prefix (demand_in reported.tree)

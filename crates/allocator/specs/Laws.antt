@@ -24,8 +24,8 @@ abbrev pub IsFeasible : List ℕ → Table → Type 0
 IsFeasible capacities table = (link : ℕ) → link < length capacities
     → slice_index table.loads link ≤ slice_index capacities link
 
--- Bottleneck law: a group that gets less than it may have at the top is held back on each of its
--- path groups, by a closing whose link would be over at the next share
+-- Bottleneck law: a group that gets less than its value at the top is held back on each of its path
+-- groups, by a closing whose link would be over at the next share
 abbrev pub IsHeldBack : Wan → Table → Type 0
 IsHeldBack wan table = (group place : ℕ) → group < length wan.groups
     → place < path_group_count wan.groups group → amount_in table group < wan.value group wan.top
@@ -48,25 +48,26 @@ IsNoMoreThanAsked tree table = AreAskedFor tree.top (demand_in tree) tree.cluste
 abbrev pub IsShared : Wan → Table → Type 0
 IsShared wan table = IsSharedAlike wan table.groups (reverse table.closings)
 
--- No waste: where a group has less than it may have at the top, each of its path groups uses a
--- closed link; and on each closed link what is left free is less than what the groups that then
--- grew over it would have put there with the next whole share
+-- No waste: where a group has less than its value at the top, each of its path groups uses a closed
+-- link; and each closed link has less free than the groups that then grew over it would have added
+-- to its load with the next whole share
 abbrev pub IsUnwasted : Wan → Table → Type 0
 IsUnwasted wan table = IsWithoutWaste wan table.groups table.loads (reverse table.closings)
 
--- Max-min law: where each group has one path group, whoever has a higher share in another assignment
--- has it at the cost of another group over the link that stopped it, which has no more there
+-- Max-min law: where each group has one path group, a group with a higher share in another
+-- assignment has it at the cost of another group over the link that stopped it, which has no more
+-- there
 abbrev pub IsFair : Wan → Table → Type 0
 IsFair wan table = HasOnePathGroupEach wan.groups → IsMaxMin wan table.groups
 
 -- Nobody's place matters: the table of every plan that has the groups in another order, with their
--- tasks, is this one in that order
+-- tasks, is this table in that order
 abbrev pub IsTheSameInAnyOrder : Reported → List PathGroups → Table → Type 0
 IsTheSameInAnyOrder reported groups table =
     IsInAnyOrder (plan_by reported groups) reported.prefix (demand_in reported.tree)
     reported.network.capacities table
 
--- One text, one table: under names that tell the links apart each table that is written as the same
--- text is this one
+-- One text, one table: under names that tell the links apart each table with the same text is this
+-- table
 abbrev pub IsTold : Reported → Table → Type 0
 IsTold reported table = IsToldByItsText (length reported.network.capacities) table

@@ -3,7 +3,7 @@ use Rattle.std.specs.Prelude.{◌≡◌, ℕ, ◌<◌, ◌≤◌, List, length}
 use Rattle.bwe_specs.specs.Paths.{PathGroups, path_group_count}
 use Rattle.link_sums.specs.Sums.{Sums, IsSummedOver, amount_at}
 
--- all amounts of the groups below one, and those of that group below a place, are there; no other
+-- all amounts of the groups below one, and those of its path groups below one, are there; no other
 -- is
 pub record IsPutUpTo (groups : List PathGroups) (amounts : List (List ℕ)) (count group place : ℕ)
     (sums : Sums) : Type 0 where

@@ -1,4 +1,4 @@
--- What the groups of a tree may have.
+-- The values of the groups of a tree.
 use Rattle.std.specs.Prelude.{length}
 use Rattle.mpfa_fill.specs.GroupValues.{Values}
 use Rattle.policy_tree.specs.Trees.{Tree, value_in}

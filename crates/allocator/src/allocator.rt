@@ -21,7 +21,7 @@ use wan_topology::Topology;
 /// Makes tables of limits from reports.
 ///
 /// After `keep` it keeps of each table that it makes the values that were asked for and each
-/// group's limits, so that the next one costs what has changed. Before, it keeps nothing.
+/// group's limits, so that the next table costs what has changed. Before, it keeps nothing.
 #[derive(Drop)]
 pub struct Allocator {
     reported: Reported,
@@ -38,7 +38,7 @@ impl Model for Allocator {
     ghost invariant = { λ allocator. IsFitted allocator.reported allocator.plan };
 }
 
-/// A plan of tables. No value of it is made: clauses speak of it.
+/// The type whose meaning is a plan, for clauses. No value of it is made.
 pub struct AllocatorPlan;
 
 impl Model for AllocatorPlan {
@@ -51,10 +51,8 @@ impl Model for AllocatorPlan {
 }
 
 impl Allocator {
-    /// The allocator of a tree, of which nobody has asked anything yet, and of path groups over the
-    /// links of a network.
-    ///
-    /// The capacities of `topology` stand where a link has no report.
+    /// The allocator of a tree in which no demand is set, and of path groups over the links of a
+    /// network. A link without a report has its capacity in `topology`.
     pub fn new(tree: PolicyTree, topology: Topology, plan: PathPlan) -> Allocator
         requires idle { tree.demands ≡ replicate (length tree.demands) 0 }
         requires built_on { IsBuiltOn topology plan }
@@ -77,7 +75,7 @@ impl Allocator {
         }
     }
 
-    /// Does nothing. Who calls it knows that 32 bits number the tasks.
+    /// Proof only: states that 32 bits number the tasks.
     pub fn what_holds(&self)
         ensures { ⟦<Allocator as Maker>⟧.plan_tasks (⟦<Allocator as Maker>⟧.plan self.now)
             < 2 ^ 32 }
@@ -85,9 +83,9 @@ impl Allocator {
         let _tasks = self.tasks();
     }
 
-    /// Takes in a report behind however many, as `absorb` does behind fewer than `MAX_REPORTS`.
+    /// Takes in a report, as `absorb` does, also behind `MAX_REPORTS` and more.
     ///
-    /// 64 bits count the reports; no list of them is kept. After a refusal it stands as before.
+    /// 64 bits count the reports; no list of them is kept. Out of memory, nothing has changed.
     pub fn take_in(&mut self, alloc: Global, report: Report) -> Result<(), OutOfMemory>
         requires fit { IsFit
             (⟦<Allocator as Maker>⟧.plan_tasks (⟦<Allocator as Maker>⟧.plan self.old))
@@ -102,7 +100,7 @@ impl Allocator {
         self.reported.absorb(alloc, report)
     }
 
-    /// From now on it keeps of a table what the next one may need.
+    /// From now on values and limits are kept from one table to the next.
     pub fn keep(&mut self, alloc: Global) -> Result<(), OutOfMemory>
         ensures { self.new ≡ self.old }
     {

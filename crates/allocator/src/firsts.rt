@@ -10,8 +10,8 @@ use path_groups::PathPlan;
 use std::alloc::Global;
 use std::marker::Model;
 
-/// Closings in their order, and for each link which of them was its first. So which link closed a
-/// path group takes no walk over the closings.
+/// Closings in their order, and for each link which of them was its first, so that the closing link
+/// of a path group is found without a walk over the closings.
 #[derive(Drop)]
 pub struct FirstClosings<'a> {
     closings: &'a [Closing],
@@ -58,7 +58,7 @@ impl<'a> FirstClosings<'a> {
         }
     }
 
-    // The place of the first closing of a link, or one behind all.
+    // The index of the first closing of a link, or the number of closings where it has none.
     fn first_of(&self, link: u32) -> usize
         ensures { IsFirst self.now link result }
     {
@@ -81,7 +81,7 @@ fn links_of(closings: &[Closing]) -> usize
     links
 }
 
-// For each link the place of its first closing, where all were behind the last.
+// Sets for each link the index of its first closing. Before, each is the number of closings.
 fn find_firsts(closings: &[Closing], firsts: &mut [usize])
     requires behind { (link : ℕ) → link < length firsts.old
         → slice_index firsts.old link ≡ length closings.now }

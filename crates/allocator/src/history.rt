@@ -7,7 +7,7 @@ use bwe_specs::{MAX_REPORTS, OutOfMemory, Report};
 use demand_book::Maker;
 use std::alloc::Global;
 
-/// A new maker, whichever it is, after all reports of the script in their order.
+/// A new maker of any kind, after all reports of the script in their order.
 pub fn after_script<M: Maker>(alloc: Global, maker: M, script: &[Report]) -> Result<M, OutOfMemory>
     requires first { M.absorbed maker [] }
     requires few { length script.now ≤ MAX_REPORTS }

@@ -1,4 +1,4 @@
-//! The lines of groups.
+//! The rows of groups in a table.
 
 ghost use Rattle.std.specs.Prelude.{◌≡◌, ◌<◌, ◌^◌, length, map, sum, IfOk};
 ghost use Rattle.bwe_specs.specs.Paths.{path_group_count};
@@ -12,7 +12,7 @@ use mpfa_fill::Filling;
 use path_groups::PathPlan;
 use std::alloc::Global;
 
-/// The lines of all groups of a filling.
+/// The rows of all groups of a filling.
 pub fn group_lines(
     alloc: Global,
     plan: &PathPlan,
@@ -33,7 +33,7 @@ pub fn group_lines(
     Ok(lines)
 }
 
-/// The line of a group that has so much on each of its path groups, in kilobits per second, and
+/// The row of a group that has so much on each of its path groups, in kilobits per second, and
 /// stopped at the share.
 ///
 /// `closings` are those of the whole filling, in their order.

@@ -14,8 +14,8 @@ use path_groups::PathPlan;
 use std::alloc::Global;
 use wan_topology::Topology;
 
-/// The load of each link where the path groups of the plan have these amounts, by group and place.
-/// All are kilobits per second.
+/// The load of each link where the path groups of the plan have these amounts, by group and path
+/// group number. All are kilobits per second.
 pub fn loads_of(
     alloc: Global,
     topology: &Topology,

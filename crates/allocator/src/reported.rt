@@ -88,8 +88,7 @@ impl Reported {
         &self.topology
     }
 
-    /// Does nothing. Who calls it knows what holds of each network, and that 64 bits count the
-    /// reports.
+    /// Proof only: states what holds of each network, and that 64 bits count the reports.
     pub fn what_holds(&self)
         ensures network { IsNetwork self.now.network }
         ensures prefix { self.now.prefix < 2 ^ 64 }
@@ -105,19 +104,20 @@ impl Reported {
         self.prefix
     }
 
-    /// From now on the tree keeps what it is asked for tables.
+    /// From now on the tree keeps the values and limits that tables ask for.
     pub fn keep(&mut self, alloc: Global) -> Result<(), OutOfMemory>
         ensures { self.new ≡ self.old }
     {
         self.tree.keep(alloc)
     }
 
-    /// Whether the tree keeps what it is asked for tables.
+    /// Whether the tree keeps the values and limits that tables ask for.
     pub fn keeps(&self) -> bool {
         self.tree.keeps()
     }
 
-    /// The filling under what now stands, with values that the tree keeps.
+    /// The filling under the demands and capacities that were reported last, with values that the
+    /// tree keeps.
     pub(crate) fn fill(&mut self, alloc: Global, plan: &PathPlan) -> Result<Filling, OutOfMemory>
         requires { IsFitted self.old plan.now }
         ensures same { self.new ≡ self.old }
@@ -140,14 +140,14 @@ impl Reported {
         self.tree.limits(alloc, amounts)
     }
 
-    /// Makes the tree's values cheap again after demands were reported. Nothing changes.
+    /// Makes the tree's values cheap again after demands were reported. No value changes.
     pub fn rematch(&mut self)
         ensures { self.new ≡ self.old }
     {
         self.tree.rematch();
     }
 
-    /// Takes in a report, of as many as 64 bits count. After a refusal it stands as before.
+    /// Takes in a report, of as many as 64 bits count. Out of memory, nothing has changed.
     pub fn absorb(&mut self, alloc: Global, report: Report) -> Result<(), OutOfMemory>
         requires fit { IsFit (length self.old.tree.demands) (length self.old.network.capacities)
             report }

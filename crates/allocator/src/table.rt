@@ -1,4 +1,4 @@
-//! A table of what now stands.
+//! The table under the demands and capacities that were reported last.
 
 ghost use Rattle.std.specs.Prelude.{◌≡◌, ℕ, ◌+◌, ◌*◌, ◌<◌, ◌≤◌, ◌^◌, length, map, flat_map, zip, slice_index, IfOk};
 ghost use Rattle.bwe_specs.specs.Reports.{numbers};
@@ -28,8 +28,8 @@ use std::alloc::Global;
 use std::marker::Brand;
 use std::sync::ledger::{Blank, Ledger};
 
-/// The table under the demands and capacities that now stand: the allocation ("Allocation",
-/// docs/DEFINITIONS.md), for which nine laws hold ("Laws" and "Laws of a table" there).
+/// The table under the demands and capacities that were reported last: the allocation
+/// ("Allocation", docs/DEFINITIONS.md), with nine laws ("Laws" and "Laws of a table" there).
 pub fn make_table(
     alloc: Global,
     reported: &Reported,
@@ -41,8 +41,8 @@ pub fn make_table(
     // Feasibility law: no link's load exceeds its capacity
     ensures feasible { IfOk result (IsFeasible reported.now.network.capacities) }
 
-    // Bottleneck law: a group with less than it may have at the top is held back on each of its
-    // path groups
+    // Bottleneck law: a group that gets less than its value at the top has a closed link on each of
+    // its path groups
     ensures held_back { IfOk result (IsHeldBack (wan_by reported.now plan.now)) }
 
     // Conservation law: the limits of a group's tasks add up to its amount
@@ -53,23 +53,23 @@ pub fn make_table(
     ensures asked { IfOk result (IsNoMoreThanAsked reported.now.tree) }
 
     // The same share: a group has what its function gives at its stop share, and groups that grow
-    // over a link when it closes stand at one share
+    // over a link when it closes have one share then
     ensures shared { IfOk result (IsShared (wan_by reported.now plan.now)) }
 
-    // No waste: a closed link has less free than those who grew over it would have put there with
-    // one share more
+    // No waste: a closed link has less free than the groups that grew over it would have added to
+    // its load with one share more
     ensures unwasted { IfOk result (IsUnwasted (wan_by reported.now plan.now)) }
 
-    // Max-min law: where each group has one path group, whoever has a higher share in another
+    // Max-min law: where each group has one path group, a group that has a higher share in another
     // assignment has it at the cost of another group over the link that stopped it here
     ensures fair { IfOk result (IsFair (wan_by reported.now plan.now)) }
 
-    // Nobody's place matters: the table of the plan with its groups in another order is this one in
-    // that order
+    // Nobody's place matters: the table of the plan with its groups in another order is this table
+    // in that order
     ensures in_any_order { IfOk result (IsTheSameInAnyOrder reported.now plan.now) }
 
-    // One text, one table: under names that tell the links apart, a table that is written as the
-    // same text is this one
+    // One text, one table: under names that tell the links apart, a table with the same text is
+    // this table
     ensures told { IfOk result (IsTold reported.now) }
 {
     reported.what_holds();
@@ -85,7 +85,7 @@ pub fn make_table(
     )
 }
 
-// The same on counters of its own.
+// The same table, with counters that are dropped.
 fn counted_table<L: Ledger, T: Ledger, P: Ledger, M: Ledger>(
     alloc: Global,
     reported: &Reported,
@@ -119,9 +119,8 @@ fn counted_table<L: Ledger, T: Ledger, P: Ledger, M: Ledger>(
     make_table_by_looks(alloc, reported, plan, &mut looks, &mut work)
 }
 
-/// The same table, with each look at a link counted: a look asks for the load of one link at one
-/// share. `work` counts the turns, the plays of the tournament between the links and the moves of
-/// groups (`solve_by_looks` of `link_solver`).
+/// The same table, with counters: `steps` counts the load probes, `work` the turns, the plays of
+/// the tournament between the links and the moves of groups (`solve_by_looks` of `link_solver`).
 pub fn make_table_by_looks<L: Ledger, T: Ledger, P: Ledger, M: Ledger>(
     alloc: Global,
     reported: &Reported,
@@ -132,7 +131,7 @@ pub fn make_table_by_looks<L: Ledger, T: Ledger, P: Ledger, M: Ledger>(
     requires { IsFitted reported.now plan.now }
     ensures table { IfOk result (λ table. table ≡ table_by reported.now plan.now) }
 
-    // Also where memory runs out.
+    // These also hold where memory runs out, but for `turns`.
     ensures looks { let links = length reported.now.network.capacities in
         steps.new ≤ steps.old + 31 * (links + 2 * links_over_all links plan.now) }
     ensures turns { IfOk result (λ table. work.new.turns + steps.old
@@ -146,7 +145,7 @@ pub fn make_table_by_looks<L: Ledger, T: Ledger, P: Ledger, M: Ledger>(
     table_of_filling(alloc, reported, plan, filling)
 }
 
-// The table that a filling under what now stands is.
+// The table of a filling under the demands and capacities that were reported last.
 fn table_of_filling(
     alloc: Global,
     reported: &Reported,
@@ -163,7 +162,7 @@ fn table_of_filling(
     table_of_limits(alloc, reported, plan, filling, groups, limits)
 }
 
-// The same, once the lines of its groups and its limits are made.
+// The same, once the rows of its groups and its limits are made.
 fn table_of_limits(
     alloc: Global,
     reported: &Reported,
@@ -192,8 +191,8 @@ fn table_of_limits(
     })
 }
 
-/// The same table, made with what the tree keeps, where it keeps anything: groups that nothing has
-/// changed for are not asked again, and not handed down to.
+/// The same table. Where the tree keeps values and limits, groups of which no demand has changed
+/// are not asked again, and their amounts are not handed down again.
 pub(crate) fn present_table(
     alloc: Global,
     reported: &mut Reported,
@@ -210,7 +209,7 @@ pub(crate) fn present_table(
     }
 }
 
-// The same, where the tree keeps what it is asked.
+// The same, where the tree keeps values and limits.
 fn remade_table(
     alloc: Global,
     reported: &mut Reported,
@@ -228,7 +227,7 @@ fn remade_table(
     table_of_limits(alloc, reported, plan, filling, groups, limits)
 }
 
-// The filling under what now stands.
+// The filling under the demands and capacities that were reported last.
 fn filling_of<L: Ledger, T: Ledger, P: Ledger, M: Ledger>(
     alloc: Global,
     reported: &Reported,
@@ -253,8 +252,7 @@ fn filling_of<L: Ledger, T: Ledger, P: Ledger, M: Ledger>(
     solve_by_looks(alloc, &values, reported.topology(), plan, steps, work)
 }
 
-/// Each task's limit, where the groups have the amounts of these lines. All are kilobits per
-/// second.
+/// Each task's limit, where the groups have the amounts of these rows. All are kilobits per second.
 pub fn limits_of(
     alloc: Global,
     tree: &PolicyTree,
@@ -272,7 +270,7 @@ pub fn limits_of(
     all_limits(alloc, tree, &amounts)
 }
 
-// What the groups of these lines get, in kilobits per second.
+// The amounts of these rows, in kilobits per second.
 fn amounts_of(alloc: Global, groups: &[GroupLine]) -> Result<Vec<u64>, OutOfMemory>
     ensures { IfOk result (λ amounts. amounts.items ≡ map (λ line. line.amount) groups.now) }
 {
