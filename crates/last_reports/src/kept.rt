@@ -25,7 +25,7 @@ impl Model for LastReports {
 }
 
 impl LastReports {
-    // Those of so many tasks and links, of which nobody has said anything.
+    // Those of so many tasks and links without a report.
     fn new(alloc: Global, tasks: u32, links: u32) -> Result<LastReports, OutOfMemory>
         ensures { IfOk result (λ last. last ≡ told_after tasks links []) }
     {
@@ -78,7 +78,7 @@ impl LastReports {
     }
 }
 
-// So many places with no report.
+// So many entries without a report.
 fn nothing(alloc: Global, count: u32) -> Result<Vec<Option<Report>>, OutOfMemory>
     ensures { IfOk result (λ told. told.items ≡ replicate count None) }
 {

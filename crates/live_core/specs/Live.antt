@@ -8,8 +8,8 @@ use Rattle.allocator.specs.Allocators.{Allocating, plan_in}
 use Rattle.allocator.specs.Frames.{task_count}
 use Rattle.allocator.specs.Reported.{IsAfter}
 
--- the demands and capacities that now stand, the last report of each task and link, and the table
--- that was written last
+-- the demands and capacities after all reports, the last report of each task and link, and the
+-- table that was written last
 pub record Live : Type 0 where
   pub allocating : Allocating
   pub told : Told

@@ -84,7 +84,7 @@ impl LiveCore {
         self.allocator.prefix()
     }
 
-    /// Takes in a report behind all others. After a refusal it stands as before.
+    /// Takes in a report behind all others. Out of memory, nothing has changed.
     pub fn report(&mut self, alloc: Global, report: Report) -> Result<(), OutOfMemory>
         requires fit { IsFit (tasks_of self.old) (links_of self.old) report }
         requires room { reports_of self.old < u64.MAX }
@@ -100,7 +100,7 @@ impl LiveCore {
     }
 
     /// Writes the table of all reports that were taken in, and gives back the one that was written
-    /// before. After a refusal that one stands.
+    /// before. Out of memory, the earlier table stays the one that was written last.
     pub fn post(&mut self, alloc: Global) -> Result<LimitTable, OutOfMemory>
         ensures plan { plan_of self.new ≡ plan_of self.old }
         ensures earlier { IfOk result (λ earlier. earlier ≡ self.old.table) }
@@ -132,7 +132,7 @@ impl LiveCore {
     }
 }
 
-// The allocator after a script, which keeps of each table what the next one may need.
+// The allocator after a script. It keeps values and limits from one table to the next.
 fn keeping_after(
     alloc: Global,
     allocator: Allocator,
