@@ -189,7 +189,7 @@ impl<M: Maker> CoreState<M> {
         self.log.len() as u64
     }
 
-    /// The report at a place of the log.
+    /// The report at an index of the log.
     pub fn entry(&self, place: u64) -> Option<Report>
         ensures report { result ≡ slice_get self.now.state.log place }
         ensures allowed { IfSome result (IsAllowed self.now.reporters
@@ -225,7 +225,7 @@ impl<M: Maker> CoreState<M> {
     }
 }
 
-// Lets the maker take in the log's reports, up to a place.
+// Lets the maker take in the first reports of the log, up to a number.
 fn absorb_upto<M: Maker>(
     alloc: Global,
     maker: &mut M,

@@ -126,7 +126,7 @@ pub struct DeskRight<B: Bases> {
     ghost named: { pen.book ≡ B.book },
 }
 
-/// The whole log, for who adds to it. Contracts see it as its reports.
+/// The whole log, to which reports are added. Contracts see it as its reports.
 #[derive(Drop)]
 pub struct WholeLog<B: Bases> {
     word: Word<Piece, u64, PieceCount>,
@@ -172,8 +172,8 @@ impl<B: Bases> Model for Beginning<B> {
         beginning.seen.log };
 }
 
-/// A log that was reached, for who did not know that it goes on. Contracts see it as its pieces, of
-/// which an empty one marks the end.
+/// A log that goes on behind what its caller knew. Contracts see it as its pieces, of which an
+/// empty one marks the end.
 #[derive(Drop)]
 pub struct LongerLog<B: Bases> {
     seen: Seen<Piece, u64, PieceCount>,

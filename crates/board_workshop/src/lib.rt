@@ -22,8 +22,8 @@ use std::alloc::Global;
 use std::collections::VecDeque;
 use std::marker::{Model, PhantomData};
 
-/// What the maker's lock holds: the maker, and the reports that it has not absorbed yet of the log
-/// that was seen here. Contracts see that log.
+/// The maker, and the reports that it has not absorbed yet of the log that was seen here. Contracts
+/// see that log.
 ///
 /// Of what was absorbed it keeps no copy.
 #[derive(Drop)]

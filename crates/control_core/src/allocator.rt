@@ -117,7 +117,7 @@ impl Allocator {
         }
     }
 
-    /// It knows this of what stands, and waits for no outcome.
+    /// It knows this, and waits for no outcome.
     pub(crate) fn knows(&mut self, known: Option<Known>)
         ensures { self.new ≡ record self.old { known = known; waits = None } }
     {

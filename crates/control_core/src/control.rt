@@ -103,7 +103,7 @@ impl<M: Maker> Control<M> {
         })
     }
 
-    /// One event of Control plane. What is refused because memory ran out changes nothing.
+    /// One event of Control plane. Out of memory, nothing has changed.
     pub fn step(&mut self, alloc: Global, event: ControlEvent) -> Result<(), OutOfMemory>
         requires meant { IsMeant
             (IsFit (M.plan_tasks (M.plan self.old.maker)) (M.plan_links (M.plan self.old.maker)))
@@ -363,7 +363,7 @@ impl<M: Maker> Control<M> {
         Ok(())
     }
 
-    // An allocator waits no longer, and knows nothing of what stands.
+    // An allocator waits no longer, and knows nothing.
     fn give_up(&mut self, allocator: u32)
         requires allocator { allocator < length self.old.world.allocators }
         ensures world { self.new.world ≡ given_up self.old.world allocator

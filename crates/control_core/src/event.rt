@@ -2,14 +2,15 @@
 
 use bwe_specs::Report;
 
-/// What happens to a store, its allocators and its readers. What is not possible does nothing.
+/// What happens to a store, its allocators and its readers. An event that is not possible does
+/// nothing.
 #[derive(Clone, Copy, Debug, PartialEq, Eq)]
 pub enum ControlEvent {
     /// A report enters the history.
     Report { report: Report },
     /// The store takes a campaign of an allocator, which gets the leader key where there is none.
     Campaign { allocator: u32 },
-    /// The lease of the leader ends, whoever holds it, and the key goes.
+    /// The lease of the leader ends, whichever allocator holds it, and the key goes.
     Expire,
     /// An allocator reads the leader key, what is posted and the slices.
     Read { allocator: u32 },

@@ -1,4 +1,4 @@
-//! What stands of one reporter.
+//! The slice of one reporter.
 
 ghost use Rattle.std.specs.Prelude.{◌≡◌, IfOk, option_map};
 ghost use Rattle.control_core.specs.World.{differs as differs_from};

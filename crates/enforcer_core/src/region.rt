@@ -46,7 +46,7 @@ impl RegionLimits {
         self.prefix
     }
 
-    /// The limit of the region's task at a place.
+    /// The limit of the region's task at an index.
     pub(crate) fn limit(&self, place: u32) -> u64
         requires place { place < length self.now.limits }
         ensures { result ≡ slice_index self.now.limits place }

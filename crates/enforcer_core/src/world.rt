@@ -277,7 +277,7 @@ impl<T: Posted> World<T> {
         Some(limits.prefix())
     }
 
-    /// The limit in force for the task at a place of the region's tasks, in kilobits per second,
+    /// The limit in force for the task at an index of the region's tasks, in kilobits per second,
     /// `None` exactly where nothing is in force.
     pub fn limit(&self, region: u32, place: u32) -> Option<u64>
         requires region { region < length self.now.tasks }
