@@ -1,4 +1,4 @@
--- Which words are a command line.
+-- Which arguments are a command.
 use Rattle.std.specs.Prelude.{ℕ, Bool, ◌&&◌, ◌==◌, List, [], ◌∷◌, ◌++◌, map, codes, String, Option, Some, None}
 use Rattle.std.specs.Prelude.{if◌then◌else◌, string_bytes, nat_le, option_map, option_and_then}
 use Rattle.std.specs.List.{list_any, before_first, after_first}
@@ -11,7 +11,7 @@ use Rattle.command_line.specs.declared.matches.Size.{Size}
 use Rattle.command_line.specs.declared.CommandLine.{CommandLine}
 use Rattle.command_line.specs.declared.CommandLine.TheVariants.{Solve, Check, Run, Make, Bulk, Audit, Tiers, Enforce, Estimate, Levels}
 
--- the texts of words
+-- the texts of arguments
 abbrev pub texts_of : List (String Global) → List Text
 texts_of words = map string_bytes words
 
@@ -46,7 +46,7 @@ after_equals text =
     if list_any (λ byte. byte == 61) text then Some (after_first (λ byte. byte == 61) text)
     else None
 
--- the option that a word `--NAME` or `--NAME=TEXT` names, and the text
+-- the option that an argument `--NAME` or `--NAME=TEXT` names, and the text
 abbrev pub option_of : Text → Option (Name × Option Text)
 option_of word =
     option_and_then (λ more. option_map (λ name. (name, after_equals more))
@@ -64,15 +64,15 @@ abbrev pub with_text : Name → Text → Given → Given
 with_text readers text given = record given { readers = given.readers ++ text ∷ [] }
 with_text reads text given = record given { reads = given.reads ++ text ∷ [] }
 
--- a word where an option may stand: `--NAME` waits for its text in the next word
+-- an argument where an option may stand: `--NAME` waits for its text in the next one
 abbrev pub option_word : (Given → Option Name → Option Given) → Given → Option (Name × Option Text)
     → Option Given
 option_word next given None = None
 option_word next given (Some (name, None)) = next given (Some name)
 option_word next given (Some (name, Some text)) = next (with_text name text given) None
 
--- what the words give beside what stood before them, where the option that waits has its text in
--- the first
+-- what the arguments give beside what stood before them, where the option that waits has its text
+-- in the first
 unfoldable pub options_of : Given → Option Name → List Text → Option Given
 options_of given None [] = Some given
 options_of given (Some name) [] = None
@@ -125,9 +125,9 @@ abbrev pub levels_of : List Text → Option CommandLine
 levels_of (share ∷ []) = levels_in share
 levels_of _ = None
 
--- ---- all lines
+-- ---- all commands
 
--- a line that is its first word alone
+-- a command that is its name alone
 abbrev pub alone : CommandLine → List Text → Option CommandLine
 alone line [] = Some line
 alone line (word ∷ more) = None
@@ -156,6 +156,6 @@ line_of_texts (word ∷ rest) = line_named word rest
 abbrev pub is_hyphens : Text → Bool
 is_hyphens word = bytes_eq word (codes "--")
 
--- the command line that the words are; the word `--` is in none
+-- the command that the arguments are; none has the argument `--`
 abbrev pub command_line_of : List Text → Option CommandLine
 command_line_of words = if list_any is_hyphens words then None else line_of_texts words

@@ -1,4 +1,4 @@
--- What `clap` is told of the lines, and what is read of its matches.
+-- The commands that `clap` is given, and what is read of its matches.
 use Rattle.std.specs.Prelude.{true, List, [], codes, Option, Some, None, if◌then◌else◌, option_map, option_and_then, unwrap_or}
 use Rattle.std.specs.Str.{bytes_eq}
 use Rattle.clap.specs.Walk.{Row, Rule, all_of, first_of}
@@ -13,7 +13,7 @@ use Rattle.command_line.specs.declared.CommandLine.TheVariants.{Solve, Check, Ma
 abbrev pub option_rule : Text → Rule
 option_rule name = record (new_rule name) { long = Some name; action = Some Append }
 
--- a word that is required in its place
+-- an argument that is required in its place
 abbrev pub place_rule : Text → Rule
 place_rule name = record (new_rule name) { required = true; action = Some Set }
 
@@ -46,7 +46,7 @@ bare_app = record {
   subs = [];
 }
 
--- a subcommand for each line, in the order of the usage line
+-- a subcommand for each command, in the order of the usage line
 abbrev pub app_to_bulk : App
 app_to_bulk =
     with_subcommand (with_subcommand (with_subcommand (with_subcommand (with_subcommand bare_app
@@ -98,6 +98,6 @@ line_entered name rows =
     else if bytes_eq name (codes "levels") then levels_given rows
     else None
 
--- the line of the subcommand that was met
+-- the command of the subcommand that was met
 abbrev pub line_met : Option (Text × List Row) → Option CommandLine
 line_met = option_and_then (λ met. line_entered met.0 met.1)

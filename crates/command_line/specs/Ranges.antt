@@ -1,9 +1,9 @@
--- The ranges of the numbers of a command line.
+-- The ranges of the numbers of a command.
 use Rattle.std.specs.Prelude.{◌≤◌}
 use Rattle.command_line.specs.declared.CommandLine.{CommandLine}
 use Rattle.command_line.specs.declared.CommandLine.TheVariants.{Solve, Check, Run, Make, Bulk, Audit, Tiers, Enforce, Estimate, Levels}
 
--- the numbers of a line are in their ranges
+-- the numbers of a command are in their ranges
 abbrev pub IsInRange : CommandLine → Type 0
 IsInRange Solve = Unit {0}
 IsInRange Check = Unit {0}

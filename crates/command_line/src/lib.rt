@@ -1,8 +1,8 @@
-//! The words of a command line: which line they are, if they are one.
+//! The arguments of a call: which command they are, if they are one.
 //!
-//! The top call asks `command_line_of_words` once, before it reads anything, and serves the line
+//! The top call asks `command_line_of_words` once, before it reads anything, and serves the command
 //! that it answers, whose numbers are in their ranges. The definition Command line
-//! (`specs/Lines.antt`) alone decides: `clap` splits the words, and each text is read here.
+//! (`specs/Lines.antt`) alone decides: `clap` splits the arguments, and each text is read here.
 #![tactic(auto)]
 
 ghost use Rattle.std.specs.Prelude.{◌≡◌, IfOk, IfSome};
@@ -16,7 +16,7 @@ use std::alloc::Global;
 mod matches;
 mod number;
 
-/// A command line ("Commands", docs/FORMAT.md).
+/// A command with its numbers ("Commands", docs/FORMAT.md).
 #[derive(Clone, Copy, Debug, PartialEq, Eq, Drop)]
 pub enum CommandLine {
     /// Reads a document, and writes its table of limits.
@@ -42,11 +42,11 @@ pub enum CommandLine {
     Levels { share: u64 },
 }
 
-/// The command line that the words are, `None` where they are none.
+/// The command that the arguments are, `None` where they are none.
 ///
-/// `words` are those after the program's name. A word counts as it stands: abbreviations, blanks
-/// round a word and an empty word are in no line. `levels 90` is the line of share 90, and `levels
-/// +90` is none.
+/// `words` are the arguments after the program's name. An argument counts as it stands:
+/// abbreviations, blanks round an argument and an empty argument are in no command. `levels 90` is
+/// the command of share 90, and `levels +90` is no command.
 pub fn command_line_of_words(
     alloc: Global,
     words: &[String],
@@ -60,7 +60,7 @@ pub fn command_line_of_words(
     matches::line_split(alloc, words)
 }
 
-// One of the words is `--`.
+// One of the arguments is `--`.
 fn has_hyphens(words: &[String]) -> bool
     ensures { result ≡ list_any is_hyphens (texts_of words.now) }
 {

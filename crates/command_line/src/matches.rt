@@ -1,4 +1,4 @@
-//! The words by `clap`: what it is told of the lines, and what is read of its matches.
+//! The arguments by `clap`: the commands that it is given, and what is read of its matches.
 ghost use Rattle.std.specs.Prelude.{◌≡◌, IfOk, [], false, map, option_map, unwrap_or};
 ghost use Rattle.std.specs.List.{list_any};
 ghost use Rattle.clap.specs.Simple.{App, with_rule, with_subcommand};
@@ -18,7 +18,8 @@ use clap::error::ErrorKind;
 use clap::{Arg, ArgAction, ArgMatches, Command};
 use std::alloc::{AllocError, Global};
 
-// The line that the words are. None of them is `--`, after which `clap` reads any word as a text.
+// The command that the arguments are. None of them is `--`, after which `clap` reads any argument
+// as a text.
 pub(crate) fn line_split(
     alloc: Global,
     words: &[String],
@@ -35,7 +36,7 @@ pub(crate) fn line_split(
     }
 }
 
-// All lines: a subcommand for each, in the order of the usage line.
+// All commands: a subcommand for each, in the order of the usage line.
 fn command<'a>(alloc: Global) -> Result<Command<'a>, AllocError>
     ensures { IfOk result (λ command. app_of command ≡ bwe_app) }
 {
@@ -46,7 +47,7 @@ fn command<'a>(alloc: Global) -> Result<Command<'a>, AllocError>
     with_line(lines, levels_command(alloc))
 }
 
-// The lines up to `bulk`.
+// The commands up to `bulk`.
 fn lines_to_bulk<'a>(alloc: Global) -> Result<Command<'a>, AllocError>
     ensures { IfOk result (λ command. app_of command ≡ app_to_bulk) }
 {
@@ -57,7 +58,7 @@ fn lines_to_bulk<'a>(alloc: Global) -> Result<Command<'a>, AllocError>
     with_line(lines, sized_command(alloc, "bulk"))
 }
 
-// The lines with one more. It takes what may have failed, so that its callers have no command to
+// The commands with one more. It takes what may have failed, so that its callers have no command to
 // let go.
 fn with_line<'a>(
     lines: Result<Command<'a>, AllocError>,
@@ -73,7 +74,7 @@ fn with_line<'a>(
     lines.subcommand(line)
 }
 
-// The program without a line.
+// The program without a command.
 fn bare_command<'a>(alloc: Global) -> Command<'a>
     ensures { app_of result ≡ bare_app }
 {
@@ -151,7 +152,7 @@ fn place<'a>(alloc: Global, name: &'a str) -> Arg<'a>
     Arg::new(alloc, name).required(true).action(ArgAction::Set)
 }
 
-// The line of the subcommand that was met.
+// The command of the subcommand that was met.
 fn line_of_matches(matches: &ArgMatches<'_>) -> Option<CommandLine>
     ensures { result ≡ line_met (subcommand_rows_of matches.now) }
 {
@@ -159,7 +160,7 @@ fn line_of_matches(matches: &ArgMatches<'_>) -> Option<CommandLine>
     line_of_subcommand(name, given)
 }
 
-// The line of this subcommand, by the texts that it was given.
+// The command of this subcommand, by the texts that it was given.
 fn line_of_subcommand(name: &str, given: &ArgMatches<'_>) -> Option<CommandLine>
     ensures { result ≡ line_entered name.now (rows_of (found_of given.now)) }
 {

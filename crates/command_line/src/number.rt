@@ -1,4 +1,4 @@
-//! Numbers in words: one to 20 ASCII digits, where leading zeros are allowed and a sign is not.
+//! Numbers in arguments: one to 20 ASCII digits, where leading zeros are allowed and a sign is not.
 ghost use Rattle.std.specs.Prelude.{◌≡◌};
 ghost use Rattle.command_line.specs.Lines.{number_in as number_from};
 

@@ -6,7 +6,7 @@ use Rattle.std.proofs.lemmas.List.Elements.{All-nil, All-cons}
 use Rattle.bwe_specs.specs.declared.report.Report.{Report}
 use Rattle.doc_names.specs.Owners.{owner_of, is_owner, not_owned}
 
--- whoever is the owner is the one that was found
+-- each owner is the one that was found
 pub owner_is : (owner : Option ℕ) (reporter : ℕ) → is_owner owner reporter ≡ true → owner ≡ Some reporter
 owner_is None reporter e = absurd cc
 owner_is (Some owner) reporter e = ap Some (eqb-true owner reporter e)

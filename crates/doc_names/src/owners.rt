@@ -1,8 +1,8 @@
-//! Who may report what ("Owner rule", docs/DEFINITIONS.md).
+//! Which reporter may report what ("Owner rule", docs/DEFINITIONS.md).
 //!
 //! `plan_doc` asks for the first entry of a script that is not by the owner, `live_lines` and
 //! `sample_lines` ask of one report. Owners are lists by number: each task has a reporter, and a
-//! link may have none. Nothing here takes memory; a question costs one look into a list.
+//! link may have none. No call takes memory; a question costs one look into a list.
 
 ghost use Rattle.std.specs.Prelude.{◌≡◌};
 ghost use Rattle.doc_names.specs.Owners as owners;
@@ -20,7 +20,7 @@ pub fn owner_of(task_owners: &[u32], link_owners: &[Option<u32>], target: Target
     }
 }
 
-/// Whether this reporter is the owner that was found.
+/// Whether the owner that was found is this reporter.
 pub fn is_owner(owner: Option<u32>, reporter: u32) -> bool
     ensures { result ≡ owners.is_owner owner reporter }
 {

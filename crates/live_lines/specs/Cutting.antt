@@ -3,7 +3,7 @@ use Rattle.std.specs.Prelude.{ℕ, ◌==◌, Bool, true, false, List, [], ◌∷
 use Rattle.text_scan.specs.Words.{Text}
 use Rattle.bwe_specs.specs.declared.limits.TheConstants.{MAX_LINE}
 
--- what stands of a line before its line feed; none where it has more than 255 bytes
+-- the bytes of a line before its line feed; none where there are more than 255
 abbrev pub Held : Type 0
 Held = Option Text
 
@@ -37,7 +37,7 @@ abbrev pub is_nothing : Held → Bool
 is_nothing None = false
 is_nothing (Some text) = length text == 0
 
--- what stands behind the last line feed, where it is not empty, is one line that is none
+-- the bytes behind the last line feed, where there are any, are one line that is refused
 abbrev pub last_line : Held → List Held
 last_line held = if is_nothing held then [] else None ∷ []
 

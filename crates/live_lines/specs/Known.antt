@@ -1,4 +1,4 @@
--- What is known of a document: its names, and who owns each task and link.
+-- What is known of a document: its names, and the owner of each task and link.
 use Rattle.std.specs.Prelude.{◌≡◌, ℕ, List, Option, Some}
 use Rattle.bwe_specs.specs.declared.report.Report.{Report}
 pub use Rattle.doc_names.specs.Owners.{owner_of}

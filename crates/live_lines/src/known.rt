@@ -17,8 +17,8 @@ use std::alloc::Global;
 use std::marker::Model;
 use text_scan::{NameIndex, Words, amount_in_range, is_number, number_of};
 
-/// The names of a document, and the number of the reporter who owns each task and link; a link may
-/// have no owner.
+/// The names of a document, and the number of each owner of a task or link; a link may have no
+/// owner.
 #[derive(Drop)]
 pub struct Known {
     names: Names,
@@ -77,8 +77,8 @@ impl Known {
     }
 
     /// What a line means that stands before its line feed, or the first cause for which it is
-    /// refused ("What it reads", docs/FORMAT.md). `None` is a line that is none, whatever it says:
-    /// a line that is too long, or ends with the input.
+    /// refused ("What it reads", docs/FORMAT.md). `None` stands for a line that is too long, or
+    /// ends with the input.
     #[tactic(auto, unfolding(crate::specs::Meaning::meaning_of))]
     pub fn meaning(&self, line: Option<&[u8]>) -> LineMeaning
         ensures exact { result

@@ -10,7 +10,7 @@ pub fn pieces_do_not_matter()
     ensures { PiecesDoNotMatter }
 {}
 
-/// The lines are those of the whole text, of which each that is too long is none.
+/// The lines are those of the whole text, `None` for each that is too long.
 pub fn lines_are_of_the_text()
     ensures { LinesAreOfTheText }
 {}

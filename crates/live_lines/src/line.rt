@@ -5,7 +5,7 @@ use bwe_specs::Report;
 /// Why a line is refused, in the order in which the causes are looked at.
 #[derive(Clone, Copy, Debug, PartialEq, Eq, Drop)]
 pub enum LineCause {
-    /// It is no line of the table, or is too long, or ends with the input.
+    /// The format has no such line, or it is too long, or ends with the input.
     NoLine,
     /// The document has no such reporter, task or link.
     UnknownName,
@@ -20,9 +20,9 @@ pub enum LineCause {
 pub enum LineMeaning {
     /// One more report.
     NewReport { report: Report },
-    /// What has changed is to be written.
+    /// `post`: what has changed is to be written.
     Post,
-    /// The last reports are to be written.
+    /// `state`: the last reports are to be written.
     State,
     Refused { cause: LineCause },
 }

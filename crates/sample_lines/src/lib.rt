@@ -1,7 +1,7 @@
 //! The second part of `estimate`: samples of what tasks sent, and the reports of their estimates.
 //!
-//! `estimate_reports` reads the part for the line `estimate`, which appends its reports to the
-//! document's script and says for how many there is room; the line that `sample_refusal_line` makes
+//! `estimate_reports` reads the part for the command `estimate`, which appends its reports to the
+//! document's script and says for how many there is room; the row that `sample_refusal_line` makes
 //! is printed for a part at fault. `exact` is the whole of it: the reports, or the first line at
 //! fault (`specs/SampleLine.antt`, `SampleLines.antt` and `SampleReports.antt`). `few`, `fit` and
 //! `owned` are the conditions of the calls that take reports. Lines, names and numbers are cut by

@@ -10,7 +10,7 @@ use std::alloc::Global;
 use text_scan::Lines;
 
 /// The samples of the lines, where there is room for so many, or the number of the first line at
-/// fault. A last line that no line feed ends is at fault.
+/// fault. A last line without a line feed is at fault.
 #[tactic(auto, using(text_scan::proofs::ItemFacts::ends, text_scan::proofs::ItemFacts::ends_open))]
 pub(crate) fn read_samples(
     alloc: Global,

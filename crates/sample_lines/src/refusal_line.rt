@@ -1,4 +1,4 @@
-//! The line for samples that are refused.
+//! The row for samples that are refused.
 
 ghost use Rattle.std.specs.Prelude.{◌≡◌, IfOk};
 ghost use Rattle.sample_lines.specs.RefusalLine.{sample_refusal};
@@ -6,7 +6,7 @@ ghost use Rattle.sample_lines.specs.RefusalLine.{sample_refusal};
 use bwe_specs::OutOfMemory;
 use std::alloc::Global;
 
-/// The line for samples of which this line is the first at fault ("Two-part inputs",
+/// The row for samples of which this line is the first at fault ("Two-part inputs",
 /// docs/FORMAT.md).
 pub fn sample_refusal_line(alloc: Global, line: u64) -> Result<Vec<u8>, OutOfMemory>
     ensures { IfOk result (λ text. text.items ≡ sample_refusal line) }

@@ -10,7 +10,7 @@ use std::alloc::Global;
 use std::marker::Model;
 use text_scan::{NameIndex, amount_in_range, cut_at, printed_number_of};
 
-/// What a task sent, in kilobits per second, as its owner told it.
+/// What a task sent, in kilobits per second, by its owner.
 #[derive(Clone, Copy, Debug, PartialEq, Eq, Drop)]
 pub struct Sample {
     pub reporter: u32,
@@ -60,7 +60,7 @@ impl<'a> Known<'a> {
         })
     }
 
-    /// The sample of a line without its line feed, `None` where it is none.
+    /// The sample of a line without its line feed, `None` where it is no sample.
     #[tactic(auto, unfolding(crate::specs::SampleLine::sample_of))]
     pub(crate) fn sample(&self, text: &[u8]) -> Option<Sample>
         ensures { result ≡ spec.sample_of self.now text.now }

@@ -11,7 +11,7 @@ goes_on item before new found line rest lines left after all so_far next is push
     ∙ ap (go_on before (λ items. items_behind item items lines left)) is
     ∙ ap (λ items. items_behind item items lines left) (sym pushed) ∙ ap (items_behind item new lines) (sym same)
 
--- a line that is none
+-- a line that is no item
 pub stops : {A : Type 0} (item : List A → List ℕ → Option A) (before : List A) (line : List ℕ) (rest lines : List (List ℕ)) (left : List ℕ) (all : Result (List A) ℕ) (count : ℕ)
     → all ≡ items_behind item before rest left → rest ≡ line ∷ lines → item before line ≡ None → count ≡ length before → all ≡ Err count
 unfolding items_behind

@@ -28,7 +28,7 @@ pub fn number_of(text: &[u8]) -> Option<u64>
 }
 
 /// The number of a text as numbers are printed: digits without leading zeros, at most
-/// 18,446,744,073,709,551,615. `007` is none.
+/// 18,446,744,073,709,551,615. `None` for other texts, as `007`.
 #[tactic(auto, unfolding(crate::specs::Numbers::printed_number_of))]
 pub fn printed_number_of(text: &[u8]) -> Option<u64>
     ensures { result ≡ spec.printed_number_of text.now }

@@ -32,7 +32,7 @@ pub record AreParts (bytes : List ℕ) (parts : Parts) : Type 0 where
 abbrev pub document_in : List ℕ → Parts → List ℕ
 document_in input parts = drop parts.start (take parts.end input)
 
--- the line for an input without parts
+-- the row for an input without parts
 abbrev pub no_parts_line : List ℕ
 no_parts_line = codes "refused 14 parts\n"
 

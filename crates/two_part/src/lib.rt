@@ -1,8 +1,8 @@
 //! Where the document lies in an input of two parts.
 //!
-//! The lines that read a document and a second part ask `find_parts` before anything else, and read
-//! the document from `start` to before `end` and the second part from `end` on. `exact` says which
-//! answer comes; `found` and `complete` say that it is the one of the format's sentence
+//! The commands that read a document and a second part ask `find_parts` before anything else, and
+//! read the document from `start` to before `end` and the second part from `end` on. `exact` says
+//! which answer comes; `found` and `complete` say that it is the one of the format's sentence
 //! (`specs/TwoPart.antt`). It takes no memory. Nothing is promised of what the two parts hold.
 #![tactic(auto)]
 
@@ -11,7 +11,7 @@ ghost use Rattle.two_part.specs.TwoPart.{AreParts, IsTwoPart, document_in, parts
 
 use text_scan::number_of;
 
-/// The line for an input without parts.
+/// The row for an input without parts.
 pub const NO_PARTS: &str = "refused 14 parts\n";
 
 /// Where the document lies, in bytes from the start of the input. The second part is what follows
@@ -65,7 +65,7 @@ pub fn find_parts(bytes: &[u8]) -> Option<Parts>
     })
 }
 
-/// The place of the first line feed.
+/// The index of the first line feed.
 pub fn first_line_feed(bytes: &[u8]) -> Option<usize>
     ensures { result ≡ position (λ byte. byte == 10) bytes.now }
 {
