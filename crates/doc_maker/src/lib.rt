@@ -1,4 +1,5 @@
-//! Large valid documents from three numbers: the line `make`, and what the line `bulk` solves.
+//! Large valid documents from three numbers: the command `make`, and what the command `bulk`
+//! solves.
 //!
 //! The top call uses `make_document`, whose clause is the whole document ("The made document",
 //! docs/FORMAT.md). The text is written into one buffer, token by token, with no tree of values. It

@@ -58,7 +58,7 @@ impl DocumentSize {
         self.tasks
     }
 
-    /// The number that is drawn at a place, below 10,007.
+    /// The number that is drawn at an index, below 10,007.
     pub(crate) fn drawn(&self, place: u32) -> u64
         ensures { result ≡ drawn self.now place }
     {

@@ -1,4 +1,4 @@
-//! Written events, and why there are none.
+//! Written events, and why a text has none.
 
 ghost use Rattle.enforce_run.specs.declared.event.EventError.TheVariants.{OutOfMemory};
 
@@ -20,7 +20,7 @@ pub enum EventLine {
     Restart { region: u32 },
 }
 
-/// Why there are no events.
+/// Why a text has no events.
 #[derive(Clone, Copy, Debug, PartialEq, Eq)]
 pub enum EventError {
     /// The first line at fault, counted from 0: it is no line of an event, or names a region or

@@ -7,7 +7,7 @@
 //! clause of `enforce` is the whole text: the answers and the world after these events by the
 //! definition World, with a region for each reporter and the tables of the script's first reports;
 //! and that the World law holds at every moment of them, which `written_events_are_lawful` says of
-//! all events that are there. Which tables there are is said of the maker.
+//! all events that are there. Nothing is promised of which tables the maker makes.
 #![tactic(auto)]
 
 mod event;

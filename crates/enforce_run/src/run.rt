@@ -20,8 +20,8 @@ use std::alloc::Global;
 /// docs/FORMAT.md).
 ///
 /// Tables are the maker's, which has taken in nothing yet, of the first reports of the script.
-/// `owners` has the number of the reporter who owns each task, `names` the name of each task; one
-/// that has none is printed with an empty text.
+/// `owners` has the number of the owner of each task, `names` the name of each task; a task without
+/// a name is printed with an empty text.
 #[tactic(auto, using(crate::proofs::Owners::regions_fit, crate::proofs::Owners::regions_few, crate::proofs::Owners::regions_counted), unfolding(crate::specs::EnforceText::enforced_text))]
 pub fn enforce<M: Maker>(
     alloc: Global,

@@ -1,4 +1,4 @@
-//! The text of a world, line by line.
+//! The text of a world, row by row.
 
 ghost use Rattle.std.specs.Prelude.{◌≡◌, ◌++◌, ◌<◌, ◌^◌, IfOk, OnOk, flat_map, length, map, string_bytes};
 ghost use Rattle.bwe_specs.specs.Reports.{numbers};

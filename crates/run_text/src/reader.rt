@@ -1,4 +1,4 @@
-//! The lines of a reader.
+//! The rows of a reader.
 ghost use Rattle.std.specs.Prelude.{◌≡◌, ◌+◌, ◌++◌, ◌<◌, ◌^◌, ℕ, flat_map, length, OnOk, string_bytes};
 ghost use Rattle.std.specs.List.{All};
 ghost use Rattle.doc_names.specs.NameTexts.{texts_of};
@@ -64,7 +64,7 @@ fn push_reader(
     push_final(text, reader.last)
 }
 
-/// Puts the lines of each reader at the end of the text.
+/// Puts the rows of each reader at the end of the text.
 #[tactic(auto, using(crate::proofs::Numbered::numbered_more))]
 pub(crate) fn push_readers(
     text: &mut String,

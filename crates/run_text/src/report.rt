@@ -1,4 +1,4 @@
-//! The lines of reports.
+//! The rows of reports.
 ghost use Rattle.std.specs.Prelude.{◌≡◌, ◌+◌, ◌++◌, ◌<◌, ◌^◌, length, OnOk, string_bytes};
 ghost use Rattle.doc_names.specs.NameTexts.{texts_of};
 ghost use Rattle.run_text.specs.RunText.{beyond_line, beyond_word, numbered, report_line, report_word, target_name, told};
@@ -76,7 +76,7 @@ fn push_report_beyond(
     push_told(text, names, place, report)
 }
 
-/// Puts a line for each report of the history at the end of the text.
+/// Puts a row for each report of the history at the end of the text.
 #[tactic(auto, using(crate::proofs::Numbered::numbered_more))]
 pub(crate) fn push_history(
     text: &mut String,
@@ -93,7 +93,7 @@ pub(crate) fn push_history(
     Ok(())
 }
 
-/// Puts a line for each report beyond a history of this length at the end of the text.
+/// Puts a row for each report beyond a history of this length at the end of the text.
 #[tactic(auto, using(crate::proofs::Numbered::numbered_more))]
 pub(crate) fn push_beyond(
     text: &mut String,

@@ -1,4 +1,4 @@
-//! The text of a run, line by line.
+//! The text of a run, row by row.
 ghost use Rattle.std.specs.Prelude.{◌≡◌, ◌+◌, ◌++◌, ◌<◌, ◌^◌, length, IfOk, OnOk, string_bytes};
 ghost use Rattle.std.specs.List.{All};
 ghost use Rattle.doc_names.specs.NameTexts.{texts_of};

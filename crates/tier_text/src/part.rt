@@ -46,7 +46,7 @@ pub fn read_tiers(alloc: Global, part: &[u8], groups: u32) -> Result<Vec<u8>, Ti
     digits_of(alloc, part, groups)
 }
 
-/// The line of a part that is refused at this byte.
+/// The row of a part that is refused at this byte.
 #[tactic(auto, unfolding(crate::specs::TierPart::tiers_line))]
 pub fn refused_tiers(alloc: Global, at: u64) -> Result<Vec<u8>, OutOfMemory>
     ensures { IfOk result (λ line. line.items ≡ tiers_line at) }
@@ -54,7 +54,7 @@ pub fn refused_tiers(alloc: Global, at: u64) -> Result<Vec<u8>, OutOfMemory>
     Ok(format!(in alloc; "refused 15 tiers at byte {at}\n")?.into_bytes())
 }
 
-// The first place at which the part has not what is due there.
+// The first byte at which the part is at fault.
 fn first_fault(part: &[u8], groups: u32) -> Option<u64>
     ensures { result ≡ part_fault groups part.now }
 {
@@ -66,7 +66,7 @@ fn first_fault(part: &[u8], groups: u32) -> Option<u64>
     None
 }
 
-// Whether the part has at the place what is due there.
+// Whether the part has at the byte what is due there.
 fn is_due(part: &[u8], groups: u32, at: u64) -> bool
     ensures { result ≡ is_due groups part.now at }
 {
