@@ -48,7 +48,7 @@ pub record IsInterleaving (tasks links : ℕ) (scripts : List (List Report)) (hi
 
 -- ---- closed legal runs
 
--- the text is that of a closed legal crew log, of 1 to 64 readers who each made the same number of
+-- the text is that of a closed legal crew log, of 1 to 64 readers that each made the same number of
 -- reads, at most 1,000
 pub record IsClosedRun (names : NameTexts) (table_of : List Report → Table) (tasks links : ℕ)
     (scripts : List (Vec Report Global)) (text : List ℕ) : Type 0 where

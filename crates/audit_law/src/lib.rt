@@ -10,7 +10,7 @@
 //! and totals.
 //!
 //! A document that was read has all of that (`accepted_document_is_audited`), so the laws hold of
-//! the verdict that the line `audit` prints: `document_run_is_legal` and
+//! the verdict that the command `audit` prints: `document_run_is_legal` and
 //! `legal_text_is_a_document_run`. The top call cites them: its clause on `audit` names
 //! `IsDocumentRun` (`specs/DocumentRun.antt`). Nothing is promised of documents that are refused.
 #![tactic(auto)]

@@ -51,8 +51,8 @@ fn history_of(line: &LineWords<'_>) -> Option<u64>
     None
 }
 
-/// What a report's line says, whose third word is the name of this reporter, if of any. The name
-/// that is likely is tried before the others.
+/// What a report's line says, where its third word is the name of this reporter. The name that is
+/// likely is tried before the others.
 #[tactic(auto, unfolding(crate::specs::Forms::report_of))]
 pub(crate) fn report_of(
     names: &Names,

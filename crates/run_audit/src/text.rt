@@ -6,7 +6,7 @@ use crate::verdict::{AuditCause, AuditVerdict};
 use bwe_specs::OutOfMemory;
 use std::alloc::{AllocError, Global};
 
-/// The line that says the verdict ("Audit text", docs/FORMAT.md).
+/// The row that says the verdict ("Audit text", docs/FORMAT.md).
 pub fn audit_text(alloc: Global, verdict: AuditVerdict) -> Result<Vec<u8>, OutOfMemory>
     ensures { IfOk result (λ text. text.items ≡ verdict_line verdict) }
 {
