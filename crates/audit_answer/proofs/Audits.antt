@@ -1,4 +1,4 @@
--- What the audit of a document's runs asks for, its verdict, and what its status says.
+-- What the audit of a document's runs asks for, its verdict, and what its exit status says.
 use Rattle.std.proofs.Common.{◌≡◌, ℕ, ◌≤◌, ◌∙◌, List, Vec, Global, length, refl, sym, ap, subst, arith}
 use Rattle.std.proofs.lemmas.List.{length-replicate}
 use Rattle.bwe_specs.specs.declared.limits.TheConstants.{MAX_REPORTS}
@@ -57,7 +57,7 @@ module _ (document : Document) (plan : Plan) (same : plan ≡ plan_in document) 
       ∙ ap (λ made. verdict_of (texts_of names) (scripts_of (reporter_count document) document.script.items) (λ reports. tables.total_of (allocation (plan_in document) reports)) (text_of (texts_of names) made) text) solved
       ∙ ap (λ given. verdict_of (texts_of given) (scripts_of (reporter_count document) document.script.items) (λ reports. tables.total_of (allocation (plan_in document) reports)) (text_of (texts_of given) (allocation (plan_in document) document.script.items)) text) named
 
--- ---- what the status says
+-- ---- what the exit status says
 
 pub legal_at-0 : (verdict : AuditVerdict) → audit_status verdict ≡ 0 → verdict ≡ Legal
 legal_at-0 Legal e = refl
@@ -75,7 +75,7 @@ reply-parts accepted document is text =
     ∙ ap (λ plan. audit_reply accepted.names plan document.script.items text) (plan-is accepted document is)
     ∙ ap (λ script. audit_reply accepted.names (plan_of accepted) script text) is.script
 
--- where a text is legal exactly where it is that of a run, the status says so
+-- where a text is legal exactly where it is that of a run, the exit status says so
 pub audit-says : (accepted : Accepted) (text : List ℕ) (given : Reply) → given ≡ audit_reply accepted.names (plan_of accepted) accepted.script text
     → (document_verdict accepted text ≡ Legal → IsDocumentRun accepted text) → (IsDocumentRun accepted text → document_verdict accepted text ≡ Legal) → IsAuditReply accepted text given
 audit-says accepted text given is to_run to_legal = record {

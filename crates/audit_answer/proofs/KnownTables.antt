@@ -1,4 +1,4 @@
--- A known table is that of what stands, where the demands and capacities are those that are kept.
+-- A known table is that of the allocator, where the demands and capacities are those that are kept.
 use Rattle.std.proofs.Common.{◌≡◌, ℕ, ◌∙◌, List, ap, ap₂, sym}
 use Rattle.std.specs.Prelude.{slice_index}
 use Rattle.bwe_specs.specs.declared.report.Report.{Report}
@@ -20,13 +20,13 @@ module _ (reported : Reported) (groups : List PathGroups) (reports : List Report
       ∙ ap₂ (listed (plan_by reported groups) reported.prefix) demands_so capacities_so
       ∙ table-after reported groups reports after
 
-  -- the table of what stands is known by its lists ..
+  -- the table of the allocator is known by its lists ..
   pub known-now : (table : Table) → table ≡ allocation (plan_by reported groups) reports → table ≡ listed (plan_by reported groups) table.prefix demands capacities
   known-now table is =
       let whole : table ≡ table_by reported groups = is ∙ sym (table-after reported groups reports after) in
       is ∙ sym (same table.prefix (ap (λ (made : Table). made.prefix) whole))
 
-  -- .. and a table that is known by these is that of what stands
+  -- .. and a table that is known by these is that of the allocator
   pub known-stands : (table : Table) → table ≡ listed (plan_by reported groups) table.prefix demands capacities → table.prefix ≡ reported.prefix
       → table ≡ allocation (plan_by reported groups) reports
   known-stands table is prefix = is ∙ same table.prefix prefix

@@ -11,7 +11,7 @@ use Rattle.run_audit.specs.AuditText.{verdict_line}
 use Rattle.run_audit.specs.declared.verdict.AuditVerdict.{AuditVerdict}
 use Rattle.run_audit.specs.declared.verdict.AuditVerdict.TheVariants.{Legal, Wrong}
 
--- status 0 where the text is legal, else 1
+-- exit status 0 where the text is legal, else 1
 abbrev pub audit_status : AuditVerdict → ℕ
 audit_status Legal = 0
 audit_status (Wrong line cause) = 1
@@ -22,8 +22,8 @@ audit_reply names plan script text =
     let judged = script_verdict names plan script text in
     record { status = audit_status judged; text = verdict_line judged }
 
--- `audit`: with status 0 the text is that of a closed legal run of the document, with status 1 it
--- is not, and then the reply names its first fault
+-- `audit`: with exit status 0 the text is that of a closed legal run of the document, with exit
+-- status 1 it is not, and then the reply names its first fault
 pub record IsAuditReply (document : Accepted) (text : List ℕ) (given : Reply) : Type 0 where
   pub legal : (given.status ≡ 0) ↔ IsDocumentRun document text
   pub wrong : (given.status ≡ 1) ↔ (IsDocumentRun document text → ⊥)

@@ -1,4 +1,4 @@
-//! The line `audit`.
+//! The command `audit`.
 
 ghost use Rattle.std.specs.Prelude.{◌≡◌, ◌≤◌, All, [], IfOk, length};
 ghost use Rattle.bwe_specs.specs.declared.limits.TheConstants.{MAX_AMOUNT, MAX_REPORTS};
@@ -24,7 +24,7 @@ use run_audit::{AuditVerdict, audit_text};
 use std::alloc::Global;
 use table_text::table_text;
 
-/// What the line writes for its input.
+/// The answer to its input.
 pub fn audit(alloc: Global, input: &[u8]) -> Result<Answer, OutOfMemory>
     ensures { IfOk result (λ answer. IsReplyBehind IsAuditReply (accepted_parts input.now) answer) }
 {
@@ -84,7 +84,7 @@ fn solved_and_rewound(
     Ok(KnowingAllocator { allocator, known })
 }
 
-// The status of a verdict.
+// The exit status of a verdict.
 fn status_of(verdict: AuditVerdict) -> u8
     ensures { result ≡ audit_status verdict }
 {

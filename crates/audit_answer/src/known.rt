@@ -97,7 +97,7 @@ impl Maker for KnowingAllocator {
     }
 }
 
-// Whether the known table is that of what now stands.
+// Whether the known table is that of the demands and capacities as they now are.
 fn stands(known: &Known, allocator: &Allocator) -> bool
     ensures prefix { result ≡ true → known.now.table.prefix ≡ allocator.now.reported.prefix }
     ensures demands { result ≡ true
@@ -110,7 +110,7 @@ fn stands(known: &Known, allocator: &Allocator) -> bool
         && are_capacities(&known.capacities, allocator.topology())
 }
 
-// What each task asks for.
+// The demand of each task.
 fn demands_of(alloc: Global, tree: &PolicyTree) -> Result<Vec<u64>, OutOfMemory>
     ensures { IfOk result (λ demands. demands.items ≡ tree.now.demands) }
 {
@@ -121,7 +121,7 @@ fn demands_of(alloc: Global, tree: &PolicyTree) -> Result<Vec<u64>, OutOfMemory>
     Ok(demands)
 }
 
-// Whether the tasks ask for so much.
+// Whether the tasks have these demands.
 fn are_demands(demands: &[u64], tree: &PolicyTree) -> bool
     ensures { result ≡ true → demands.now ≡ tree.now.demands }
 {
@@ -136,7 +136,7 @@ fn are_demands(demands: &[u64], tree: &PolicyTree) -> bool
     true
 }
 
-// Whether the links can carry so much.
+// Whether the links have these capacities.
 fn are_capacities(capacities: &[u64], topology: &Topology) -> bool
     ensures { result ≡ true → capacities.now ≡ topology.now.capacities }
 {

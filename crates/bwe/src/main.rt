@@ -1,4 +1,4 @@
-//! The program `bwe`: its words and the standard streams, handed to the top call.
+//! The program `bwe`: its arguments and the standard streams, handed to the top call.
 #![tactic(auto)]
 
 use bwe_cli::bwe;

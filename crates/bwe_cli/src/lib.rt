@@ -1,11 +1,11 @@
-//! The top call: one command line, from its words and the bytes of its input to the bytes of its
-//! answer and a status, with `run` and `levels` on threads.
+//! The top call: one command, from its arguments and the bytes of its input to the bytes of its
+//! answer and an exit status, with `run` and `levels` on threads.
 //!
-//! The program calls `bwe` with the standard streams. The words are read once. Its contract is one
-//! sentence: for the line that the words are, source and sink went from here to there as an ending
-//! with this status allows. What each line may get for its input, and the laws of that, stand in
-//! `top_call`, with `bwe_once`, the same for every line that needs no threads. Nothing is promised
-//! of time, nor that memory is there.
+//! The program calls `bwe` with the standard streams. The arguments are read once. Its contract is
+//! one sentence: for the command that the arguments are, source and sink went from here to there as
+//! an ending with this exit status allows. What each command may get for its input, and the laws of
+//! that, stand in `top_call`, with `bwe_once`, the same for every command that needs no threads.
+//! Nothing is promised of time, nor that memory is there.
 #![tactic(auto)]
 
 ghost use Rattle.std.specs.Prelude.{◌≡◌, false, Some};
@@ -28,12 +28,14 @@ use std::sync::Wait;
 use std::thread::Threads;
 use top_call::read_input_of;
 
-/// Serves one command line of the program, and answers the status ("Statuses", docs/FORMAT.md).
+/// Serves one command of the program, and answers the exit status ("Exit statuses",
+/// docs/FORMAT.md).
 ///
-/// `words` are those after the program's name. `run` puts a reporter for each of the document's
-/// reporters, the allocator and the readers on threads; `gate` is called round each of their calls.
-/// `levels` works its values out on threads. The whole text is made before its first byte is
-/// written. `run` alone may wait; every other command goes to `serve_in_time`, which returns.
+/// `words` are the arguments after the program's name. `run` puts a reporter for each of the
+/// document's reporters, the allocator and the readers on threads; `gate` is called round each of
+/// their calls. `levels` works its values out on threads. The whole text is made before its first
+/// byte is written. `run` alone may wait; every other command goes to `serve_in_time`, which
+/// returns.
 pub fn bwe<S: Source, K: Sink, G: Gate + Sync, R: Threads + Wait + Sync>(
     rt: &R,
     alloc: Global,
@@ -42,10 +44,11 @@ pub fn bwe<S: Source, K: Sink, G: Gate + Sync, R: Threads + Wait + Sync>(
     sink: &mut K,
     gate: &G,
 ) -> u8
-    // For the line that the words are, source and sink went from here to there as an ending with
-    // this status allows. The headline's two halves are in what the lines may get: `replies Solve`,
-    // that a table is "the one that raising every group's fair share by one at a time gives", and
-    // `replies Run`, that what readers saw is of "prefixes of one history" that "never fall".
+    // For the command that the arguments are, source and sink went from here to there as an ending
+    // with this exit status allows. The headline's two halves are in what the commands may get:
+    // `replies Solve`, that a table is "the one that raising every group's fair share by one at a
+    // time gives", and `replies Run`, that what readers saw is of "prefixes of one history" that
+    // "never fall".
     ensures { IsServed (command_line_of (texts_of words.now)) (record {
       source = source.old;
       source_after = source.new;

@@ -57,7 +57,7 @@ pub(crate) fn serve_run<S: Source, K: Sink, G: Gate + Sync, R: Threads + Wait + 
     }
 }
 
-// The text of a run of the document's script, or the line of its refusal.
+// The text of a run of the document's script, or the row of its refusal.
 fn run<G: Gate + Sync, R: Threads + Wait + Sync>(
     rt: &R,
     alloc: Global,

@@ -53,10 +53,11 @@ impl Follower for Following {
     }
 }
 
-/// Serves one conversation over the stream, and answers the status ("`bwe-live`", docs/FORMAT.md).
+/// Serves one conversation over the stream, and answers the exit status ("`bwe-live`",
+/// docs/FORMAT.md).
 pub fn bwe_live<S: Stream>(alloc: Global, words: &[String], stream: &mut S) -> u8
     // The stream went from here to there as a conversation that was live all the way and ended as
-    // this status allows; what is written is what `live` says of the bytes read.
+    // this exit status allows; what is written is what `live` says of the bytes read.
     ensures { IsServed live (length words.now) (S.talk stream.old) (S.talk stream.new)
         (S.faults stream.old) (S.faults stream.new) result }
 {

@@ -1,4 +1,4 @@
-//! The program `bwe-live`: its words and the standard streams, handed to the service.
+//! The program `bwe-live`: its arguments and the standard streams, handed to the service.
 //!
 //! `bwe_live` is the call that it makes: `serve` of `live_run` over a `LiveSession`. Its contract
 //! says what is written for the bytes read, and that nothing is late; what the standard streams

@@ -7,7 +7,8 @@ use bwe_specs::{MAX_AMOUNT, Report, Target};
 use control_core::ControlEvent;
 use text_scan::{cut_at, printed_number_of};
 
-/// The reporters, of whom the first has tasks 0 and 3, the second task 1, and the third task 2.
+/// How many reporters there are. The first has tasks 0 and 3, the second task 1, and the third task
+/// 2.
 pub(crate) const REPORTERS: u32 = 3;
 
 /// The tasks.
@@ -19,7 +20,7 @@ pub(crate) const ALLOCATORS: u32 = 3;
 /// The readers.
 pub(crate) const READERS: u32 = 2;
 
-/// The event of a line, `None` where the line is none, or names what there is never.
+/// The event of a line, `None` where it is no line of an event, or names what there never is.
 pub(crate) fn event_of(line: &[u8]) -> Option<ControlEvent>
     ensures named { IfSome result IsNamed }
 {

@@ -82,7 +82,7 @@ fn is_there(control: &Control<EchoMaker>, event: ControlEvent) -> bool
     }
 }
 
-// Nothing has happened.
+// The state before any event.
 fn first_control(alloc: Global) -> Result<Control<EchoMaker>, OutOfMemory>
     ensures plan { IfOk result
         (λ control. ⟦<EchoMaker as Maker>⟧.plan control.maker ≡ 4) }
@@ -103,7 +103,7 @@ fn refused_at(alloc: Global, line: u64) -> Result<Answer, OutOfMemory> {
     })
 }
 
-/// Reads the events, writes the states or the refusal, and answers the status.
+/// Reads the events, writes the states or the refusal, and answers the exit status.
 pub(crate) fn play_once<S: Source, K: Sink>(alloc: Global, source: &mut S, sink: &mut K) -> u8 {
     match read_all(alloc, source, MAX_INPUT) {
         Ok(input) => finish(sink, play(alloc, &input)),

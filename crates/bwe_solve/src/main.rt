@@ -1,7 +1,7 @@
-//! The program `bwe-solve`: the line `solve` of `bwe` alone, over the standard streams.
+//! The program `bwe-solve`: the command `solve` of `bwe` alone, over the standard streams.
 //!
-//! It takes no words. The launcher `./bwe` builds and calls it for `solve` where `bwe` itself is
-//! not built yet.
+//! It takes no arguments. The launcher `./bwe` builds and calls it for `solve` where `bwe` itself
+//! is not built yet.
 #![tactic(auto)]
 
 use bwe_io::{StdSink, StdSource};

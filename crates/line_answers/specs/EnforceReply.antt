@@ -1,4 +1,4 @@
--- The line `enforce`, and what an accepted document and the second part behind it get.
+-- The command `enforce`, and what an accepted document and the second part behind it get.
 use Rattle.std.specs.Prelude.{ℕ, List, length, slice_index, Result, Ok, Err}
 use Rattle.bwe_specs.specs.declared.report.Report.{Report}
 use Rattle.bwe_specs.specs.Allocation.{Plan, allocation}
@@ -23,7 +23,7 @@ enforced_reply names plan script task_owners events = record {
       (regions_of (length names.reporters) task_owners) names.tasks events;
 }
 
--- or the line for the first line at fault
+-- or the row for the first line at fault
 abbrev pub enforced_by : NameTexts → Plan → List Report → List ℕ → Result (List EventLine) ℕ → Reply
 enforced_by names plan script task_owners (Ok events) =
     enforced_reply names plan script task_owners events

@@ -1,4 +1,4 @@
--- The line `estimate`, and what an accepted document and the second part behind it get.
+-- The command `estimate`, and what an accepted document and the second part behind it get.
 use Rattle.std.specs.Prelude.{ℕ, ◌-◌, ◌++◌, List, length, Result, Ok, Err}
 use Rattle.bwe_specs.specs.declared.report.Report.{Report}
 use Rattle.bwe_specs.specs.Allocation.{Plan}
@@ -12,7 +12,7 @@ use Rattle.doc_names.specs.NameTexts.{NameTexts}
 use Rattle.plan_doc.specs.Plans.{plan_of}
 use Rattle.solve_answer.specs.SolveReply.{table_reply}
 
--- the table of the script with these reports behind it, or the line for the first sample at fault
+-- the table of the script with these reports behind it, or the row for the first sample at fault
 abbrev pub table_behind : NameTexts → Plan → List Report → Result (List Report) ℕ → Reply
 table_behind names plan script (Ok reports) = table_reply names plan (script ++ reports)
 table_behind names plan script (Err line) = record { status = 3; text = sample_refusal line }

@@ -1,4 +1,4 @@
--- The lines that read nothing, and what they write.
+-- The commands that read nothing, and what they write.
 use Rattle.std.specs.Prelude.{ℕ, List, Result, Ok, Err}
 use Rattle.bwe_specs.specs.declared.report.Report.{Report}
 use Rattle.bwe_specs.specs.Allocation.{Plan, allocation}
@@ -16,7 +16,7 @@ abbrev pub summary_reply : ℕ → ℕ → Plan → List Report → Reply
 summary_reply groups tasks plan script =
     record { status = 0; text = bulk_text_of groups tasks (allocation plan script) }
 
--- the summary of a document's table, or the line of its refusal
+-- the summary of a document's table, or the row of its refusal
 abbrev pub summary_of : Size → Result Accepted Refusal → Reply
 summary_of size (Ok accepted) =
     summary_reply size.groups size.tasks (plan_of accepted) accepted.script

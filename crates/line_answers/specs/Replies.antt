@@ -16,7 +16,7 @@ use Rattle.parallel_values.specs.Levels.{levels}
 use Rattle.plan_doc.specs.Document.{Accepted}
 use Rattle.plan_doc.specs.Plans.{plan_of}
 
--- status 0 where the closings are right, else 1
+-- exit status 0 where the closings are right, else 1
 abbrev pub verdict_status : Verdict → ℕ
 verdict_status Right = 0
 verdict_status (Wrong at cause) = 1

@@ -1,4 +1,4 @@
--- The line `tiers`, and what an accepted document and the second part behind it get.
+-- The command `tiers`, and what an accepted document and the second part behind it get.
 use Rattle.std.specs.Prelude.{ℕ, List, length, Option, Some, None}
 use Rattle.bwe_specs.specs.declared.report.Report.{Report}
 use Rattle.bwe_specs.specs.Allocation.{Plan}
@@ -22,7 +22,7 @@ abbrev pub tiered_reply : NameTexts → Plan → List Report → List ℕ → Re
 tiered_reply names plan script tiers =
     record { status = 0; text = tier_text_of names (tiered_after plan script tiers) }
 
--- the line for the first byte at fault, where there is one
+-- the row for the first byte at fault, where there is one
 abbrev pub unless_refused : Option ℕ → Reply → Reply
 unless_refused (Some at) given = record { status = 3; text = tiers_line at }
 unless_refused None given = given

@@ -1,4 +1,4 @@
-//! The line `check`.
+//! The command `check`.
 
 ghost use Rattle.std.specs.Prelude.{◌≡◌, List, IfOk};
 ghost use Rattle.bwe_specs.specs.declared.report.Report.{Report};
@@ -20,7 +20,7 @@ use plan_doc::{Document, read_document};
 use std::alloc::Global;
 use table_text::check_text;
 
-/// What the line writes for its input.
+/// The answer to its input.
 pub fn check(alloc: Global, input: &[u8]) -> Result<Answer, OutOfMemory>
     ensures { IfOk result (λ answer. answer ≡ document_reply check_accepted input.now) }
 {
@@ -71,7 +71,7 @@ fn verdict_after(
     bottleneck_cert::check(alloc, &values, allocator.topology(), plan, closings)
 }
 
-// The status of a verdict.
+// The exit status of a verdict.
 fn status_of(verdict: Verdict) -> u8
     ensures { result ≡ verdict_status verdict }
 {

@@ -1,4 +1,4 @@
-//! The line `enforce`.
+//! The command `enforce`.
 
 ghost use Rattle.std.specs.Prelude.{◌≡◌, [], IfOk};
 ghost use Rattle.enforce_run.specs.EventLines.{AreThere};
@@ -16,7 +16,7 @@ use opened_document::{OpenedDocument, Parted, open, read_parts};
 use plan_doc::Document;
 use std::alloc::Global;
 
-/// What the line writes for its input.
+/// The answer to its input.
 pub fn enforce(alloc: Global, input: &[u8]) -> Result<Answer, OutOfMemory>
     ensures { IfOk result (λ answer. answer ≡ parts_reply enforce_accepted input.now) }
 {

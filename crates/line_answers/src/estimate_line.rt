@@ -1,4 +1,4 @@
-//! The line `estimate`.
+//! The command `estimate`.
 
 ghost use Rattle.std.specs.Prelude.{◌≡◌, ◌≤◌, ◌-◌, ◌++◌, ℕ, All, IfOk, length};
 ghost use Rattle.bwe_specs.specs.declared.limits.TheConstants.{MAX_REPORTS};
@@ -24,7 +24,7 @@ use sample_lines::{SampleError, estimate_reports, sample_refusal_line};
 use solve_answer::solve_document;
 use std::alloc::Global;
 
-/// What the line writes for its input.
+/// The answer to its input.
 pub fn estimate(
     alloc: Global,
     window: u32,

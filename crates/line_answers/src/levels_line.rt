@@ -1,4 +1,4 @@
-//! The line `levels`.
+//! The command `levels`.
 
 ghost use Rattle.std.specs.Prelude.{◌≡◌, ◌≤◌, ℕ, IfOk};
 ghost use Rattle.bwe_specs.specs.Reports.{demand_after};
@@ -20,7 +20,7 @@ use std::alloc::Global;
 use std::thread::Threads;
 use table_text::levels_text;
 
-/// What the line writes for its input, of values that are asked of one group after the other.
+/// The answer to its input, of values that are asked of one group after the other.
 pub fn levels(alloc: Global, share: u64, input: &[u8]) -> Result<Answer, OutOfMemory>
     ensures { IfOk result (λ answer. answer ≡ document_reply (levels_accepted share) input.now) }
 {
@@ -54,7 +54,7 @@ fn opened_levels(alloc: Global, share: u64, opened: &OpenedDocument) -> Result<A
     levels_answer(alloc, tree, share, &values, &opened.names)
 }
 
-/// What the line writes for its input, of values that are worked out on threads.
+/// The answer to its input, of values that are worked out on threads.
 pub fn levels_on_threads<R: Threads + Sync>(
     rt: &R,
     alloc: Global,

@@ -1,6 +1,5 @@
-//! What each line of the program writes for its input, but for `solve` and `audit`, which have
-//! crates of their own, `solve_answer` and `audit_answer`, and for `run`, which stands in
-//! `bwe_cli`.
+//! What each command writes for its input, but for `solve` (`solve_answer`), `audit`
+//! (`audit_answer`) and `run` (`bwe_cli`).
 //!
 //! The top call makes a whole answer by one of these, and then writes it. The contract of each says
 //! the one reply that an input has. Nothing is promised of time, nor that memory is there.

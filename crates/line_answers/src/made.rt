@@ -1,4 +1,4 @@
-//! The lines `make` and `bulk`, which read nothing.
+//! The commands `make` and `bulk`, which read nothing.
 
 ghost use Rattle.std.specs.Prelude.{◌≡◌, List, IfOk};
 ghost use Rattle.bwe_specs.specs.declared.report.Report.{Report};
@@ -39,7 +39,7 @@ pub fn bulk(alloc: Global, seed: u64, groups: u32, tasks: u32) -> Result<Answer,
     read_summary(alloc, seed, groups, tasks)
 }
 
-// The summary of the table of the made document as it is read, or the line of its refusal.
+// The summary of the table of the made document as it is read, or the row of its refusal.
 fn read_summary(alloc: Global, seed: u64, groups: u32, tasks: u32) -> Result<Answer, OutOfMemory>
     requires { IsSize (record { seed = seed; groups = groups; tasks = tasks }) }
     ensures { IfOk result (λ answer. answer

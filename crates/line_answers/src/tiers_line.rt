@@ -1,4 +1,4 @@
-//! The line `tiers`.
+//! The command `tiers`.
 
 ghost use Rattle.std.specs.Prelude.{◌≡◌, IfOk, length};
 ghost use Rattle.doc_names.specs.NameTexts.{texts_of};
@@ -15,7 +15,7 @@ use std::alloc::Global;
 use tier_text::{TiersError, read_tiers, refused_tiers, tier_text};
 use tiers::fill_tiers;
 
-/// What the line writes for its input.
+/// The answer to its input.
 pub fn tiers(alloc: Global, input: &[u8]) -> Result<Answer, OutOfMemory>
     ensures { IfOk result (λ answer. answer ≡ parts_reply tiers_accepted input.now) }
 {

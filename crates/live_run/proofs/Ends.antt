@@ -20,7 +20,7 @@ use Rattle.live_run.proofs.LinesBehind.{calls-behind, calls-more}
 use Rattle.live_run.proofs.Counts.{HasRisen-after}
 use Rattle.live_run.proofs.Steps.{HasStopped-after, first-due}
 
--- a conversation that stopped has the status of its stop
+-- a conversation that stopped has the exit status of its stop
 pub Ending-stopped : (follow : Follow) (words : ℕ) (talk : Option Talk) (a b : Faults) (p : Passed) (stop : Stop) → HasStopped follow words a b p stop → Ending follow words talk a b p (stop_status stop)
 Ending-stopped follow words talk a b p ReadFault stopped = read_fault stopped.0 stopped.1
 Ending-stopped follow words talk a b p WriteFault stopped = write_fault stopped.0 stopped.1

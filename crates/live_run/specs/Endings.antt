@@ -1,4 +1,4 @@
--- How a conversation may end: a row of the table of statuses for each way.
+-- How a conversation may end: a row of the table of exit statuses for each way.
 use Rattle.std.specs.Prelude.{◌≡◌, ◌⊎◌, ℕ, ◌<◌, ◌≤◌, Bool, true, false, List, [], length, take, codes, Option, Some, None, Result, MatchResult}
 use Rattle.bwe_io.specs.Faults.{HasRisen}
 use Rattle.live_stream.specs.Talk.{Talk, Faults, IsOver}
@@ -11,7 +11,7 @@ use Rattle.live_run.specs.Follow.{Follow, called_for, follow_text}
 use Rattle.live_run.specs.Conversation.{Passed, Converses}
 use Rattle.live_run.specs.Front.{HasNoDocument, SaysLong, SaysNotLong, SaysNotTooLong, SaysTooLong}
 
--- the line for words, of which there are none
+-- the usage line: the program takes no arguments
 abbrev pub usage_line : List ℕ
 usage_line = codes "usage: bwe-live\n"
 
@@ -118,7 +118,7 @@ GoesOn follow talk talk_after faults faults_after before result =
     (HasStopped follow 0 faults faults_after passed)
 
 -- Nothing was read or written before; then the stream went from here to there as a conversation
--- that was live all the way, and ended as this status says.
+-- that was live all the way, and ended as this exit status says.
 pub record IsServed (follow : Follow) (words : ℕ) (talk talk_after : Option Talk)
     (faults faults_after : Faults) (status : ℕ) : Type 0 where
   pub passed : Passed

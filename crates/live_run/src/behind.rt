@@ -66,7 +66,7 @@ fn next_lines<F: Follower, S: Stream>(
     }
 }
 
-// At the end of input: a line that has not ended is answered as one that is none.
+// At the end of input: a line without its line feed is refused for cause 1.
 fn last_line<F: Follower, S: Stream>(
     alloc: Global,
     follower: &mut F,

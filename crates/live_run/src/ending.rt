@@ -33,7 +33,7 @@ impl From<AllocError> for Stop {
     }
 }
 
-// The status of a conversation that stopped.
+// The exit status of a conversation that stopped.
 pub(crate) fn status_of(stop: Stop) -> u8
     ensures { result ≡ stop_status stop }
 {

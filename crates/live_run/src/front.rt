@@ -15,7 +15,7 @@ pub(crate) enum Front {
     Open,
     /// The document is whole.
     Found(Parts),
-    /// There is none, whatever follows.
+    /// There is no document, whatever follows.
     Missing,
     /// It is to have more bytes than any document may.
     TooLong,

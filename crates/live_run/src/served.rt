@@ -26,17 +26,17 @@ use two_part::{NO_PARTS, Parts};
 /// The most bytes that are asked for at once.
 const PIECE: usize = 65_536;
 
-/// The line for words, of which there are none.
+/// The usage line: `bwe-live` takes no arguments.
 const USAGE: &str = "usage: bwe-live\n";
 
-/// Serves one conversation, and answers the status ("`bwe-live`", docs/FORMAT.md).
+/// Serves one conversation, and answers the exit status ("`bwe-live`", docs/FORMAT.md).
 ///
-/// `words` are those after the program's name: there are none, and for any the usage line is
-/// written. Each answer is made whole before its first byte is written. It returns provided that
-/// the stream's calls return.
+/// `words` are the arguments after the program's name: for any of them the usage line is written.
+/// Each answer is made whole before its first byte is written. It returns provided that the
+/// stream's calls return.
 pub fn serve<F: Follower, S: Stream>(alloc: Global, words: &[String], stream: &mut S) -> u8
     // The stream went from here to there as a conversation that was live all the way and ended as
-    // this status allows.
+    // this exit status allows.
     ensures { IsServed F.follow (length words.now) (S.talk stream.old) (S.talk stream.new)
         (S.faults stream.old) (S.faults stream.new) result }
 {
@@ -52,7 +52,7 @@ pub fn serve<F: Follower, S: Stream>(alloc: Global, words: &[String], stream: &m
     }
 }
 
-// A conversation without words: the document in front, and the lines behind it.
+// A conversation: the document in front, and the lines behind it.
 fn converse<F: Follower, S: Stream>(alloc: Global, stream: &mut S) -> Result<u8, Stop>
     ensures { GoesOn F.follow (S.talk stream.old) (S.talk stream.new)
         (S.faults stream.old) (S.faults stream.new) (record { read = []; written = [] }) result }
@@ -88,7 +88,7 @@ fn refuse_open<S: Stream>(bytes: &[u8], stream: &mut S) -> Result<u8, Stop>
     }
 }
 
-// Writes the line of a refusal, and gives its status.
+// Writes the row of a refusal, and gives its exit status.
 fn refuse<S: Stream>(line: &[u8], status: u8, stream: &mut S) -> Result<u8, Stop>
     ensures given { IfOk result (λ ended. (ended ≡ status)
         × Gives (S.talk stream.old) (S.talk stream.new) line.now) }
@@ -102,7 +102,7 @@ fn refuse<S: Stream>(line: &[u8], status: u8, stream: &mut S) -> Result<u8, Stop
     }
 }
 
-// Writes a line that ends the conversation.
+// Writes a row that ends the conversation.
 fn write_line<S: Stream>(line: &[u8], stream: &mut S) -> Result<(), Failed>
     ensures given { OnOk result (Gives (S.talk stream.old) (S.talk stream.new) line.now) }
     ensures partly { OnErr result (GivesFirst (S.talk stream.old) (S.talk stream.new) line.now) }

@@ -25,7 +25,7 @@ module _ {Line S K : Type 0} (lines : Lines Line) (line : Option Line) (served :
   ending-writes due (entirely appended) = done due appended
   ending-writes due (partly risen prefix) = write_fault due risen prefix
 
-  -- words that are no line
+  -- arguments that are no command
   pub ending-usage : {result : ℕ} → line ≡ None → served.source_after ≡ served.source → WritesAll 2 usage_line result → Ending lines line served result
   ending-usage none same writes = ending-writes (no_line none same) writes
 

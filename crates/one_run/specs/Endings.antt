@@ -1,10 +1,10 @@
--- How a call may end: a row of the table of statuses for each way.
+-- How a call may end: a row of the table of exit statuses for each way.
 use Rattle.std.specs.Prelude.{◌≡◌, ℕ, ◌+◌, ◌≤◌, ◌&&◌, nat_lt, not, Bool, true, false, List, [], length, codes, Option, Some, None}
 use Rattle.std.specs.Io.KnownBytes.{Appends, Consumes, IsAtEnd, Keeps}
 use Rattle.bwe_io.specs.Faults.{HasRisen}
 use Rattle.bwe_io.specs.Bytes.{AppendsPrefix, Takes}
 
--- what a line's input gets: a status and a text
+-- what a command's input gets: an exit status and a text
 pub record Reply : Type 0 where
   pub status : ℕ
   pub text : List ℕ
@@ -21,20 +21,20 @@ max_long_input = 1_073_741_824
 abbrev pub is_above : Bool → List ℕ → Bool
 is_above of_version_4 input = nat_lt max_input (length input) && not of_version_4
 
--- the line for words that are no command line
+-- the row for arguments that are no command
 abbrev pub usage_line : List ℕ
 usage_line =
     codes "usage: bwe solve | check | run [--readers N] [--reads N] | make SEED GROUPS TASKS | bulk SEED GROUPS TASKS | audit | tiers | enforce | estimate WINDOW HEADROOM | levels SHARE\n"
 
--- the line for an input that has more bytes than one whose document is not of version 4 may have
+-- the row for an input that has more bytes than one whose document is not of version 4 may have
 abbrev pub too_long_line : List ℕ
 too_long_line = codes "refused input longer than 67108864 bytes\n"
 
--- the line for an input that has more bytes than any may have
+-- the row for an input that has more bytes than any may have
 abbrev pub far_too_long_line : List ℕ
 far_too_long_line = codes "refused input longer than 1073741824 bytes\n"
 
--- the lines of a program: which of them read an input, which input is too long for one, by the
+-- the commands of a program: which of them read an input, which input is too long for one, by the
 -- version of its document, and what one may get for its input
 pub record Lines (Line : Type 0) : Type 1 where
   pub reads : Line → Bool
@@ -53,7 +53,7 @@ pub record Served (S K : Type 0) : Type 0 where
   pub written : K → Option (List ℕ)
   pub write_faults : K → ℕ
 
--- what was taken in: the whole input of a line that reads one, and nothing for another
+-- what was taken in: the whole input of a command that reads one, and nothing for another
 pub data IsInput {S
     : Type 0} (left : S → Option (List ℕ)) (source source_after : S) : Bool → List ℕ → Type 0 where
   nothing : source_after ≡ source → IsInput left source source_after false []
@@ -61,13 +61,13 @@ pub data IsInput {S
       → IsAtEnd (left source_after)
       → length input ≤ max_long_input → IsInput left source source_after true input
 
--- a text and a status were due
+-- a text and an exit status were due
 pub data IsDue {Line S K : Type 0}
     (lines : Lines Line) (line : Option Line) (served : Served S K)
     : ℕ → List ℕ → Type 0 where
-  -- the words are no line: nothing is read
+  -- the arguments are no command: nothing is read
   no_line : line ≡ None → served.source_after ≡ served.source → IsDue lines line served 2 usage_line
-  -- what the line may get for its input
+  -- what the command may get for its input
   answered : {is : Line} {input : List ℕ} {reply : Reply} → line ≡ Some is
       → IsInput served.left served.source served.source_after (lines.reads is) input
       → lines.is_too_long is input ≡ false → lines.replies is input reply
@@ -87,7 +87,7 @@ abbrev pub reads_input : {Line : Type 0} → Lines Line → Option Line → Bool
 reads_input lines None = false
 reads_input lines (Some line) = lines.reads line
 
--- the call ended with this status
+-- the call ended with this exit status
 pub data Ending {Line S K
     : Type 0} (lines : Lines Line) (line : Option Line) (served : Served S K) : ℕ → Type 0 where
   -- the text that was due was written whole
@@ -110,8 +110,8 @@ pub data Ending {Line S K
       → Keeps (served.written served.sink) (served.written served.sink_after)
       → Ending lines line served 6
 
--- the text was written whole, with the status that it was due with; or the sink failed, with status
--- 5
+-- the text was written whole, with the exit status that it was due with; or the sink failed, with
+-- exit status 5
 pub data Writes (status : ℕ) (text : List ℕ) (written written_after : Option (List ℕ))
     (faults faults_after : ℕ) : ℕ → Type 0 where
   entirely : Appends written written_after text

@@ -1,10 +1,10 @@
-//! One call: what it may read, what it writes, and its status.
+//! One call: what it may read, what it writes, and its exit status.
 //!
-//! A program has its words by `words_of`. The top call reads by `read_input`, asks of an input above
-//! 67,108,864 bytes whether its document is of version 4, and ends by `finish`, by `refuse_input`
-//! or by `write_usage`; `Ending` says of a whole call how it may end, for the line that its words
-//! are. The whole text is made before its first byte is written. Nothing is promised of which
-//! answer a line has, nor that memory is there.
+//! A program has its arguments by `words_of`. The top call reads by `read_input`, asks of an input
+//! above 67,108,864 bytes whether its document is of version 4, and ends by `finish`, by
+//! `refuse_input` or by `write_usage`; `Ending` says of a whole call how it may end, for the
+//! command that its arguments are. The whole text is made before its first byte is written. Nothing
+//! is promised of which answer a command has, nor that memory is there.
 #![tactic(auto)]
 
 ghost use Rattle.std.specs.Prelude.{◌≡◌, ◌≢◌, ◌+◌, Err, true, false, IfOk, IsErrOf, MatchResult};
@@ -21,14 +21,14 @@ mod words;
 
 pub use words::words_of;
 
-/// The line for words that are no command line.
+/// The row for arguments that are no command.
 pub const USAGE: &str =
     "usage: bwe solve | check | run [--readers N] [--reads N] | make SEED GROUPS TASKS | bulk SEED GROUPS TASKS | audit | tiers | enforce | estimate WINDOW HEADROOM | levels SHARE\n";
 
-/// The line for an input that has more bytes than one whose document is not of version 4 may have.
+/// The row for an input that has more bytes than one whose document is not of version 4 may have.
 pub const TOO_LONG: &str = "refused input longer than 67108864 bytes\n";
 
-/// The line for an input that has more bytes than any may have.
+/// The row for an input that has more bytes than any may have.
 pub const FAR_TOO_LONG: &str = "refused input longer than 1073741824 bytes\n";
 
 /// Why there is no input to answer.
@@ -54,7 +54,7 @@ impl From<OutOfMemory> for InputError {
     }
 }
 
-/// What a line has to write: a text, and the status to end with.
+/// What a command has to write: a text, and the exit status to end with.
 #[derive(Debug, Drop)]
 pub struct Answer {
     pub status: u8,
@@ -105,7 +105,7 @@ pub fn write_usage<K: Sink>(sink: &mut K) -> u8
     write_text(sink, USAGE.as_bytes(), 2)
 }
 
-/// Writes the answer and gives its status, or 5 where the sink fails; 6 where memory ran out
+/// Writes the answer and gives its exit status, or 5 where the sink fails; 6 where memory ran out
 /// for the answer.
 pub fn finish<K: Sink>(sink: &mut K, answer: Result<Answer, OutOfMemory>) -> u8
     ensures { MatchResult answer
@@ -119,8 +119,8 @@ pub fn finish<K: Sink>(sink: &mut K, answer: Result<Answer, OutOfMemory>) -> u8
     }
 }
 
-/// Ends a call that has no input to answer: 4 where the source failed, 6 where memory ran out,
-/// and 8 with its line for an input that is too long.
+/// Ends a call that has no input to answer: 4 where the source failed, 6 where memory ran out, and
+/// 8 with its row for an input that is too long.
 pub fn refuse_input<K: Sink>(sink: &mut K, error: InputError) -> u8
     ensures fault { error ≡ InputError.ReadFault
         → IsSilent 4 (K.written sink.old) (K.written sink.new) result }
@@ -141,7 +141,7 @@ pub fn refuse_input<K: Sink>(sink: &mut K, error: InputError) -> u8
     }
 }
 
-// Writes the text, and answers the status that it was due with, or 5 where the sink fails.
+// Writes the text, and answers the exit status that it was due with, or 5 where the sink fails.
 fn write_text<K: Sink>(sink: &mut K, text: &[u8], status: u8) -> u8
     ensures { Writes status text.now (K.written sink.old) (K.written sink.new)
         (K.faults sink.old) (K.faults sink.new) result }

@@ -1,4 +1,4 @@
-//! The words of a program.
+//! The arguments of a program.
 
 ghost use Rattle.std.specs.Prelude.{◌≡◌, ◌≢◌, ◌⊎◌, IfErr};
 ghost use Rattle.std.specs.IoError.{error_kind};
@@ -8,11 +8,11 @@ use std::alloc::AllocGlobal;
 use std::env::{self, Env};
 use std::io;
 
-/// The words after the program's name. Where they cannot be read, the status to end with
-/// ("Statuses", docs/FORMAT.md): 6 where memory ran out, else 7.
+/// The arguments after the program's name. Where they cannot be read, the exit status to end with
+/// ("Exit statuses", docs/FORMAT.md): 6 where memory ran out, else 7.
 ///
-/// Nothing is promised of which words there are, nor of when they cannot be read: `env::args` says
-/// nothing of it.
+/// Nothing is promised of which arguments there are, nor of when they cannot be read: `env::args`
+/// says nothing of it.
 pub fn words_of<R: Env + AllocGlobal>(rt: &R) -> Result<Vec<String>, u8>
     ensures status { IfErr result (λ status. (status ≡ 6) ⊎ (status ≡ 7)) }
 {
@@ -26,7 +26,7 @@ fn read_words<R: Env + AllocGlobal>(rt: &R) -> io::Result<Vec<String>> {
     Ok(env::args(rt)?.skip(1).collect(rt.alloc())?)
 }
 
-// The status for words that could not be read.
+// The exit status for arguments that could not be read.
 fn status_of(error: &io::Error) -> u8
     ensures memory { error_kind error.now ≡ OutOfMemory → result ≡ 6 }
     ensures other { error_kind error.now ≢ OutOfMemory → result ≡ 7 }

@@ -5,7 +5,7 @@ use Rattle.plan_doc.specs.Document.{Accepted, document}
 use Rattle.plan_doc.specs.Refusals.{Refusal}
 use Rattle.plan_doc.specs.RefusalLines.{refusal_line}
 
--- a refused document gets the line of its refusal
+-- a refused document gets the row of its refusal
 abbrev pub refused_reply : Refusal → Reply
 refused_reply refusal = record { status = 3; text = refusal_line refusal }
 

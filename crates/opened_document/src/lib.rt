@@ -1,9 +1,9 @@
-//! A document of an input, read and taken apart, for the lines of the program.
+//! A document of an input, read and taken apart, for the commands of the program.
 //!
 //! `open` makes an allocator of a document's plan, `open_after_script` lets it take in the script;
-//! `read_parts` finds a document and the part behind it, and `refused` writes the line of a
-//! document that is none. The crates above use their contracts: what was opened is the document's,
-//! and what was read are the parts that the input has. Nothing is promised of memory.
+//! `read_parts` finds a document and the part behind it, and `refused` writes the row of a refused
+//! document. The crates above use their contracts: what was opened is the document's, and what was
+//! read are the parts that the input has. Nothing is promised of memory.
 #![tactic(auto)]
 
 mod opened;

@@ -1,4 +1,4 @@
-//! The two parts of the input of a line: a document, and what stands behind it.
+//! The two parts of the input of a command: a document, and what stands behind it.
 
 ghost use Rattle.std.specs.Prelude.{◌≡◌, IfOk};
 ghost use Rattle.plan_doc.specs.RefusalLines.{error_line};
@@ -39,7 +39,7 @@ pub fn read_parts(alloc: Global, input: &[u8]) -> Result<Parted<'_>, OutOfMemory
     }
 }
 
-// The line for an input without parts, with status 3.
+// The row for an input without parts, with exit status 3.
 fn no_parts(alloc: Global) -> Result<Answer, OutOfMemory>
     ensures { IfOk result (λ answer.
         answer ≡ no_parts_reply) }

@@ -1,4 +1,4 @@
-//! The line of a refused document.
+//! The row of a refused document.
 
 ghost use Rattle.std.specs.Prelude.{◌≡◌, Some, IfOk};
 ghost use Rattle.plan_doc.specs.RefusalLines.{error_line};
@@ -8,7 +8,7 @@ use one_run::Answer;
 use plan_doc::{DocError, refusal_line};
 use std::alloc::Global;
 
-/// The one line of a refused document, with status 3.
+/// The one row of a refused document, with exit status 3.
 pub fn refused(alloc: Global, error: &DocError) -> Result<Answer, OutOfMemory>
     ensures { IfOk result
         (λ answer. (answer.status ≡ 3) × (error_line error.now ≡ Some answer.text)) }

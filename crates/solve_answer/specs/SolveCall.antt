@@ -1,12 +1,12 @@
--- A call that serves the line `solve` alone.
+-- A call that serves the command `solve` alone.
 use Rattle.std.specs.Prelude.{◌≡◌, ℕ, ⊤, true, Some}
 use Rattle.one_run.specs.Endings.{Ending, Served}
 use Rattle.input_lengths.specs.Lengths.{document_is_too_long}
 use Rattle.opened_document.specs.Refused.{document_reply}
 use Rattle.solve_answer.specs.SolveReply.{solve_accepted}
 
--- Source and sink went from here to there as an ending with this status allows, of the one line
--- that reads an input and writes what `solve` has for it.
+-- Source and sink went from here to there as an ending with this exit status allows, of the one
+-- command that reads an input and writes what `solve` has for it.
 abbrev pub IsSolved : {S K : Type 0} → Served S K → ℕ → Type 0
 IsSolved served status =
     Ending (record {

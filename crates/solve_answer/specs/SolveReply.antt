@@ -1,4 +1,4 @@
--- The line `solve`, and what its input gets.
+-- The command `solve`, and what its input gets.
 use Rattle.std.specs.Prelude.{List}
 use Rattle.bwe_specs.specs.declared.report.Report.{Report}
 use Rattle.bwe_specs.specs.Allocation.{Plan, allocation}

@@ -1,4 +1,4 @@
-//! A call that serves the line `solve` alone.
+//! A call that serves the command `solve` alone.
 
 ghost use Rattle.std.specs.Prelude.{◌≡◌, ◌+◌, true, false, List, ℕ, IfOk, IsErrOf};
 ghost use Rattle.bwe_io.specs.Bytes.{Takes};
@@ -13,14 +13,14 @@ use input_lengths::document_is_too_long;
 use one_run::{InputError, finish, read_input, refuse_input};
 use std::alloc::Global;
 
-/// Reads a document, writes its table of limits or the line of its refusal, and answers the status
-/// ("Statuses", docs/FORMAT.md), as `bwe solve` does.
+/// Reads a document, writes its table of limits or the row of its refusal, and answers the exit
+/// status ("Exit statuses", docs/FORMAT.md), as `bwe solve` does.
 ///
 /// The whole text is made before its first byte is written. It waits for nobody, and returns
 /// provided that the source and the sink return.
 pub fn solve_once<S: Source, K: Sink>(alloc: Global, source: &mut S, sink: &mut K) -> u8
-    // Source and sink went from here to there as an ending of `solve` with this status allows. The
-    // table is "the one that raising every group's fair share by one at a time gives".
+    // Source and sink went from here to there as an ending of `solve` with this exit status allows.
+    // The table is "the one that raising every group's fair share by one at a time gives".
     ensures { IsSolved (record {
       source = source.old;
       source_after = source.new;

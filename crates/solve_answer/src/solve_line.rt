@@ -1,4 +1,4 @@
-//! The line `solve`.
+//! The command `solve`.
 
 ghost use Rattle.std.specs.Prelude.{◌≡◌, List, IfOk};
 ghost use Rattle.bwe_specs.specs.declared.report.Report.{Report};
@@ -17,7 +17,7 @@ use plan_doc::{Document, read_document};
 use std::alloc::Global;
 use table_text::table_text;
 
-/// What the line writes for its input.
+/// The answer to its input.
 pub fn solve(alloc: Global, input: &[u8]) -> Result<Answer, OutOfMemory>
     ensures { IfOk result (λ answer. answer ≡ document_reply solve_accepted input.now) }
 {

@@ -1,4 +1,4 @@
--- A call that serves `solve` alone ends as a call for that line does.
+-- A call that serves `solve` alone ends as a call for that command does.
 use Rattle.std.proofs.Common.{◌≡◌, ℕ, List, true, false, refl, sym, subst, Option, Some, None}
 use Rattle.std.specs.Prelude.{⊤}
 use Rattle.command_line.specs.declared.CommandLine.{CommandLine}

@@ -1,4 +1,4 @@
--- Which statuses a call may end with.
+-- Which exit statuses a call may end with.
 use Rattle.std.proofs.Common.{◌≡◌, ◌≢◌, ◌⊎◌, ◌∙◌, inl, inr, ℕ, ◌≤◌, true, List, drop, Option, Some, None, Result, Ok, Err, refl, sym, subst, arith}
 use Rattle.std.proofs.lemmas.Bool.{false≢true}
 use Rattle.std.specs.Io.KnownBytes.{Appends}
@@ -31,7 +31,7 @@ use Rattle.top_call.specs.Statuses.{AcceptedIsAnswered, AnAnswerIsWhole, IsAnswe
 use Rattle.line_answers.specs.TiersReply.{tiers_accepted, unless_refused}
 use Rattle.top_call.specs.TopCall.{IsServed, is_too_long, reads, replies}
 
--- ---- the status of what a line may get
+-- ---- the exit status of what a command may get
 
 is-done : IsOfAnswer 0
 is-done = inl refl
@@ -113,7 +113,7 @@ two (inr (inl e)) = omega (arith, e)
 two (inr (inr e)) = omega (arith, e)
 
 module _ {S K : Type 0} (line : Option CommandLine) (served : Served S K) where
-  -- a text that was due with the status of an answer is an answer
+  -- a text that was due with the exit status of an answer is an answer
   due : {status : ℕ} {text : List ℕ} → IsDue (record { reads = reads; is_too_long = is_too_long; replies = replies }) line served status text → IsOfAnswer status
       → Appends (served.written served.sink) (served.written served.sink_after) text → IsAnswered line served status
   due (no_line none kept) of written = absurd (two of)
@@ -140,7 +140,7 @@ module _ {S K : Type 0} (line : Option CommandLine) (served : Served S K) where
   back : (status : ℕ) → IsAnswered line served status → IsServed line served status
   back status is = subst (λ status. IsServed line served status) is.status_is (done (answered is.line_is is.taken_in is.short is.replied) is.written)
 
-  -- what is due has no status of a call that wrote nothing
+  -- what is due has no exit status of a call that wrote nothing
   spoken : {status : ℕ} {text : List ℕ} → IsDue (record { reads = reads; is_too_long = is_too_long; replies = replies }) line served status text → (status ≡ 4) ⊎ (status ≡ 6) → ⊥
   spoken (no_line none kept) (inl e) = omega (arith, e)
   spoken (no_line none kept) (inr e) = omega (arith, e)

@@ -54,7 +54,7 @@ appended-is (Some xs) (Some ys) before text bytes first last appends =
 some_line : (line other : CommandLine) → Some line ≡ Some other → line ≡ other
 some_line line other e = cc
 
--- the numbers of a line that words are lie in their ranges
+-- the numbers of a command that arguments are lie in their ranges
 in-range : (words : List Text) (line : CommandLine) → command_line_of words ≡ Some line → IsInRange line
 in-range words line is = go (list_any is_hyphens words) is where
   at : (found : Option CommandLine) → found ≡ Some line → IfSome found IsInRange → IsInRange line
@@ -65,7 +65,7 @@ in-range words line is = go (list_any is_hyphens words) is where
   go true e = absurd cc
   go false e = at (line_of_texts words) e (texts-in_range words)
 
--- what a call for `run` that ended with status 0 wrote is what it may get for its document
+-- what a call for `run` that ended with exit status 0 wrote is what it may get for its document
 record HasRun (readers reads : ℕ) (document text : List ℕ) : Type 0 where
   reply : Reply
   replied : replies (Run readers reads) document reply

@@ -1,4 +1,4 @@
--- The laws that join two lines, and two calls.
+-- The laws that join two commands, and two calls.
 use Rattle.std.specs.Prelude.{◌≡◌, ◌↔◌, ℕ, ◌≤◌, ◌++◌, false, List, length, codes, Some}
 use Rattle.std.specs.Io.KnownBytes.{Appends, Keeps}
 use Rattle.bwe_io.specs.Bytes.{AppendsPrefix}
@@ -11,7 +11,8 @@ use Rattle.solve_answer.specs.SolveCall.{IsSolved}
 use Rattle.two_part.specs.TwoPart.{IsTwoPart}
 use Rattle.top_call.specs.TopCall.{IsServed, is_too_long, replies}
 
--- What `run` wrote with status 0, behind its document, gets `legal` and status 0 from `audit`.
+-- What `run` wrote with exit status 0, behind its document, gets `legal` and exit status 0 from
+-- `audit`.
 abbrev pub RunsAreLegal : Type 0
 RunsAreLegal =
     (readers reads : ℕ) (document digits input : List ℕ) (ran audited : Reply)
@@ -43,8 +44,8 @@ pub data IsFoundLegal {S K : Type 0} (served : Served S K) : ℕ → Type 0 wher
   out_of_memory : Keeps (served.written served.sink) (served.written served.sink_after)
       → IsFoundLegal served 6
 
--- Where a call for `run` ended with status 0, a call for `audit` on its document and what it wrote,
--- together no longer than an input with that document may be, finds that legal.
+-- Where a call for `run` ended with exit status 0, a call for `audit` on its document and what it
+-- wrote, together no longer than an input with that document may be, finds that legal.
 abbrev pub WhatRanIsFoundLegal : Type 0 → Type 0 → Type 0 → Type 0 → Type 0
 WhatRanIsFoundLegal S K T L =
     (words : List Text) (readers reads : ℕ) (ran : Served S K) (document text : List ℕ)
@@ -58,7 +59,7 @@ WhatRanIsFoundLegal S K T L =
 
 -- ---- the call that serves `solve` alone
 
--- `solve_once` may end as a call for the line `solve` may, and in no other way.
+-- `solve_once` may end as a call for the command `solve` may, and in no other way.
 abbrev pub SolvedIsServed : Type 0 → Type 0 → Type 0
 SolvedIsServed S K =
     (served : Served S K) (status : ℕ)

@@ -1,4 +1,4 @@
--- The line `run`, and what its input may get.
+-- The command `run`, and what its input may get.
 use Rattle.std.specs.Prelude.{◌≡◌, ℕ, length, Result, Ok, Err}
 use Rattle.bwe_specs.specs.Allocation.{Table}
 use Rattle.crew_log.specs.declared.log.CrewLog.{CrewLog}
@@ -11,7 +11,7 @@ use Rattle.top_call.specs.Runs.{IsRunOf}
 use Rattle.plan_doc.specs.Plans.{plan_of}
 use Rattle.opened_document.specs.Refused.{refused_reply}
 
--- `run`: the text of a closed run of the script, whose table is that of `solve`; or the line of the
+-- `run`: the text of a closed run of the script, whose table is that of `solve`; or the row of the
 -- refusal
 abbrev pub IsRunReply : ℕ → ℕ → Result Accepted Refusal → Reply → Type 0
 IsRunReply readers reads (Ok accepted) given =

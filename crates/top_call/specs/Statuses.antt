@@ -1,4 +1,4 @@
--- What a status tells of a call, whatever its line was.
+-- What an exit status tells of a call, whatever its command was.
 use Rattle.std.specs.Prelude.{◌≡◌, ◌≢◌, ◌↔◌, ◌⊎◌, ℕ, ◌+◌, false, List, Option, Some}
 use Rattle.std.specs.Io.KnownBytes.{Appends, Keeps}
 use Rattle.bwe_io.specs.Bytes.{Takes}
@@ -7,12 +7,12 @@ use Rattle.command_line.specs.declared.CommandLine.{CommandLine}
 use Rattle.one_run.specs.Endings.{IsInput, Reply, Served, max_long_input}
 use Rattle.top_call.specs.TopCall.{IsServed, is_too_long, reads, replies}
 
--- the statuses of an answer: 0 done, 1 the verdict is no, 3 refused
+-- the exit statuses of an answer: 0 done, 1 the verdict is no, 3 refused
 abbrev pub IsOfAnswer : ℕ → Type 0
 IsOfAnswer status = (status ≡ 0) ⊎ ((status ≡ 1) ⊎ (status ≡ 3))
 
--- the words are a line, its whole input was taken in and is not too long, and what the line may get
--- for it, with this status, was written whole
+-- the arguments are a command, its whole input was taken in and is not too long, and what the
+-- command may get for it, with this exit status, was written whole
 pub record IsAnswered {S K : Type 0} (line : Option CommandLine) (served : Served S K) (status : ℕ)
     : Type 0 where
   pub is : CommandLine
@@ -37,27 +37,27 @@ pub record IsWithoutFault {S K : Type 0} (served : Served S K) : Type 0 where
   pub length : Takes (max_long_input + 1) (served.left served.source) (served.left served.source_after)
       → ⊥
 
--- what was taken in is not too long, and nothing that the line may get for it is a refusal
+-- what was taken in is not too long, and nothing that the command may get for it is a refusal
 abbrev pub IsTakenIn : {S K : Type 0} → CommandLine → Served S K → Type 0
 IsTakenIn is served = (input : List ℕ)
     → IsInput served.left served.source served.source_after (reads is) input
     → (is_too_long is input ≡ false)
     × ((reply : Reply) → replies is input reply → reply.status ≢ 3)
 
--- An answer is whole: the status is 0, 1 or 3 exactly where the answer with that status was written
--- whole
+-- An answer is whole: the exit status is 0, 1 or 3 exactly where the answer with that exit status
+-- was written whole
 abbrev pub AnAnswerIsWhole : Type 0 → Type 0 → Type 0
 AnAnswerIsWhole S K = (line : Option CommandLine) (served : Served S K) (status : ℕ)
     → IsOfAnswer status
     → IsServed line served status ↔ IsAnswered line served status
 
--- Nothing by halves: with the statuses 4 and 6 nothing was written
+-- Nothing by halves: with the exit statuses 4 and 6 nothing was written
 abbrev pub NothingIsWritten : Type 0 → Type 0 → Type 0
 NothingIsWritten S K = (line : Option CommandLine) (served : Served S K) (status : ℕ)
     → IsServed line served status → (status ≡ 4) ⊎ (status ≡ 6) → IsSilent served
 
--- What is accepted is answered: a line whose input is taken in, where nothing fails, ends with 0, 1
--- or, where memory runs out, 6
+-- What is accepted is answered: a command whose input is taken in, where nothing fails, ends with
+-- 0, 1 or, where memory runs out, 6
 abbrev pub AcceptedIsAnswered : Type 0 → Type 0 → Type 0
 AcceptedIsAnswered S K = (is : CommandLine) (served : Served S K) (status : ℕ)
     → IsServed (Some is) served status → IsWithoutFault served → IsTakenIn is served

@@ -1,4 +1,4 @@
--- The lines of the program, and what each may get for its input.
+-- The commands of the program, and what each may get for its input.
 use Rattle.std.specs.Prelude.{◌≡◌, ℕ, Bool, true, false, List, Option, Some, None}
 use Rattle.command_line.specs.declared.CommandLine.{CommandLine}
 use Rattle.command_line.specs.declared.CommandLine.TheVariants.{Solve, Check, Run, Make, Bulk, Audit, Tiers, Enforce, Estimate, Levels}
@@ -16,8 +16,9 @@ use Rattle.line_answers.specs.EnforceReply.{enforce_accepted}
 use Rattle.line_answers.specs.EstimateReply.{estimate_accepted}
 use Rattle.line_answers.specs.TiersReply.{tiers_accepted}
 
--- What a line may get for its input: of all lines but `run` it is determined. Of `audit` it is said
--- besides that status 0 comes exactly where the text is that of a closed legal run of the document.
+-- What a command may get for its input: of all commands but `run` it is determined. Of `audit` it
+-- is said besides that exit status 0 comes exactly where the text is that of a closed legal run of
+-- the document.
 --
 -- This has what the headline (docs/DEFINITIONS.md) says of the program. Of `solve`: "each
 -- allocation is the one that raising every group's fair share by one at a time gives". Of `run`:
@@ -44,7 +45,7 @@ reads (Make seed groups tasks) = false
 reads (Bulk seed groups tasks) = false
 reads _ = true
 
--- an input that is too long for the line, by what stands in it as the document
+-- an input that is too long for the command, by what stands in it as the document
 abbrev pub is_too_long : CommandLine → List ℕ → Bool
 is_too_long Solve input = document_is_too_long input
 is_too_long Check input = document_is_too_long input
@@ -57,8 +58,8 @@ is_too_long Audit input = parts_are_too_long input
 is_too_long Tiers input = parts_are_too_long input
 is_too_long Enforce input = parts_are_too_long input
 
--- For the line that the words are, source and sink went from here to there as an ending with this
--- status allows.
+-- For the command that the arguments are, source and sink went from here to there as an ending with
+-- this exit status allows.
 abbrev pub IsServed : {S K : Type 0} → Option CommandLine → Served S K → ℕ → Type 0
 IsServed line served status =
     Ending (record { reads = reads; is_too_long = is_too_long; replies = replies }) line served
@@ -69,7 +70,7 @@ abbrev pub needs_threads : CommandLine → Bool
 needs_threads (Run readers reads) = true
 needs_threads _ = false
 
--- the line, where it needs no threads
+-- the command, where it needs no threads
 abbrev pub of_one_thread : Option CommandLine → Option CommandLine
 of_one_thread None = None
 of_one_thread (Some (Run readers reads)) = None

@@ -1,4 +1,4 @@
-//! What each line that needs no threads writes for its input.
+//! What each command that needs no threads writes for its input.
 
 ghost use Rattle.std.specs.Prelude.{◌≡◌, false, IfOk};
 ghost use Rattle.command_line.specs.Ranges.{IsInRange};
@@ -12,8 +12,8 @@ use one_run::Answer;
 use solve_answer::solve;
 use std::alloc::Global;
 
-/// What a line writes for its input ("Commands", docs/FORMAT.md), for each line that needs no
-/// threads, and with which status. It waits for nobody.
+/// What a command writes for its input ("Commands", docs/FORMAT.md), for each command that needs no
+/// threads, and with which exit status. It waits for nobody.
 pub fn answer_in_turn(alloc: Global, line: CommandLine, input: &[u8]) -> Result<Answer, OutOfMemory>
     requires range { IsInRange line }
     requires one_thread { needs_threads line ≡ false }

@@ -1,5 +1,5 @@
-//! What a status tells of a call, and what joins two lines, each law the contract of a function
-//! that does nothing.
+//! What an exit status tells of a call, and what joins two commands, each law the contract of a
+//! function that does nothing.
 
 ghost use Rattle.std.specs.Prelude.{◌≡◌, ◌≢◌, ℕ};
 ghost use Rattle.bwe_specs.specs.DocumentLimits.{limits_of};
@@ -12,39 +12,40 @@ use bwe_specs::{
     MAX_READS, MAX_REPORTERS, MAX_REPORTS, MAX_TASKS,
 };
 
-/// An answer is whole: the status is 0, 1 or 3 exactly where the words are a line, its whole input
-/// was taken in, and what the line may get for it with that status was written whole ("Statuses",
-/// docs/DEFINITIONS.md).
+/// An answer is whole: the exit status is 0, 1 or 3 exactly where the arguments are a command, its
+/// whole input was taken in, and what the command may get for it with that exit status was written
+/// whole ("Exit statuses", docs/DEFINITIONS.md).
 pub fn an_answer_is_whole<S: Source, K: Sink>()
     ensures { AnAnswerIsWhole S K }
 {}
 
-/// Nothing by halves: with the statuses 4 and 6 nothing was written.
+/// Nothing by halves: with the exit statuses 4 and 6 nothing was written.
 pub fn nothing_is_written<S: Source, K: Sink>()
     ensures { NothingIsWritten S K }
 {}
 
 /// What is accepted is answered: where neither source nor sink fails, the input is not too long,
-/// and nothing that the line may get for it is a refusal, the status is 0 or 1, or 6 where memory
-/// is wanting.
+/// and nothing that the command may get for it is a refusal, the exit status is 0 or 1, or 6 where
+/// memory runs out.
 pub fn accepted_is_answered<S: Source, K: Sink>()
     ensures { AcceptedIsAnswered S K }
 {}
 
-/// What `run` wrote with status 0, behind its document, gets `legal` and status 0 from `audit`.
+/// What `run` wrote with exit status 0, behind its document, gets `legal` and exit status 0 from
+/// `audit`.
 pub fn runs_are_legal()
     ensures { RunsAreLegal }
 {}
 
-/// The same of two calls. Where a call for `run` ended with status 0, a call for `audit` on its
-/// document and what it wrote writes `legal` with status 0, unless its source or its sink fails, or
-/// memory runs out.
+/// The same of two calls. Where a call for `run` ended with exit status 0, a call for `audit` on
+/// its document and what it wrote writes `legal` with exit status 0, unless its source or its sink
+/// fails, or memory runs out.
 pub fn what_ran_is_found_legal<S: Source, K: Sink, T: Source, L: Sink>()
     ensures { WhatRanIsFoundLegal S K T L }
 {}
 
 /// A call that serves `solve` alone, as the program `bwe-solve` makes it, may end as a call for the
-/// line `solve` may, and in no other way.
+/// command `solve` may, and in no other way.
 pub fn solved_is_served<S: Source, K: Sink>()
     ensures { SolvedIsServed S K }
 {}

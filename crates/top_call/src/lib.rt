@@ -1,12 +1,12 @@
-//! The top call of one thread: one command line, from its words and the bytes of its input to the
-//! bytes of its answer and a status.
+//! The top call of one thread: one command, from its arguments and the bytes of its input to the
+//! bytes of its answer and an exit status.
 //!
-//! `specs/TopCall.antt` has what each line of the program may get for its input, and `Ending` of
-//! `one_run` how a call may end. `bwe_once` serves every line that needs no threads; its contract
-//! is one sentence: for the line that the words are, source and sink went from here to there as an
-//! ending with this status allows. `bwe_cli` above says the same of every line, by `read_input_of`
-//! and `answer_in_turn`. The laws of statuses, and of a run that is audited, stand here too.
-//! Nothing is promised of time, nor that memory is there.
+//! `specs/TopCall.antt` has what each command may get for its input, and `Ending` of `one_run` how
+//! a call may end. `bwe_once` serves every command that needs no threads; its contract is one
+//! sentence: for the command that the arguments are, source and sink went from here to there as an
+//! ending with this exit status allows. `bwe_cli` above says the same of every command, by
+//! `read_input_of` and `answer_in_turn`. The laws of exit statuses, and of a run that is audited,
+//! stand here too. Nothing is promised of time, nor that memory is there.
 #![tactic(auto)]
 
 ghost use Rattle.std.specs.Prelude.{◌≡◌, false, IfSome};
@@ -31,20 +31,20 @@ use one_run::{finish, refuse_input, write_usage};
 pub use reading::read_input_of;
 use std::alloc::Global;
 
-/// Serves one command line that needs no threads, and answers the status ("Statuses",
-/// docs/FORMAT.md). The line `run` is none here.
+/// Serves one command that needs no threads, and answers the exit status ("Exit statuses",
+/// docs/FORMAT.md). The command `run` is left out here.
 ///
-/// `words` are those after the program's name. The whole text is made before its first byte is
-/// written. It waits for nobody, and returns provided that the source and the sink return.
+/// `words` are the arguments after the program's name. The whole text is made before its first byte
+/// is written. It waits for nobody, and returns provided that the source and the sink return.
 pub fn bwe_once<S: Source, K: Sink>(
     alloc: Global,
     words: &[String],
     source: &mut S,
     sink: &mut K,
 ) -> u8
-    // For the line that the words are, if it needs no threads, source and sink went from here to
-    // there as an ending with this status allows. By `replies Solve` the table is "the one that
-    // raising every group's fair share by one at a time gives".
+    // For the command that the arguments are, if it needs no threads, source and sink went from
+    // here to there as an ending with this exit status allows. By `replies Solve` the table is "the
+    // one that raising every group's fair share by one at a time gives".
     ensures { IsServed (of_one_thread (command_line_of (texts_of words.now))) (record {
       source = source.old;
       source_after = source.new;
@@ -69,7 +69,7 @@ pub fn bwe_once<S: Source, K: Sink>(
     }
 }
 
-// The line, where it needs no threads.
+// The command, where it needs no threads.
 fn in_one_thread(line: Option<CommandLine>) -> Option<CommandLine>
     requires range { IfSome line IsInRange }
     ensures line { result ≡ of_one_thread line }

@@ -1,4 +1,4 @@
-//! The input of a line.
+//! The input of a command.
 
 ghost use Rattle.std.specs.Prelude.{◌≡◌, ◌+◌, true, false, List, ℕ, IfOk, IsErrOf};
 ghost use Rattle.bwe_io.specs.Bytes.{Takes};
@@ -13,9 +13,9 @@ use input_lengths::{document_is_too_long, parts_are_too_long};
 use one_run::{InputError, read_input};
 use std::alloc::Global;
 
-/// The whole input of a line that reads one, and nothing for another. An input is refused where the
-/// source fails, where it is too long (above 67,108,864 bytes with a document that is not of version
-/// 4, or above 1,073,741,824 bytes), and where memory runs out.
+/// The whole input of a command that reads one, and nothing for another. An input is refused where
+/// the source fails, where it is too long (above 67,108,864 bytes with a document that is not of
+/// version 4, or above 1,073,741,824 bytes), and where memory runs out.
 pub fn read_input_of<S: Source>(
     alloc: Global,
     line: CommandLine,
@@ -47,14 +47,14 @@ pub fn read_input_of<S: Source>(
     Ok(input)
 }
 
-// Whether the line reads an input.
+// Whether the command reads an input.
 fn has_input(line: CommandLine) -> bool
     ensures { result ≡ reads line }
 {
     !matches!(line, CommandLine::Make { .. } | CommandLine::Bulk { .. })
 }
 
-// Whether the input is too long for the line, by what stands in it as the document.
+// Whether the input is too long for the command, by what stands in it as the document.
 fn is_too_long(alloc: Global, line: CommandLine, input: &[u8]) -> Result<bool, OutOfMemory>
     ensures { IfOk result (λ is. is ≡ is_too_long line input.now) }
 {
