@@ -1,6 +1,6 @@
-//! Boards, runs, texts, devices and whole calls, as tests, for what no clause can say and no whole
-//! case of the built program shows. Nothing stands on this crate. It is one of its own, since a
-//! crate with tests is proved twice, and boards and runs are among the dearest.
+//! Boards, runs, texts, devices and whole calls, as tests, for what no clause can say and no
+//! end-to-end case shows. Nothing stands on this crate. It is one of its own, since a crate with
+//! tests is proved twice, and boards and runs are among the dearest.
 //!
 //! - `core_steps`, `logs`: the board as one list, and the log and roll by themselves.
 //! - `played`: a board that is opened, on which one case is played, and that is ended and closed.
@@ -8,7 +8,7 @@
 //! - `beside`: a report that is answered while another thread's table is made.
 //! - `runs`: whole runs by `run_crew`, two of them under gates that hold a reader (`held_gate`).
 //! - `books`, `printed`, `words`, `tokens`, `followed`, `streams`: calls that the program does not
-//!   make, lines that no document gets, and reads and writes that fail by themselves.
+//!   make, rows that no document gets, and reads and writes that fail by themselves.
 //! - `devices`: a source or a sink that fails, a source that stays as it was, `bwe_once`.
 //! - `held`: the case "Three holds". It refuses what no clause can. Two of its holds need two calls
 //!   that are both under way, so a run that does all its work on one thread runs out of turns; and

@@ -15,7 +15,7 @@ fn sure(alloc: Global, input: &str) -> Result<SureSource, AllocError> {
     Ok(SureSource::new(Vec::from_slice(alloc, input.as_bytes())?))
 }
 
-// The status of `bwe_once`.
+// The exit status of `bwe_once`.
 fn status<S: Source, K: Sink>(
     alloc: Global,
     line: &[&str],
@@ -25,7 +25,7 @@ fn status<S: Source, K: Sink>(
     Ok(bwe_once(alloc, &words_of(alloc, line)?, source, sink))
 }
 
-// Whether `bwe_once` answers a line and an input with this status and this text.
+// Whether `bwe_once` answers a command and an input with this exit status and this text.
 fn is_answered(
     alloc: Global,
     line: &[&str],
@@ -39,8 +39,8 @@ fn is_answered(
     Ok(got == wanted && sink.bytes() == text.as_bytes())
 }
 
-// Each line that `bwe_once` serves on an input, and words that are none. The second of the two
-// parts is a line feed alone, so it is one of no tiers, and none of the others.
+// Each command that `bwe_once` serves on an input, and arguments that are no command. The second of
+// the two parts is a line feed alone, so it is one of no tiers, and none of the others.
 #[test]
 fn each_line_has_its_text_and_status(rt: HostRuntime) -> Result<(), Fail> {
     let alloc = rt.alloc();
@@ -69,7 +69,8 @@ fn each_line_has_its_text_and_status(rt: HostRuntime) -> Result<(), Fail> {
 // How often two parts are read byte for byte: once for each, and once for the end.
 const READS_OF_TWO_PARTS: u32 = 76;
 
-// Whether a line whose reads fail after so many ends with status 4, and has written nothing.
+// Whether a command whose reads fail after so many ends with exit status 4, and has written
+// nothing.
 fn is_unread(alloc: Global, word: &str, call: u32) -> Result<bool, Fail> {
     let input = Vec::from_slice(alloc, EMPTY_IN_TWO_PARTS.as_bytes())?;
     let mut source = MemorySource::new(input, 1, vec![in alloc; u64::from(call)]?);
@@ -78,7 +79,8 @@ fn is_unread(alloc: Global, word: &str, call: u32) -> Result<bool, Fail> {
     Ok(got == 4 && sink.bytes().is_empty())
 }
 
-// The case "Device table": a read that fails ends the run with status 4, and nothing is written.
+// The case "Device table": a read that fails ends the call with exit status 4, and nothing is
+// written.
 #[test]
 fn a_read_that_fails_writes_nothing(rt: HostRuntime) -> Result<(), Fail> {
     let alloc = rt.alloc();
@@ -91,8 +93,8 @@ fn a_read_that_fails_writes_nothing(rt: HostRuntime) -> Result<(), Fail> {
     Ok(())
 }
 
-// Whether the line that prints a table ends with this status, and has left so much of it, where the
-// write after that fails.
+// Whether the command that prints a table ends with this exit status, and has left so much of it,
+// where the write after that fails.
 fn is_cut(alloc: Global, left: &[u8], wanted: u8) -> Result<bool, Fail> {
     let mut source = sure(alloc, EMPTY)?;
     let mut sink = MemorySink::new(alloc, 1_000, 1, vec![in alloc; left.len() as u64]?)?;
@@ -100,8 +102,8 @@ fn is_cut(alloc: Global, left: &[u8], wanted: u8) -> Result<bool, Fail> {
     Ok(got == wanted && sink.bytes() == left)
 }
 
-// The case "Device table": a write that fails ends the run with status 5, and what was written
-// before stands.
+// The case "Device table": a write that fails ends the call with exit status 5, and what was
+// written before stands.
 #[test]
 fn a_write_that_fails_leaves_a_prefix(rt: HostRuntime) -> Result<(), Fail> {
     let alloc = rt.alloc();
@@ -114,7 +116,7 @@ fn a_write_that_fails_leaves_a_prefix(rt: HostRuntime) -> Result<(), Fail> {
     Ok(())
 }
 
-// Whether the word, which reads nothing, leaves its source, and this text where the first write
+// Whether the command, which reads nothing, leaves its source, and this text where the first write
 // that is too long fails.
 fn leaves_the_source(alloc: Global, word: &str, text: &str) -> Result<bool, Fail> {
     let mut source = sure(alloc, "input")?;
@@ -124,7 +126,8 @@ fn leaves_the_source(alloc: Global, word: &str, text: &str) -> Result<bool, Fail
     Ok(got == 5 && sink.bytes() == text.as_bytes() && left.as_slice() == b"input".as_slice())
 }
 
-// Words that read nothing leave the source, and a write that fails leaves a prefix of their text.
+// Commands that read nothing leave the source, and a write that fails leaves a prefix of their
+// text.
 #[test]
 fn words_that_read_nothing_leave_the_source(rt: HostRuntime) -> Result<(), Fail> {
     let alloc = rt.alloc();

@@ -17,7 +17,7 @@ const THREE_HOLDS_TABLE: &str =
     place 0 amount 60 closed by l0\ngroup g1 share 60 amount 40\nplace 0 amount 40 closed by l0\n\
     task t0 limit 60\ntask t1 limit 40\ntotal 100\n";
 
-// What the program's line writes on a document, after its status.
+// What the command writes on a document, after its exit status.
 fn printed<G: Gate + Sync, R: Threads + Wait + Sync>(
     rt: &R,
     alloc: Global,
@@ -32,7 +32,7 @@ fn printed<G: Gate + Sync, R: Threads + Wait + Sync>(
     Ok((status, Vec::from_slice(alloc, sink.bytes())?))
 }
 
-// The lines of a reader, from what the gate was shown. No view shows a floor: its digit is a
+// The rows of a reader, from what the gate was shown. No view shows a floor: its digit is a
 // question mark.
 fn push_reader(text: &mut String, number: u32, shown: &Shown) -> Result<(), AllocError> {
     write!(text, "reader {number} length {}\n", shown.length.get())?;

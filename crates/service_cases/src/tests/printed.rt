@@ -1,4 +1,4 @@
-//! Lines that no document gets: a verdict on a closing of no link, and what a reader saw past the
+//! Rows that no document gets: a verdict on a closing of no link, and what a reader saw past the
 //! history.
 
 ghost use Rattle.std.specs.Prelude.{◌+◌, ◌<◌, ◌^◌, length, IfOk};

@@ -1,5 +1,5 @@
-//! Numbers of words at the ends of their ranges, and beyond; `cases/` has each line, and words of
-//! other forms.
+//! Numbers among the arguments at the ends of their ranges, and beyond; `cases/` has each command,
+//! and arguments of other forms.
 
 use bwe_specs::OutOfMemory;
 use command_line::{CommandLine, command_line_of_words};
