@@ -102,7 +102,7 @@ class Live:
             return Refused(answer.decode("ascii", "replace").strip())
         if status < 0:
             return LiveDied(f"bwe-live was ended by signal {-status}")
-        return LiveDied(f"bwe-live has ended with status {status}")
+        return LiveDied(f"bwe-live has ended with exit status {status}")
 
     def close(self) -> None:
         """Ends the child; a second call does nothing."""

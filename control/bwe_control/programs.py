@@ -49,5 +49,5 @@ def run_bwe(words: list[str], given: bytes) -> bytes:
     if ran.returncode in (3, 8):
         raise Refused(ran.stdout.decode("ascii", "replace").strip())
     if ran.returncode:
-        raise ControlError(f"{program} {' '.join(words)} ended with status {ran.returncode}")
+        raise ControlError(f"{program} {' '.join(words)} ended with exit status {ran.returncode}")
     return ran.stdout

@@ -32,7 +32,7 @@ say_what_is_meant() {
     elif is_of_tools "$1"; then
         say "$1 is of bwe-tools: bwe-tools $1"
     elif [[ " demand capacity post state " == *" $1 "* ]]; then
-        say "$1 is a line for bwe-live, on its standard input"
+        say "$1 is an input line of bwe-live"
     elif [ $# = 1 ] && [ -f "$1" ]; then
         say "did you mean: bwe solve $1"
     else

@@ -18,8 +18,8 @@ from bwe_control.session import Session, log_to_standard_error
 def command(session: Session, reporter: str, follows: bool) -> None:
     """Write what is posted and the limits of REPORTER, in kilobits per second.
 
-    A block is `posted ` and the posted table's prefix, document and total, `limits ` and the lines
-    of the reporter, and an empty line. With --follow it goes on while the store is away.
+    A block is `posted ` and the posted table's prefix, document and total, `limits ` and the rows
+    of the reporter's tasks, and an empty row. With --follow it goes on while the store is away.
     """
     plain_name(reporter, "a reporter's name")
     store = session.open()

@@ -78,8 +78,8 @@ OPTIONS = [
         is_flag=True,
         help=(
             "One path group of all paths of a pair, weighted by their narrowest links. It"
-            " falls whole where one of its links closes; without this each path is a group"
-            " of its own."
+            " falls whole where one of its links closes; without this each path is a path"
+            " group of its own."
         ),
     ),
     click.option(

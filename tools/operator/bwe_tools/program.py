@@ -102,7 +102,7 @@ def fault_of(status: int, words: list[str], answer: str, what: str) -> ToolError
         return Refused(f"bwe refuses {what}: {line} (`bwe-tools lint` says more)", line)
     if status < 0:
         return ProgramEnded(f"the program was ended by signal {-status}", status)
-    sentence = SENTENCES.get(status, f"the program ended with status {status}, which is unknown")
+    sentence = SENTENCES.get(status, f"the program ended with exit status {status}, which is unknown")
     return ProgramEnded(sentence.format(line=" ".join(words)), status)
 
 

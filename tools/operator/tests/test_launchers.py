@@ -150,7 +150,7 @@ def test_a_document_goes_before_the_lines_of_bwe_live(folder):
         (["solv", "a document"], "did you mean solve?"),
         (["lint"], "lint is of bwe-tools: bwe-tools lint"),
         (["form-csv"], "did you mean from-csv, which is of bwe-tools?"),
-        (["post"], "post is a line for bwe-live, on its standard input"),
+        (["post"], "post is an input line of bwe-live"),
         (["hlep"], "did you mean --help?"),
         (["a document"], "did you mean: bwe solve a document"),
         (["nothing-like-it"], "there is no command nothing-like-it; bwe --help has the commands"),

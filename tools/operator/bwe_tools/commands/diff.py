@@ -28,7 +28,7 @@ COLOURS = {"+": "green", "-": "red", "~": "yellow"}
 def command(old: str, new: str) -> None:
     """Say what changes from OLD to NEW, which are two documents or two tables.
 
-    Lines begin with + for what comes, - for what goes and ~ for what changes. Of documents,
+    Rows begin with + for what comes, - for what goes and ~ for what changes. Of documents,
     demands and capacities are compared as they are after the script. The exit status is 0
     where nothing changes and 1 where something does.
 

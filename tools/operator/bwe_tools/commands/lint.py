@@ -29,12 +29,12 @@ MOST_FAULTS = 20
 )
 def command(file, is_all):
     """Say why bwe refuses a document: all its faults with line and column and what was likely
-    meant. The first is the one that bwe names, with the line that bwe itself prints. Of a document
+    meant. The first is the one that bwe names, with the row that bwe itself prints. Of a document
     that bwe accepts, warn of what is allowed and likely not meant: tasks that are never reported,
     links in no path, groups with one path group, path groups that fall together, even splits over
     unlike paths, steps below a function, sites that look misspelt, the whole rate of a line.
 
-    Each finding is one line, as FILE:LINE:COLUMN: fault: WORDS, which editors can follow.
+    Each finding is one row, as FILE:LINE:COLUMN: fault: WORDS, which editors can follow.
 
     Exit status 0 where there is nothing to say, 1 where there are warnings only, 2 where bwe
     refuses it.
