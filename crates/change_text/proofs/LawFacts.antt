@@ -68,7 +68,7 @@ kept_closings_are names earlier later = go (bytes_eq (closing_lines names earlie
 
 -- ---- the whole text
 
-same_groups : (earlier later : Table) → frame_of earlier ≡ frame_of later → length earlier.groups ≡ length later.groups
+pub same_groups : (earlier later : Table) → frame_of earlier ≡ frame_of later → length earlier.groups ≡ length later.groups
 same_groups earlier later e =
     sym (length-map earlier.groups (λ (line : GroupLine). length line.places))
     ∙ ap (λ (frame : Frame). length frame.path_groups) e

@@ -1,3 +1,5 @@
 pub mod ChangeFacts
 pub mod LawFacts
+pub mod RowFacts
+pub mod ChangedFacts
 pub mod StateFacts

@@ -1,13 +1,14 @@
 -- A table that is kept by its changes: what the change has of a number, and the earlier lines where
 -- it has nothing.
-use Rattle.std.specs.Prelude.{◌≡◌, ◌≢◌, ℕ, ◌++◌, Bool, ◌==◌, List, [], length, flat_map, sum_by, codes, decimal, if◌then◌else◌}
+use Rattle.std.specs.Prelude.{◌≡◌, ◌≢◌, ◌<◌, ◌≤◌, ℕ, ◌++◌, Bool, ◌==◌, List, [], length, flat_map, sum_by, codes, decimal, if◌then◌else◌, All}
 use Rattle.bwe_specs.specs.declared.network.Closing.{Closing}
 use Rattle.bwe_specs.specs.Allocation.{Table}
 use Rattle.bwe_specs.specs.Reports.{numbers}
 use Rattle.limit_table.specs.Tables.{frame_of}
-use Rattle.doc_names.specs.NameTexts.{NameTexts}
+use Rattle.doc_names.specs.NameTexts.{IsPlain, NameTexts, entry_at}
 use Rattle.table_text.specs.TableText.{link_line, group_lines, task_line, text_of}
-use Rattle.change_text.specs.ChangeText.{changed, changed_closings, closing_lines}
+use Rattle.change_text.specs.ChangeText.{change_text_of, changed, changed_closings, closing_lines}
+use Rattle.change_text.specs.ChangedText.{with_change_text}
 
 abbrev pub is_nothing : List ℕ → Bool
 is_nothing text = length text == 0
@@ -49,3 +50,28 @@ abbrev pub ChangesStandWhereLinesDiffer : Type 0
 ChangesStandWhereLinesDiffer = (earlier later : ℕ → List ℕ) (number : ℕ)
     → (earlier number ≡ later number → changed earlier later number ≡ [])
     × (earlier number ≢ later number → changed earlier later number ≡ later number)
+
+-- ---- The text that is written
+
+-- no name has a line feed or a space, and no two names of the list are one
+pub record AreTold (names : List (List ℕ)) : Type 0 where
+  pub plain : All IsPlain names
+  pub apart : (number other : ℕ) → number < other → other < length names
+      → entry_at names number ≢ entry_at names other
+
+-- so it is of all names of a table, of which each link, group and task has one
+pub record IsTold (names : NameTexts) (table : Table) : Type 0 where
+  pub links : AreTold names.links
+  pub groups : AreTold names.groups
+  pub tasks : AreTold names.tasks
+  pub each_link : length table.loads ≤ length names.links
+  pub each_group : length table.groups ≤ length names.groups
+  pub each_task : length table.limits ≤ length names.tasks
+
+-- the rows of the change text put into the text of the earlier table, each in the place of the row
+-- that begins with the same two words, make the text of the later table, byte for byte
+abbrev pub ChangedTextIsLaterText : Type 0
+ChangedTextIsLaterText = (names : NameTexts) (earlier later : Table)
+    → frame_of earlier ≡ frame_of later → IsTold names later
+    → with_change_text (text_of names earlier) (change_text_of names earlier later)
+    ≡ text_of names later

@@ -1,4 +1,5 @@
 pub mod ChangeText
+pub mod ChangedText
 pub mod StateText
 pub mod RefusedText
 pub mod StateLaw

@@ -145,7 +145,7 @@ fn group_text(
     Ok(text)
 }
 
-// Two groups that differ are printed, since what differs may have one name.
+// Where two groups differ, their texts are compared: what differs may be two links of one name.
 fn push_changed_group(
     alloc: Global,
     text: &mut String,
