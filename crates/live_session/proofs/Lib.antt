@@ -1,4 +1,9 @@
 pub mod Lines
+pub mod Said
+pub mod DocumentNames
+pub mod Documents
+pub mod EmptyScript
 pub mod Lawful
 pub mod Followed
 pub mod Printed
+pub mod KeptTexts

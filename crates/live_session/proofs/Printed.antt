@@ -13,20 +13,23 @@ use Rattle.demand_book.specs.Fit.{IsInRange}
 use Rattle.allocator.specs.Frames.{task_count}
 use Rattle.last_reports.specs.Compaction.{last_report}
 use Rattle.last_reports.specs.Snapshot.{snapshot}
+use Rattle.plan_doc.specs.Document.{Accepted}
 use Rattle.plan_doc.specs.Plans.{plan_of}
 use Rattle.table_laws.proofs.Named.{all-reverse}
 use Rattle.live_lines.specs.Cutting.{Held, within, with_byte, lines_from, held_after, last_line, all_lines}
 use Rattle.live_lines.specs.Known.{Known}
 use Rattle.live_lines.specs.Meaning.{meaning_of}
-use Rattle.live_lines.specs.declared.line.LineMeaning.TheVariants.{NewReport}
+use Rattle.live_lines.specs.declared.line.LineMeaning.TheVariants.{NewReport, State}
 use Rattle.doc_names.specs.NameTexts.{NameTexts, entry_at}
 use Rattle.change_text.specs.StateText.{report_words, report_text, report_line, state_text_of}
 use Rattle.change_text.specs.StateLaw.{AreReadable, is_plain}
 use Rattle.change_text.proofs.StateFacts.{lines_are_read}
 use Rattle.live_session.specs.Standing.{Standing}
 use Rattle.live_session.specs.Answers.{known_of, standing_in, answer_in}
-use Rattle.live_session.specs.Laws.{IsSaid, PrintedSnapshot}
+use Rattle.live_session.specs.Laws.{IsTakenUp, PrintedSnapshot}
+use Rattle.live_session.proofs.Documents.{IsRead, are-readable, is-read}
 use Rattle.live_session.proofs.Lawful.{promised}
+use Rattle.live_session.proofs.Said.{IsSaid, all-said}
 
 -- ---- lines that line feeds end
 
@@ -175,8 +178,11 @@ state-text : (names : NameTexts) (reports : List Report) (count : ℕ) → state
 unfolding state_text_of
 state-text names reports count = refl
 
-pub printed : PrintedSnapshot
-printed accepted lines line names tasks links said is =
+-- where the names can be read back, and the reports are by the owners
+taken-up : (accepted : Accepted) (lines : List Held) (line : Held) → AreReadable (known_of accepted)
+    → length accepted.names.tasks ≡ task_count (plan_of accepted) → length accepted.names.links ≡ length (plan_of accepted).capacities
+    → All (IsSaid (known_of accepted)) (standing_in accepted lines).accepted → meaning_of (known_of accepted) line ≡ State → IsTakenUp accepted lines line
+taken-up accepted lines line names tasks links said is =
     let known : Known = known_of accepted in
     let plan : Plan = plan_of accepted in
     let standing : Standing = standing_in accepted lines in
@@ -190,3 +196,8 @@ printed accepted lines line names tasks links said is =
           (λ at d lt. in-range (length known.names.tasks) (length known.names.links) (task_count plan) (length plan.capacities) _ tasks links (said at d lt).fit.0)
           (ap (map (meaning_of known)) (all-lines known names counted all) ∙ meanings known names counted all);
     }
+
+pub printed : PrintedSnapshot
+printed bytes accepted e lines line is =
+    let read : IsRead accepted = is-read bytes accepted e in
+    taken-up accepted lines line (are-readable accepted read.names) read.tasks read.links (all-said accepted lines read.script) is

@@ -1,21 +1,23 @@
 -- What holds of all inputs behind an accepted document.
-use Rattle.std.specs.Prelude.{◌≡◌, ◌≢◌, ◌<◌, ◌≤◌, ◌++◌, ℕ, not, Bool, true, false, List, [], ◌∷◌, length, map, filter, flat_map, codes, decimal, All}
+use Rattle.std.specs.Prelude.{◌≡◌, ◌≢◌, ◌≤◌, ◌++◌, ℕ, not, Bool, true, false, List, [], ◌∷◌, length, map, filter, flat_map, codes, decimal, All, Ok}
 use Rattle.bwe_specs.specs.declared.report.Report.{Report}
 use Rattle.bwe_specs.specs.Allocation.{Table, allocation}
-use Rattle.demand_book.specs.Fit.{IsFit, IsInRange}
+use Rattle.demand_book.specs.Fit.{IsInRange}
 use Rattle.allocator.specs.Frames.{task_count}
 use Rattle.last_reports.specs.Snapshot.{snapshot}
-use Rattle.plan_doc.specs.Document.{Accepted}
+use Rattle.raw_document.specs.Raw.{Raw}
+use Rattle.plan_doc.specs.Document.{Accepted, document, document_of_raw}
 use Rattle.plan_doc.specs.Plans.{plan_of}
+use Rattle.table_text.specs.TableText.{text_of}
 use Rattle.live_lines.specs.Cutting.{Held, all_lines}
-use Rattle.live_lines.specs.Known.{Known, IsByOwner}
+use Rattle.live_lines.specs.Known.{Known}
 use Rattle.live_lines.specs.Meaning.{meaning_of}
 use Rattle.live_lines.specs.declared.line.LineMeaning.{LineMeaning}
 use Rattle.live_lines.specs.declared.line.LineMeaning.TheVariants.{NewReport, Post, State, Refused}
 use Rattle.change_text.specs.ChangeText.{change_text_of}
+use Rattle.change_text.specs.ChangedText.{with_change_text}
 use Rattle.change_text.specs.Laws.{kept_text}
-use Rattle.change_text.specs.StateLaw.{AreReadable}
-use Rattle.live_session.specs.Answers.{known_of, standing_in, answer_after, table_text_of}
+use Rattle.live_session.specs.Answers.{known_of, standing_in, answer_after, answer_of, first_text, table_text_of}
 
 -- the table that was written last
 abbrev pub written_table : Accepted → List Held → Table
@@ -61,6 +63,50 @@ PostsAlone = (accepted : Accepted) (lines : List Held) (line : Held)
     → meaning_of (known_of accepted) line ≢ Post
     → written_table accepted (lines ++ line ∷ []) ≡ written_table accepted lines
 
+-- ---- Kept texts
+
+-- the text of the table that was written last
+abbrev pub written_text : Accepted → List Held → List ℕ
+written_text accepted lines = text_of (known_of accepted).names (written_table accepted lines)
+
+-- a post is answered by a change text: put into the table text of before, row for row, it gives the
+-- text of the table that the post writes, byte for byte, and `bwe solve` writes the same for the
+-- document with the accepted reports at the end of its script
+pub record IsKeptText (bytes : List ℕ) (accepted : Accepted) (lines : List Held) (line : Held)
+    : Type 0 where
+  pub kept : with_change_text (written_text accepted lines) (answer_of bytes lines line)
+      ≡ written_text accepted (lines ++ line ∷ [])
+  pub made : written_text accepted (lines ++ line ∷ [])
+      ≡ table_text_of (with_reports accepted lines)
+
+-- so it is of each post behind each document that is accepted
+abbrev pub KeptTexts : Type 0
+KeptTexts = (bytes : List ℕ) (accepted : Accepted) → document bytes ≡ Ok accepted
+    → (lines : List Held) (line : Held) → meaning_of (known_of accepted) line ≡ Post
+    → IsKeptText bytes accepted lines line
+
+-- what a client has that keeps a table text: with the answer to a post put into it
+abbrev pub kept_by : LineMeaning → List ℕ → List ℕ → List ℕ
+kept_by (NewReport report) text answer = text
+kept_by Post text answer = with_change_text text answer
+kept_by State text answer = text
+kept_by (Refused cause) text answer = text
+
+-- and after more lines, where these stood before them
+abbrev pub kept_through : List ℕ → Known → List Held → List ℕ → List Held → List ℕ
+kept_through bytes known before text [] = text
+kept_through bytes known before text (line ∷ lines) =
+    kept_through bytes known (before ++ line ∷ [])
+    (kept_by (meaning_of known line) text (answer_of bytes before line)) lines
+
+-- a client that begins with what is written first, and puts each answer to a post into it, has the
+-- text of the table that was written last, whatever lines there were
+abbrev pub FollowedTexts : Type 0
+FollowedTexts = (bytes : List ℕ) (accepted : Accepted) → document bytes ≡ Ok accepted
+    → (lines : List Held)
+    → kept_through bytes (known_of accepted) [] (first_text bytes) lines
+    ≡ written_text accepted lines
+
 -- ---- Never back
 
 -- further lines never take a report back, neither of those accepted nor of those written, and no
@@ -100,6 +146,12 @@ RefusedLinesAreNoReports = (accepted : Accepted) (lines : List Held)
 abbrev pub without_script : Accepted → Accepted
 without_script accepted = record accepted { script = [] }
 
+-- where a document is accepted, so is the same one with an empty script: of all that comes behind
+-- the form of what was read, which is refusals 3 to 11
+abbrev pub EmptyScriptIsAccepted : Type 0
+EmptyScriptIsAccepted = (raw : Raw) (accepted : Accepted) → document_of_raw raw ≡ Ok accepted
+    → document_of_raw (record raw { script = [] }) ≡ Ok (without_script accepted)
+
 -- lines that say what `state` said, behind the same document with an empty script, and a post,
 -- write the same table but for the count of reports
 abbrev pub SnapshotPromise : Type 0
@@ -114,12 +166,6 @@ SnapshotPromise = (accepted : Accepted) (lines said : List Held)
       prefix = length reports;
     } ≡ allocation plan reports
 
--- a report of a reporter, a task or link and an amount that there are, by the owner
-pub record IsSaid (known : Known) (report : Report) : Type 0 where
-  pub reporter : report.reporter < length known.names.reporters
-  pub fit : IsFit (length known.names.tasks) (length known.names.links) report
-  pub owner : IsByOwner known report
-
 -- the bytes that `state` writes before its last line, behind the same document with an empty
 -- script, and a post, write the same table but for the count of reports
 pub record IsTakenUp (accepted : Accepted) (lines : List Held) (line : Held) : Type 0 where
@@ -133,13 +179,8 @@ pub record IsTakenUp (accepted : Accepted) (lines : List Held) (line : Held) : T
       { prefix = length (standing_in accepted lines).accepted }
       ≡ allocation (plan_of accepted) (standing_in accepted lines).accepted
 
--- so it is of each `state`, where the names of the document are those of documents and its reports
--- are by their owners
+-- so it is of each `state` behind each document that is accepted
 abbrev pub PrintedSnapshot : Type 0
-PrintedSnapshot = (accepted : Accepted) (lines : List Held) (line : Held)
-    → let known = known_of accepted in
-    let plan = plan_of accepted in
-    AreReadable known → length known.names.tasks ≡ task_count plan
-    → length known.names.links ≡ length plan.capacities
-    → All (IsSaid known) (standing_in accepted lines).accepted
-    → meaning_of known line ≡ State → IsTakenUp accepted lines line
+PrintedSnapshot = (bytes : List ℕ) (accepted : Accepted) → document bytes ≡ Ok accepted
+    → (lines : List Held) (line : Held) → meaning_of (known_of accepted) line ≡ State
+    → IsTakenUp accepted lines line

@@ -1,4 +1,4 @@
-//! A session: a document, and the lines behind it.
+//! A session: an accepted document that is followed through the input lines behind it.
 
 ghost use Rattle.std.specs.Prelude.{◌≡◌, ◌++◌, ◌∷◌, [], ℕ, List, true, false, option_map, IfOk, IfSome, IsNone, OnOk};
 ghost use Rattle.plan_doc.specs.Document.{Accepted};
@@ -18,17 +18,17 @@ use std::alloc::Global;
 use std::marker::Model;
 use table_text::table_text;
 
-/// What is written first, and the session where the document is accepted.
+/// What is written first; and the session, where the document is accepted.
 #[derive(Drop)]
 pub struct OpenedSession {
     pub text: Vec<u8>,
     pub session: Option<LiveSession>,
 }
 
-/// An accepted document and the lines behind it, of which it keeps what now stands and the table
-/// that was written last.
+/// An accepted document, and of the input lines behind it what stands (the last report of each task
+/// and link) and the table that was written last.
 ///
-/// Its memory depends on the document alone.
+/// How much memory it takes depends on the document alone, however many lines come.
 #[derive(Drop)]
 pub struct LiveSession {
     core: LiveCore,
@@ -72,10 +72,11 @@ impl LiveSession {
         }
     }
 
-    /// The answer to a line; `None` is one that is refused whatever it says.
+    /// The answer to an input line, given without its line feed. `None` stands for a line that is
+    /// refused whatever it says: it is too long, or the input ends in it.
     ///
-    /// 64 bits count the lines and the reports. Behind the last that they count it says that memory
-    /// is wanting.
+    /// Lines and accepted reports are counted in 64 bits. Once either count is at its greatest
+    /// number, the answer is that memory ran out.
     pub fn answer(&mut self, alloc: Global, line: Option<&[u8]>) -> Result<Vec<u8>, OutOfMemory>
         ensures text { IfOk result
             (λ text. (document : List ℕ) (lines : List Held) → HasFollowed self.old document lines
@@ -95,7 +96,7 @@ impl LiveSession {
         Ok(text)
     }
 
-    // Before any line.
+    // The session before its first line.
     fn start(alloc: Global, document: Document) -> Result<LiveSession, OutOfMemory>
         requires { IsUsable document }
         ensures { IfOk result
@@ -119,7 +120,7 @@ impl LiveSession {
         })
     }
 
-    // The text of the table that is written first.
+    // The table text that is written first.
     fn table_text(&self, alloc: Global) -> Result<Vec<u8>, OutOfMemory>
         ensures { IfOk result
             (λ text. (accepted : Accepted) → IsSession self.now accepted []
