@@ -8,7 +8,7 @@ from bwe_tools.document import ToolError
 from bwe_tools.table import Table
 
 if TYPE_CHECKING:
-    from pandas import DataFrame  # type: ignore[import]
+    from pandas import DataFrame
 
 
 class Frames(NamedTuple):

@@ -4,10 +4,10 @@ from __future__ import annotations
 
 import re
 from collections import defaultdict
-from collections.abc import Iterator
+from collections.abc import Iterable, Iterator
 from dataclasses import dataclass
 
-from bwe_tools.document import Raw
+from bwe_tools.raw import Place, RawDocument, RawFunction, RawGroup, RawJob, RawPath, RawUser
 
 # The rates of common lines, in kb/s.
 WHOLE_LINES = {1_000_000 * gigabits for gigabits in (1, 10, 25, 40, 50, 100, 200, 400, 800)}
@@ -15,11 +15,11 @@ WHOLE_LINES = {1_000_000 * gigabits for gigabits in (1, 10, 25, 40, 50, 100, 200
 
 @dataclass(frozen=True)
 class Advice:
-    place: tuple
+    place: Place
     sentence: str
 
 
-def unreported_tasks(raw: Raw):
+def unreported_tasks(raw: RawDocument) -> Iterator[Advice]:
     reported = {report["task"] for report in raw["script"] if "task" in report}
     for group_at, group in enumerate(raw["groups"]):
         for user_at, user in enumerate(group["users"]):
@@ -34,7 +34,7 @@ def unreported_tasks(raw: Raw):
                         yield Advice((*place, at), sentence)
 
 
-def unused_links(raw: Raw):
+def unused_links(raw: RawDocument) -> Iterator[Advice]:
     used = {
         link
         for group in raw["groups"]
@@ -47,11 +47,11 @@ def unused_links(raw: Raw):
             yield Advice(("links", at), f'link "{link["name"]}" is in no path')
 
 
-def links_of(paths) -> set:
+def links_of(paths: list[RawPath]) -> set[str]:
     return {link for path in paths for link in path["links"]}
 
 
-def path_groups(raw: Raw):
+def path_groups(raw: RawDocument) -> Iterator[Advice]:
     """Groups with one path group, path groups that fall together, and path groups of several paths
     that leave none of them.
     """
@@ -83,7 +83,7 @@ def path_groups(raw: Raw):
                 yield Advice((*place, number), sentence)
 
 
-def uneven_paths(raw: Raw):
+def uneven_paths(raw: RawDocument) -> Iterator[Advice]:
     """Path groups that split evenly over paths of unlike length or capacity."""
     capacities = {link["name"]: link["capacity"] for link in raw["links"]}
     for at, group in enumerate(raw["groups"]):
@@ -102,7 +102,7 @@ def uneven_paths(raw: Raw):
                 yield Advice(("groups", at, "paths", number), sentence)
 
 
-def steps_below_a_function(raw: Raw):
+def steps_below_a_function(raw: RawDocument) -> Iterator[Advice]:
     """Task functions that rise by more than half of all that they give within one share, below a
     function of a job, user or group: such a function has no value between the two amounts, and
     gives nothing until it reaches the upper one.
@@ -129,7 +129,7 @@ def steps_below_a_function(raw: Raw):
                     yield Advice(place, sentence)
 
 
-def steepest_step(points) -> tuple[int, int] | None:
+def steepest_step(points: RawFunction) -> tuple[int, int] | None:
     """The two amounts between which a function rises within one share by more than half of all."""
     for (share0, amount0), (share, amount) in zip(points, points[1:]):
         if share == share0 + 1 and 2 * (amount - amount0) > points[-1][1] > 1:
@@ -137,7 +137,7 @@ def steepest_step(points) -> tuple[int, int] | None:
     return None
 
 
-def whole_lines(raw: Raw):
+def whole_lines(raw: RawDocument) -> Iterator[Advice]:
     """The first link with the whole rate of a common line: packets need some of it for headers."""
     found = [at for at, link in enumerate(raw["links"]) if link["capacity"] in WHOLE_LINES]
     if found:
@@ -150,14 +150,16 @@ def whole_lines(raw: Raw):
         yield Advice(("links", found[0], "capacity"), sentence)
 
 
-def named(links) -> str:
+def named(links: Iterable[str]) -> str:
     first, *others = sorted(links)
     return f'link "{first}"' + (f" (or one of {len(others)} more)" if others else "")
 
 
-def neighbours(raw: Raw) -> dict:
-    ends = [(of["from"], of["to"]) for key in ("links", "groups") for of in raw[key]]
-    found = {site: set() for pair in ends for site in pair}
+def neighbours(raw: RawDocument) -> dict[str, set[str]]:
+    """The sites that a link joins to each site."""
+    ends = [(link["from"], link["to"]) for link in raw["links"]]
+    ends += [(group["from"], group["to"]) for group in raw["groups"]]
+    found: dict[str, set[str]] = {site: set() for pair in ends for site in pair}
     for link in raw["links"]:
         found[link["from"]].add(link["to"])
         found[link["to"]].add(link["from"])
@@ -182,17 +184,17 @@ def is_one_slip(word: str, other: str) -> bool:
     )
 
 
-def misspelt_sites(raw: Raw):
+def misspelt_sites(raw: RawDocument) -> Iterator[Advice]:
     """Sites whose names differ in case or separators alone, and sites at an end that are one slip
     away from another.
     """
     around = neighbours(raw)
     sites = list(around)
-    first_use = {}
+    first_use: dict[str, Place] = {}
     for at, link in enumerate(raw["links"]):
-        for key, site in (("from", link["from"]), ("to", link["to"])):
-            first_use.setdefault(site, ("links", at, key))
-    alike: defaultdict[tuple, list[int]] = defaultdict(list)
+        for end, name in (("from", link["from"]), ("to", link["to"])):
+            first_use.setdefault(name, ("links", at, end))
+    alike: defaultdict[Likeness, list[int]] = defaultdict(list)
     for number, site in enumerate(sites):
         keys = set(keys_of_likeness(site))
         for other in map(sites.__getitem__, sorted({at for key in keys for at in alike[key]})):
@@ -207,13 +209,17 @@ def misspelt_sites(raw: Raw):
             alike[key].append(number)
 
 
-def keys_of_likeness(site: str) -> Iterator[tuple]:
+# Numbers of a site's name, and the name without them or a letter of it.
+Likeness = tuple[tuple[str, ...], str]
+
+
+def keys_of_likeness(site: str) -> Iterator[Likeness]:
     """Two sites that differ in case and separators alone, or by one slip, have one of these in
     common: so each site is looked at beside few others.
     """
     word = site.lower()
     numbers = tuple(re.findall(r"\d+", word))
-    yield "plain", plain(site)
+    yield ("plain",), plain(site)
     yield numbers, word
     for at, letter in enumerate(word):
         if not letter.isdigit():
@@ -224,7 +230,7 @@ def plain(site: str) -> str:
     return re.sub(r"[-_.]", "", site).lower()
 
 
-def warnings(raw: Raw):
+def warnings(raw: RawDocument) -> list[list[Advice]]:
     """All warnings, a list for each kind."""
     kinds = (
         unreported_tasks,

@@ -5,7 +5,7 @@ from __future__ import annotations
 import json
 from dataclasses import dataclass
 
-from bwe_tools.document import Document, Group
+from bwe_tools.document import Document, Function, Group
 from bwe_tools.rate import rate
 from bwe_tools.table import Table
 
@@ -86,7 +86,7 @@ def _group(group: Group) -> dict[str, Value]:
     return {**ends, "function": _function(group.function), **parts}
 
 
-def _function(points: list | None) -> str:
+def _function(points: Function | None) -> str:
     return "none" if points is None else json.dumps(points, separators=(",", ":"))
 
 

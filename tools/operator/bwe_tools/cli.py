@@ -1,9 +1,12 @@
 """The group of commands: each module of bwe_tools.commands has one, under the module's name."""
 
+from __future__ import annotations
+
 import importlib
 import os
 import pkgutil
 import sys
+from typing import NoReturn
 
 import click
 
@@ -16,25 +19,26 @@ class CommandFolder(click.Group):
     another.
     """
 
-    def list_commands(self, context):
+    def list_commands(self, context: click.Context) -> list[str]:
         return sorted(
             module.name.replace("_", "-") for module in pkgutil.iter_modules(commands.__path__)
         )
 
-    def get_command(self, context, name):
+    def get_command(self, context: click.Context, name: str) -> click.Command | None:
         if name not in self.list_commands(context):
             return None
         try:
             module = importlib.import_module(f"{commands.__name__}.{name.replace('-', '_')}")
         except ModuleNotFoundError as missing:
             return without_its_package(name, missing)
-        return module.command
+        command: click.Command = module.command
+        return command
 
 
 def without_its_package(name: str, missing: ModuleNotFoundError) -> click.Command:
     """The command in the help, which says what to install where it is called."""
 
-    def again(**_):
+    def again(words: tuple[str, ...]) -> NoReturn:
         raise missing
 
     words = click.Argument(["words"], nargs=-1, type=click.UNPROCESSED)
@@ -45,7 +49,7 @@ def without_its_package(name: str, missing: ModuleNotFoundError) -> click.Comman
 
 
 @click.group(cls=CommandFolder, context_settings={"help_option_names": ["-h", "--help"]})
-def group():
+def group() -> None:
     """Tools beside bwe, for documents that people write and tables that people read.
 
     A FILE may be - for standard input. Exit status 2 is a fault of the arguments or of a file, with
@@ -53,7 +57,7 @@ def group():
     """
 
 
-def main():
+def main() -> None:
     try:
         try:
             group(prog_name="bwe-tools")
@@ -69,6 +73,6 @@ def main():
         sys.exit(2)
 
 
-def leave_output():
+def leave_output() -> None:
     """What was not written is not tried again at the end."""
     os.dup2(os.open(os.devnull, os.O_WRONLY), sys.stdout.fileno())

@@ -2,8 +2,12 @@
 
 from __future__ import annotations
 
+from collections.abc import Set as AbstractSet
 
-def columns(heads: list[str], rows: list[list[str]], right: set[int] = frozenset()) -> list[str]:
+
+def columns(
+    heads: list[str], rows: list[list[str]], right: AbstractSet[int] = frozenset()
+) -> list[str]:
     """The lines of a table; the columns numbered in `right` end on the same character."""
     wide = [max(len(row[at]) for row in [heads, *rows]) for at in range(len(heads))]
     lines = []

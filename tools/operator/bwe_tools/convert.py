@@ -6,23 +6,37 @@ from __future__ import annotations
 
 import json
 from collections import Counter
-from collections.abc import Iterator
+from collections.abc import Callable, Iterator
 from dataclasses import dataclass
 from functools import wraps
 from itertools import permutations
 from pathlib import Path
+from typing import Any
 
 import click
 
 from bwe_tools import rules
 from bwe_tools.document import ToolError, least_version, text_of
-from bwe_tools.limits import OF_4
-from bwe_tools.network import Demand, Namer, Network, rate
+from bwe_tools.limits import OF_4, PLAIN
+from bwe_tools.network import Demand, Line, Namer, Network, rate
 from bwe_tools.progress import Progress
+from bwe_tools.raw import (
+    RawDocument,
+    RawFunction,
+    RawGroup,
+    RawJob,
+    RawLink,
+    RawPath,
+    RawReport,
+    RawTask,
+    RawUser,
+    made_task,
+)
 from bwe_tools.routes import Routes
 
 OWNER, HOSTS = "noc", "hosts"
 MOST_WEIGHT = rules.MOST_WEIGHT
+Ways = list[list[str]]  # paths, each the names of its links
 
 
 @dataclass(frozen=True)
@@ -40,7 +54,7 @@ class Choices:
     is_one_way: bool = False
 
 
-def rate_option(_, option, value):
+def rate_option(_: click.Context, option: click.Parameter, value: str) -> int:
     return rate(value, f"--{option.name}")
 
 
@@ -118,7 +132,7 @@ OPTIONS = [
 ]
 
 
-def options(command):
+def options(command: Callable[..., None]) -> Callable[..., None]:
     """The options that all converters have; the command gets them as its `choices`, and the name of
     the map's file.
     """
@@ -126,14 +140,14 @@ def options(command):
         command = option(command)
 
     @wraps(command)
-    def with_choices(map_file, **words):
+    def with_choices(map_file: str | None, **words: Any) -> None:
         chosen = {name: words.pop(name) for name in Choices.__dataclass_fields__}
-        return command(choices=Choices(**chosen), map_file=map_file, **words)
+        command(choices=Choices(**chosen), map_file=map_file, **words)
 
     return with_choices
 
 
-def directed(network: Network, is_one_way: bool):
+def directed(network: Network, is_one_way: bool) -> Iterator[tuple[Line, str, str]]:
     """The links of a document: each line, and its reverse where the file has no line back."""
     ends = Counter((line.source, line.target) for line in network.lines)
     for line in network.lines:
@@ -146,17 +160,20 @@ def directed(network: Network, is_one_way: bool):
 class Conversion:
     """The parts of a document of one network, and the maps of their names."""
 
-    def __init__(self, network: Network, choices: Choices):
+    def __init__(self, network: Network, choices: Choices) -> None:
         self.network, self.choices = network, choices
-        labels, self.sites = Namer(), {}
+        self.sites: dict[str, str] = {}
+        self.links: list[RawLink] = []
+        self.lengths: dict[str, float | None] = {}
+        labels, self.link_namer = Namer(), Namer()
         counts = Counter(network.sites.values())
         for key, label in network.sites.items():
             original = label if counts[label] == 1 else f"{label} ({key})"
             self.sites[key] = labels.name(label, original)
-        self.site_map, self.link_namer, self.links, self.lengths = labels.texts, Namer(), [], {}
+        self.site_map = labels.texts
         self.add_links()
 
-    def add_links(self):
+    def add_links(self) -> None:
         for line, source, target in directed(self.network, self.choices.is_one_way):
             if source == target:
                 raise ToolError(
@@ -199,13 +216,13 @@ class Conversion:
             )
         return Routes(links, self.lengths)
 
-    def demands(self) -> list:
+    def demands(self) -> list[Demand]:
         """The file's demands, else one of the default for each ordered pair."""
         if self.network.demands:
             return self.network.demands
         keys = list(self.network.sites)
         if self.choices.busiest:
-            capacity = Counter()
+            capacity = Counter[str]()
             for link in self.links:
                 capacity.update({link["from"]: link["capacity"], link["to"]: link["capacity"]})
             keys = sorted(keys, key=lambda key: -capacity[self.sites[key]])[: self.choices.busiest]
@@ -215,9 +232,10 @@ class Conversion:
                 f"{len(keys)} sites have {pairs:,} pairs, more than a document's"
                 f" {OF_4.groups:,} groups; take some with --busiest 256, or give the demands"
             )
-        return [Demand(*pair, self.choices.demand) for pair in permutations(keys, 2)]
+        amount = self.choices.demand
+        return [Demand(one, other, amount) for one, other in permutations(keys, 2)]
 
-    def path_groups(self, ways) -> list:
+    def path_groups(self, ways: Ways) -> list[list[RawPath]]:
         if not self.choices.is_together:
             return [[{"weight": 1, "links": way}] for way in ways]
         capacity = {link["name"]: link["capacity"] for link in self.links}
@@ -226,7 +244,7 @@ class Conversion:
         weights = [max(1, round(MOST_WEIGHT * each / widest)) for each in narrow]
         return [[{"weight": weight, "links": way} for weight, way in zip(weights, ways)]]
 
-    def function(self, demands, most: int) -> list:
+    def function(self, demands: list[Demand], most: int) -> RawFunction:
         """The function of the tasks of one job: to the greatest demand of all tasks, or to that of
         the job's own.
         """
@@ -236,13 +254,16 @@ class Conversion:
             [self.choices.top, max(1, most if self.choices.fairness == "equal" else own)],
         ]
 
-    def raw(self) -> dict:
+    def raw(self) -> RawDocument:
         demands, routes = self.demands(), self.routes()
-        by_pair = {}
+        by_pair: dict[tuple[str, str], list[Demand]] = {}
         for demand in demands:
             by_pair.setdefault((demand.source, demand.target), []).append(demand)
         most = max((demand.amount for demand in demands), default=1)
-        group_names, task_names, groups, script, unreached = Namer(), Namer(), [], [], []
+        group_names, task_names = Namer(), Namer()
+        groups: list[RawGroup] = []
+        script: list[RawReport] = []
+        unreached: list[tuple[str, str]] = []
         pairs = [(self.sites[source], self.sites[target]) for source, target in by_pair]
         for (source, target), ends, ways in zip(by_pair, pairs, self.all_ways(routes, pairs)):
             of_pair = by_pair[source, target]
@@ -260,30 +281,39 @@ class Conversion:
                 }
             )
         self.tell_unreached(unreached)
-        parts = {
+        raw: RawDocument = {
+            "version": PLAIN,
             "top": self.choices.top,
             "links": self.links,
             "groups": groups,
             "reporters": [HOSTS, OWNER],
             "script": script,
         }
-        return {"version": least_version(parts)} | parts
+        raw["version"] = least_version(raw)
+        return raw
 
-    def all_ways(self, routes: Routes, pairs) -> Iterator[list]:
+    def all_ways(self, routes: Routes, pairs: list[tuple[str, str]]) -> Iterator[Ways]:
         """The paths of each pair in turn; of many pairs it is said how far that is."""
         with Progress("pairs of sites whose paths are found") as told:
             for number, ways in enumerate(routes.of_all(pairs, self.choices.paths), 1):
                 told(number, len(pairs))
                 yield ways
 
-    def users(self, group: str, demands, most: int, task_names: Namer, script: list) -> list:
+    def users(
+        self,
+        group: str,
+        demands: list[Demand],
+        most: int,
+        task_names: Namer,
+        script: list[RawReport],
+    ) -> list[RawUser]:
         """The users of a group with their jobs and tasks; each task's demand goes to the script."""
-        names, users = Namer(), {}
+        names, made = Namer(), list[RawUser]()
+        users: dict[str, dict[str, list[Demand]]] = {}
         for demand in demands:
             users.setdefault(demand.user, {}).setdefault(demand.job, []).append(demand)
-        made = []
         for user, jobs in users.items():
-            job_names, of_user = Namer(), []
+            job_names, of_user = Namer(), list[RawJob]()
             for job, tasks in jobs.items():
                 listed = [self.task(group, task, task_names, script) for task in tasks]
                 of_user.append(
@@ -297,14 +327,14 @@ class Conversion:
         return made
 
     @staticmethod
-    def task(group: str, demand: Demand, task_names: Namer, script: list) -> dict:
+    def task(
+        group: str, demand: Demand, task_names: Namer, script: list[RawReport]
+    ) -> RawTask:
         name = task_names.name(demand.task or group)
         script.append({"reporter": HOSTS, "task": name, "demand": demand.amount})
-        return {"name": name, "reporter": HOSTS} | (
-            {"weight": demand.weight} if demand.weight != 1 else {}
-        )
+        return made_task(name, HOSTS, demand.weight)
 
-    def tell_unreached(self, pairs):
+    def tell_unreached(self, pairs: list[tuple[str, str]]) -> None:
         """A demand of the file without a path is a fault; a pair of the default is left out, and
         told.
         """
@@ -339,7 +369,7 @@ def write_document(network: Network, choices: Choices, map_file: str | None) -> 
     click.echo(text_of(raw), nl=False)
 
 
-def write_map(path: str, maps: dict) -> None:
+def write_map(path: str, maps: dict[str, dict[str, str]]) -> None:
     try:
         Path(path).write_text(
             json.dumps(maps, indent=1, ensure_ascii=False) + "\n", encoding="utf-8"

@@ -8,22 +8,37 @@ from __future__ import annotations
 
 import json
 import sys
-from collections.abc import Callable, Iterator
+from collections.abc import Iterator, Mapping
 from dataclasses import dataclass
 from itertools import islice
 from operator import gt
-from typing import IO, Any, Optional
+from typing import IO, Any, Optional, TypeVar
 
 import click
 
 from bwe_tools import json_text, rules, sound
 from bwe_tools.fault import Fault
 from bwe_tools.limits import BEFORE_4, NEWEST, OF_4, PLAIN, is_4, limits_of, version_of
+from bwe_tools.raw import (
+    RawClosing,
+    RawDocument,
+    RawFunction,
+    RawGroup,
+    RawJob,
+    RawLink,
+    RawPart,
+    RawPath,
+    RawReport,
+    RawUser,
+    made_group,
+    made_job,
+    made_task,
+    made_user,
+)
 
 ENTRIES = 4_096  # of a list, to a piece of text
 
 Function = tuple[tuple[int, int], ...]  # points of a share and an amount in kb/s
-Raw = dict[str, Any]  # an object of JSON
 
 
 class ToolError(click.ClickException):
@@ -159,14 +174,13 @@ def parse(data: bytes, path: str = "-") -> Document:
     """The document of some bytes; `path` is how a fault names where they come from."""
     raw = parse_raw(data, path)
     with json_text.collector_at_rest():
-        return _of_raw(raw, _given_up)
+        return _of_raw(raw, is_given_up=True)
 
 
-def parse_raw(data: bytes, path: str = "-") -> Raw:
+def parse_raw(data: bytes, path: str = "-") -> RawDocument:
     """The JSON of some bytes that are a document."""
     if len(data) > OF_4.size:
         raise ToolError(too_long(path, OF_4.size))
-    raw: Raw
     try:
         raw = json_text.value_of(json_text.decoded(data))
     except json_text.NotJson as fault:
@@ -181,7 +195,8 @@ def parse_raw(data: bytes, path: str = "-") -> Raw:
             f"{path} is no document: {first.sentence} (bwe: {first.refusal}); `bwe-tools lint` says"
             " where"
         )
-    return raw
+    document: RawDocument = raw
+    return document
 
 
 def too_long(path: str, most: int) -> str:
@@ -190,12 +205,12 @@ def too_long(path: str, most: int) -> str:
     return f"{path} is longer than {most:,} bytes, the most that bwe reads{of}"
 
 
-def first_fault(raw: Raw) -> Optional[Fault]:
+def first_fault(raw: object) -> Optional[Fault]:
     """The first fault of JSON that is no document, or None."""
     return next(iter(faults(raw)), None)
 
 
-def faults(raw: Raw) -> Iterator[Fault]:
+def faults(raw: object) -> Iterator[Fault]:
     """All faults of JSON that is no document, the one that bwe refuses it for first: those of its
     shape, and what the rules say of the entries that have theirs.
     """
@@ -209,30 +224,35 @@ def faults(raw: Raw) -> Iterator[Fault]:
     yield from rules.faults(*sound.sound_part(raw))
 
 
-def of_raw(raw: Raw) -> Document:
+def of_raw(raw: RawDocument) -> Document:
     """The document of JSON that is shaped as one."""
     with json_text.collector_at_rest():
-        return _of_raw(raw, iter)
+        return _of_raw(raw, is_given_up=False)
 
 
-Taking = Callable[[list[Raw]], Iterator[Raw]]
-
-
-def _of_raw(raw: Raw, entries_of: Taking) -> Document:
+def _of_raw(raw: RawDocument, is_given_up: bool) -> Document:
+    taken = _given_up if is_given_up else _kept
     return Document(
         version=raw["version"],
         top=raw["top"],
-        links=tuple(map(link_of, entries_of(raw["links"]))),
-        groups=tuple(map(group_of, entries_of(raw["groups"]))),
+        links=tuple(map(link_of, taken(raw["links"]))),
+        groups=tuple(map(group_of, taken(raw["groups"]))),
         reporters=tuple(raw["reporters"]),
-        script=tuple(map(report_of, entries_of(raw["script"]))),
+        script=tuple(map(report_of, taken(raw["script"]))),
         closings=tuple(
             Closing(closing["link"], closing["share"]) for closing in raw.get("closings", [])
         ),
     )
 
 
-def _given_up(entries: list[Raw]) -> Iterator[Raw]:
+Entry = TypeVar("Entry")
+
+
+def _kept(entries: list[Entry]) -> Iterator[Entry]:
+    return iter(entries)
+
+
+def _given_up(entries: list[Entry]) -> Iterator[Entry]:
     """The entries of a list, of which each is given up as it is taken: a great document stands
     once in memory and not twice.
     """
@@ -241,27 +261,27 @@ def _given_up(entries: list[Raw]) -> Iterator[Raw]:
         yield entries.pop()
 
 
-def function_of(raw: list[list[int]]) -> Function:
+def function_of(raw: RawFunction) -> Function:
     return tuple((share, amount) for share, amount in raw)
 
 
-def own_function_of(raw: Raw) -> Optional[Function]:
+def own_function_of(raw: RawGroup | RawUser | RawJob) -> Optional[Function]:
     return function_of(raw["function"]) if "function" in raw else None
 
 
-def link_of(raw: Raw) -> Link:
+def link_of(raw: RawLink) -> Link:
     return Link(raw["name"], raw["from"], raw["to"], raw["capacity"], raw.get("owner"))
 
 
-def path_of(raw: Raw) -> Path:
+def path_of(raw: RawPath) -> Path:
     return Path(raw["weight"], tuple(raw["links"]))
 
 
-def user_of(raw: Raw) -> User:
+def user_of(raw: RawUser) -> User:
     return User(raw["name"], own_function_of(raw), tuple(job_of(job) for job in raw["jobs"]))
 
 
-def group_of(raw: Raw) -> Group:
+def group_of(raw: RawGroup) -> Group:
     return Group(
         name=raw["name"],
         source=raw["from"],
@@ -272,31 +292,38 @@ def group_of(raw: Raw) -> Group:
     )
 
 
-def job_of(raw: Raw) -> Job:
+def job_of(raw: RawJob) -> Job:
     tasks = tuple(
         Task(task["name"], task["reporter"], task.get("weight", 1)) for task in raw["tasks"]
     )
     return Job(raw["name"], own_function_of(raw), function_of(raw["task"]), tasks)
 
 
-def report_of(raw: Raw) -> Report:
-    if "link" in raw or "capacity" in raw:
+def report_of(raw: RawReport) -> Report:
+    if "link" in raw:
         return Report(raw["reporter"], None, raw["link"], raw["capacity"])
     return Report(raw["reporter"], raw["task"], None, raw["demand"])
 
 
-def to_raw(document: Document) -> Raw:
+def to_raw(document: Document) -> RawDocument:
     """The JSON of a document: what `of_raw` reads back as the same document."""
     with json_text.collector_at_rest():
-        return {
-            key: list(value) if isinstance(value, map) else value
-            for key, value in _members(document).items()
+        raw: RawDocument = {
+            "version": document.version,
+            "top": document.top,
+            "links": [raw_link(link) for link in document.links],
+            "groups": [raw_group(group) for group in document.groups],
+            "reporters": list(document.reporters),
+            "script": [raw_report(report) for report in document.script],
         }
+        if document.closings:
+            raw["closings"] = raw_closings(document)
+        return raw
 
 
-def _members(document: Document) -> Raw:
+def _members(document: Document) -> dict[str, object]:
     """The members of a document's JSON, in which long lists are made as they are read."""
-    raw: Raw = {
+    members: dict[str, object] = {
         "version": document.version,
         "top": document.top,
         "links": map(raw_link, document.links),
@@ -305,60 +332,65 @@ def _members(document: Document) -> Raw:
         "script": map(raw_report, document.script),
     }
     if document.closings:
-        raw["closings"] = [{"link": one.link, "share": one.share} for one in document.closings]
-    return raw
+        members["closings"] = raw_closings(document)
+    return members
 
 
-def raw_link(link: Link) -> Raw:
-    raw: Raw = {
+def raw_closings(document: Document) -> list[RawClosing]:
+    return [{"link": closing.link, "share": closing.share} for closing in document.closings]
+
+
+def raw_link(link: Link) -> RawLink:
+    raw: RawLink = {
         "name": link.name,
         "from": link.source,
         "to": link.target,
         "capacity": link.capacity,
     }
-    return raw if link.owner is None else {**raw, "owner": link.owner}
+    if link.owner is not None:
+        raw["owner"] = link.owner
+    return raw
 
 
-def raw_group(group: Group) -> Raw:
-    paths = [
+def raw_group(group: Group) -> RawGroup:
+    paths: list[list[RawPath]] = [
         [{"weight": path.weight, "links": list(path.links)} for path in paths]
         for paths in group.paths
     ]
     users = [raw_user(user) for user in group.users]
-    ends = {"name": group.name, "from": group.source, "to": group.target}
-    return {**ends, **raw_function(group.function), "paths": paths, "users": users}
+    ends = group.source, group.target
+    return made_group(group.name, ends, own_raw_function(group.function), paths, users)
 
 
-def raw_user(user: User) -> Raw:
+def raw_user(user: User) -> RawUser:
     jobs = [raw_job(job) for job in user.jobs]
-    return {"name": user.name, **raw_function(user.function), "jobs": jobs}
+    return made_user(user.name, own_raw_function(user.function), jobs)
 
 
-def raw_job(job: Job) -> Raw:
-    tasks = [
-        {"name": task.name, "reporter": task.reporter}
-        | ({} if task.weight == 1 else {"weight": task.weight})
-        for task in job.tasks
-    ]
-    task_function = [list(point) for point in job.task_function]
-    own = raw_function(job.function)
-    return {"name": job.name, **own, "task": task_function, "tasks": tasks}
+def raw_job(job: Job) -> RawJob:
+    tasks = [made_task(task.name, task.reporter, task.weight) for task in job.tasks]
+    own, each = own_raw_function(job.function), raw_function(job.task_function)
+    return made_job(job.name, own, each, tasks)
 
 
-def raw_function(function: Optional[Function]) -> Raw:
-    return {} if function is None else {"function": [list(point) for point in function]}
+def raw_function(function: Function) -> RawFunction:
+    return [list(point) for point in function]
 
 
-def raw_report(report: Report) -> Raw:
-    if report.link is None:
-        return {"reporter": report.reporter, "task": report.task, "demand": report.amount}
-    return {"reporter": report.reporter, "link": report.link, "capacity": report.amount}
+def own_raw_function(function: Optional[Function]) -> Optional[RawFunction]:
+    return None if function is None else raw_function(function)
+
+
+def raw_report(report: Report) -> RawReport:
+    if report.link is not None:
+        return {"reporter": report.reporter, "link": report.link, "capacity": report.amount}
+    return {"reporter": report.reporter, "task": report.task or "", "demand": report.amount}
 
 
 ENCODE = json.JSONEncoder(separators=(",", ":")).encode
 
 
-def pieces(raw: Raw) -> Iterator[str]:
+def pieces(raw: Mapping[str, object]) -> Iterator[str]:
     """The text of a document, piece by piece: a line for each link, group, reporter list and
     report, so that it can be read and compared.
     """
@@ -366,14 +398,18 @@ def pieces(raw: Raw) -> Iterator[str]:
     for key, value in raw.items():
         yield f'{before}"{key}":'
         before = ",\n "
-        if isinstance(value, map) or (value and isinstance(value, list) and type(value[0]) is dict):
+        if isinstance(value, map) or (isinstance(value, list) and has_objects(value)):
             yield from _entries(iter(value))
         else:
             yield ENCODE(value)
     yield "}\n"
 
 
-def _entries(entries: Iterator[Raw]) -> Iterator[str]:
+def has_objects(entries: list[object]) -> bool:
+    return bool(entries) and type(entries[0]) is dict
+
+
+def _entries(entries: Iterator[object]) -> Iterator[str]:
     start = "[\n  "
     while piece := ",\n  ".join(map(ENCODE, islice(entries, ENTRIES))):
         yield start + piece
@@ -381,7 +417,7 @@ def _entries(entries: Iterator[Raw]) -> Iterator[str]:
     yield "[]" if start[0] == "[" else "]"
 
 
-def dump(raw: Raw) -> str:
+def dump(raw: Mapping[str, object]) -> str:
     """The text of a document (`pieces`)."""
     return "".join(pieces(raw))
 
@@ -389,13 +425,13 @@ def dump(raw: Raw) -> str:
 # ---- versions
 
 
-def least_version(raw: Raw) -> int:
+def least_version(raw: RawDocument | RawPart) -> int:
     """The version to write for what tools made: 3, and 4 only beyond the limits of version 3."""
     counts = rules.counts_of(raw)
     return NEWEST if any(map(gt, counts, BEFORE_4)) else PLAIN
 
 
-def text_of(raw: Raw) -> str:
+def text_of(raw: RawDocument) -> str:
     """The text of a document (`dump`); of version 4 where its own version may not be so long."""
     text = dump(raw)
     if len(text) <= limits_of(raw["version"]).size:

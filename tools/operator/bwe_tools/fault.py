@@ -6,6 +6,8 @@ from __future__ import annotations
 
 from dataclasses import dataclass, replace
 
+from bwe_tools.raw import Place
+
 # The keys of all objects in the order of the format's tables, so that each object's own keys stand
 # in their order.
 WALK = (
@@ -20,7 +22,7 @@ class Fault:
     fault.
     """
 
-    place: tuple
+    place: Place
     sentence: str
     meant: str | None = None
     key: str | None = None
@@ -30,11 +32,11 @@ class Fault:
         return replace(self, refusal=f"refused {line}")
 
 
-def pointer(place: tuple) -> str:
+def pointer(place: Place) -> str:
     return "/" + "/".join(map(str, place))
 
 
-def walk_order(place: tuple) -> tuple:
+def walk_order(place: Place) -> tuple[int, ...]:
     """What sorts places in the order of the format's walk: an object before its members."""
     return tuple(
         step if isinstance(step, int) else WALK.index(step) if step in WALK else -1

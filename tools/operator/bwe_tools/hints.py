@@ -5,6 +5,7 @@ from __future__ import annotations
 import difflib
 import re
 import unicodedata
+from collections.abc import Iterable
 from itertools import islice
 
 from bwe_tools.units import kilobits
@@ -15,7 +16,7 @@ LOOK_ALIKE = str.maketrans("oil", "011")
 MANY, ENDS = 20_000, 3
 
 
-def near(word: str, words) -> str | None:
+def near(word: str, words: Iterable[str]) -> str | None:
     """The word among others that is most like it, where one is like enough. Of very many others
     only those that begin or end as it does are looked at.
     """
@@ -28,7 +29,7 @@ def near(word: str, words) -> str | None:
     return others[found[0]] if found else None
 
 
-def with_its_ends(word: str, others) -> list[str]:
+def with_its_ends(word: str, others: Iterable[str]) -> list[str]:
     """The first of the words of about its length that begin or end with the same letters."""
     begin, end = word[:ENDS], word[-ENDS:]
     alike = (
@@ -47,7 +48,7 @@ def plain_name(text: str) -> str:
     return re.sub(r"[^A-Za-z0-9_.]+", "-", letters).strip("-")[:64].rstrip("-") or "x"
 
 
-def whole(value) -> str | None:
+def whole(value: object) -> str | None:
     """The whole number that a value stands for, as it is written in a document."""
     if isinstance(value, str):
         amount = kilobits(value)

@@ -8,13 +8,12 @@ been over as well.
 
 from __future__ import annotations
 
-import json
 import os
 from collections.abc import Iterable
 from concurrent.futures import ThreadPoolExecutor
-from dataclasses import dataclass
+from dataclasses import dataclass, replace
 
-from bwe_tools.document import Document, to_raw
+from bwe_tools.document import Document, document_text
 from bwe_tools.program import solve
 from bwe_tools.table import Closing, Table
 from bwe_tools.units import MOST
@@ -35,18 +34,14 @@ class Gain:
 
 def with_capacities(document: Document, capacities: dict[str, int]) -> bytes:
     """The document in which these links have these capacities, whatever was reported of them."""
-    raw = to_raw(document)
-    raw["links"] = [
-        {**link, "capacity": capacities.get(link["name"], link["capacity"])}
-        for link in raw["links"]
-    ]
-    raw["script"] = [
-        {**report, "capacity": capacities.get(report.get("link"), report.get("capacity"))}
-        if report.get("link") in capacities
-        else report
-        for report in raw["script"]
-    ]
-    return json.dumps(raw).encode()
+    links = tuple(
+        replace(link, capacity=capacities.get(link.name, link.capacity)) for link in document.links
+    )
+    script = tuple(
+        replace(report, amount=capacities.get(report.link or "", report.amount))
+        for report in document.script
+    )
+    return document_text(replace(document, links=links, script=script)).encode()
 
 
 def closings_that_hold(table: Table, held: Iterable[str]) -> list[Closing]:

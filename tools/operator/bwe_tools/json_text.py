@@ -12,7 +12,9 @@ from collections.abc import Iterator
 from contextlib import contextmanager
 from dataclasses import dataclass
 from itertools import accumulate
-from typing import Any
+from typing import Any, NoReturn
+
+from bwe_tools.raw import Place
 
 MOST_LEVELS = 127
 MOST_WHOLE = 2**64 - 1
@@ -32,7 +34,7 @@ ESCAPE = re.compile(r"\\(?:u([0-9a-fA-F]{4})|.)", re.DOTALL)
 class NotJson(Exception):
     """The text is not JSON for bwe: what is wrong, and the offset where."""
 
-    def __init__(self, sentence: str, offset: int):
+    def __init__(self, sentence: str, offset: int) -> None:
         super().__init__(sentence)
         self.offset = offset
 
@@ -40,7 +42,9 @@ class NotJson(Exception):
 class NoWhole(float):
     """A number that is none of the whole numbers of a document, with the text that it has."""
 
-    def __new__(cls, text: str):
+    text: str
+
+    def __new__(cls, text: str) -> NoWhole:
         number = super().__new__(cls, text)
         number.text = text
         if math.isinf(number):
@@ -53,7 +57,7 @@ class Position:
     line: int
     column: int
 
-    def __str__(self):
+    def __str__(self) -> str:
         return f"{self.line}:{self.column}"
 
 
@@ -67,7 +71,7 @@ def whole_number(text: str) -> int | NoWhole:
     return int(text)
 
 
-def refuse_constant(text: str):
+def refuse_constant(text: str) -> NoReturn:
     raise NotJson(f"{text} is no number of JSON", -1)
 
 
@@ -269,22 +273,29 @@ def json_sentence(text: str, fault: json.JSONDecodeError) -> str:
     return fault.msg[0].lower() + fault.msg[1:]
 
 
-def members(text: str, at: int):
+def after_space(text: str, at: int) -> int:
+    """The first offset from one on at which no white space stands."""
+    found = SPACE.match(text, at)
+    return at if found is None else found.end()
+
+
+def members(text: str, at: int) -> Iterator[tuple[str | int, int, int]]:
     """The steps of the object or list that begins at an offset: the step, where its key stands,
     where its value stands. Values are read over, and none is kept.
     """
     decoder = json.JSONDecoder(object_pairs_hook=len, parse_int=len, parse_float=len, strict=True)
     is_object = text[at] == "{"
-    number, at = 0, SPACE.match(text, at + 1).end()
+    number, at = 0, after_space(text, at + 1)
     while text[at] not in "]}":
-        key_at, step = at, number
+        key_at = at
+        step: str | int = number
         if is_object:
-            step, at = json.decoder.scanstring(text, at + 1)
-            at = SPACE.match(text, SPACE.match(text, at).end() + 1).end()
+            step, at = decoder.raw_decode(text, at)
+            at = after_space(text, after_space(text, at) + 1)
         yield step, key_at, at
-        at = SPACE.match(text, decoder.raw_decode(text, at)[1]).end()
+        at = after_space(text, decoder.raw_decode(text, at)[1])
         if text[at] == ",":
-            at = SPACE.match(text, at + 1).end()
+            at = after_space(text, at + 1)
         number += 1
 
 
@@ -295,30 +306,37 @@ class Places:
         self.text = text
         self.lines = array("q", [0])
         self.lines.extend(found.end() for found in re.finditer("\n", text))
-        self.known: dict[int, dict[str, tuple[int, int]] | array[int]] = {}
+        self.objects: dict[int, dict[str, tuple[int, int]]] = {}
+        self.lists: dict[int, array[int]] = {}
 
-    def offset_of(self, place, is_key: bool = False) -> int:
+    def offset_of(self, place: Place, is_key: bool = False) -> int:
         """Where the value at a place stands, or its key. Of a key that an object repeats the last
         one counts.
         """
-        at = key_at = SPACE.match(self.text, 0).end()
+        at = key_at = after_space(self.text, 0)
         for step in place:
-            if at not in self.known:
-                self.known[at] = self.read(at)
-            found = self.known[at][step]
-            key_at, at = found if isinstance(found, tuple) else (found, found)
+            key_at, at = (
+                self.members_of(at)[step] if isinstance(step, str) else self.entry_of(at, step)
+            )
         return key_at if is_key else at
 
-    def read(self, at: int) -> dict[str, tuple[int, int]] | array[int]:
-        """Where the members of an object stand, with their keys, or the entries of a list."""
-        if self.text[at] == "{":
-            return {step: (key, value) for step, key, value in members(self.text, at)}
-        return array("q", (value for _, _, value in members(self.text, at)))
+    def members_of(self, at: int) -> dict[str, tuple[int, int]]:
+        """Where the keys and the values of the object at an offset stand."""
+        if at not in self.objects:
+            found = members(self.text, at)
+            self.objects[at] = {str(step): (key, value) for step, key, value in found}
+        return self.objects[at]
+
+    def entry_of(self, at: int, number: int) -> tuple[int, int]:
+        """Where an entry of the list at an offset stands, which is its key as well."""
+        if at not in self.lists:
+            self.lists[at] = array("q", (value for _, _, value in members(self.text, at)))
+        return self.lists[at][number], self.lists[at][number]
 
     def position(self, offset: int) -> Position:
         """Line and column, from 1, as editors count them."""
         line = bisect_right(self.lines, offset)
         return Position(line, offset - self.lines[line - 1] + 1)
 
-    def position_of(self, place, is_key: bool = False) -> Position:
+    def position_of(self, place: Place, is_key: bool = False) -> Position:
         return self.position(self.offset_of(place, is_key))

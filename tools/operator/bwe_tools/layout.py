@@ -3,13 +3,16 @@
 from __future__ import annotations
 
 import math
+from collections.abc import Mapping, Sequence
 
 import networkx
 import numpy
+from numpy.typing import NDArray
 
 from bwe_tools.document import ToolError
 
 Spots = dict[str, tuple[float, float]]
+Points = NDArray[numpy.float64]  # a row a site, with its two coordinates
 
 
 def spots_of(sites: list[str], ends: list[tuple[str, str]], places: Spots) -> Spots:
@@ -67,6 +70,10 @@ def positions(sites: list[str], ends: list[tuple[str, str]]) -> Spots:
     return placed
 
 
+# Where each site stands, in what networkx calls a layout.
+Start = Mapping[str, Sequence[float]]
+
+
 def _lay_out(graph: networkx.Graph) -> Spots:
     if len(graph) == 1:
         return {site: (0.0, 0.0) for site in graph}
@@ -78,7 +85,7 @@ def _lay_out(graph: networkx.Graph) -> Spots:
     return {site: (float(x), float(y)) for site, (x, y) in zip(sites, points)}
 
 
-def _starts(graph: networkx.Graph) -> list[dict]:
+def _starts(graph: networkx.Graph) -> list[Start]:
     """Where the sites stand before the layout moves them; it ends otherwise from each."""
     starts = [networkx.circular_layout(graph)]
     if len(graph) > 3:
@@ -89,7 +96,7 @@ def _starts(graph: networkx.Graph) -> list[dict]:
     return starts
 
 
-def _drawn(graph: networkx.Graph, start: dict, edges: list[tuple[int, int]]) -> numpy.ndarray:
+def _drawn(graph: networkx.Graph, start: Start, edges: list[tuple[int, int]]) -> Points:
     try:
         spots = networkx.kamada_kawai_layout(graph, pos=start)
     except ImportError:
@@ -99,16 +106,17 @@ def _drawn(graph: networkx.Graph, start: dict, edges: list[tuple[int, int]]) -> 
     return points / _link_length(points, edges)
 
 
-def _crossings(points: numpy.ndarray, edges: list[tuple[int, int]]) -> int:
+def _crossings(points: Points, edges: list[tuple[int, int]]) -> int:
     """How many pairs of links cross, those that meet at a site left out."""
     ends = numpy.array(edges)
     a, b = points[ends[:, 0]], points[ends[:, 1]]
 
-    def side(p, q, r):
-        return numpy.sign(
+    def side(p: Points, q: Points, r: Points) -> Points:
+        turns: Points = numpy.sign(
             (q[..., 0] - p[..., 0]) * (r[..., 1] - p[..., 1])
             - (q[..., 1] - p[..., 1]) * (r[..., 0] - p[..., 0])
         )
+        return turns
 
     p, q, r, s = a[:, None], b[:, None], a[None, :], b[None, :]
     crosses = (side(p, q, r) * side(p, q, s) < 0) & (side(r, s, p) * side(r, s, q) < 0)
@@ -125,14 +133,14 @@ def _mirrored(spots: Spots, ends: list[tuple[str, str]]) -> Spots:
     return {site: (sign_x * x, sign_y * y) for site, (x, y) in spots.items()}
 
 
-def _link_length(points: numpy.ndarray, edges: list[tuple[int, int]]) -> float:
+def _link_length(points: Points, edges: list[tuple[int, int]]) -> float:
     """The length of a link in the middle of all."""
     return (
         float(numpy.median([math.dist(points[one], points[other]) for one, other in edges])) or 1.0
     )
 
 
-def _turned(points: numpy.ndarray) -> numpy.ndarray:
+def _turned(points: Points) -> Points:
     """The points turned so that they reach furthest from left to right."""
     points = points - points.mean(axis=0)
     x, y = points[:, 0], points[:, 1]
@@ -141,7 +149,7 @@ def _turned(points: numpy.ndarray) -> numpy.ndarray:
     return numpy.column_stack((x * cosine - y * sine, x * sine + y * cosine))
 
 
-def _spread(points: numpy.ndarray, rounds: int = 60, apart: float = 0.62) -> numpy.ndarray:
+def _spread(points: Points, rounds: int = 60, apart: float = 0.62) -> Points:
     """Crowded points get room, by their rank along each axis, and none stays close to another."""
     count = len(points)
     if count > 8:

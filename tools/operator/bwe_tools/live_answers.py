@@ -7,7 +7,7 @@ from __future__ import annotations
 import re
 from dataclasses import dataclass, field
 
-from bwe_tools.document import ToolError
+from bwe_tools.document import Report, ToolError
 from bwe_tools.table import Table, parse_table
 
 REFUSED = re.compile(r"refused line [0-9]+ cause [0-9]")
@@ -40,7 +40,7 @@ class Standing:
     """What stands after an answer: the table, and where `state` was asked for what was reported."""
 
     table: Table
-    reports: tuple[dict, ...] | None
+    reports: tuple[Report, ...] | None
     refused: tuple[str, ...]
 
 
@@ -49,7 +49,7 @@ class Answers:
 
     def __init__(self) -> None:
         self.rows, self.last_group = Rows(), ""
-        self.said: list[dict] = []
+        self.said: list[Report] = []
         self.refused: list[str] = []
         self.is_open = False
 
@@ -60,8 +60,9 @@ class Answers:
             return None
         if report := REPORT.fullmatch(row):
             kind, reporter, name, amount = report.groups()
-            thing = "task" if kind == "demand" else "link"
-            self.said.append({"reporter": reporter, thing: name, kind: int(amount)})
+            is_demand = kind == "demand"
+            names = (name, None) if is_demand else (None, name)
+            self.said.append(Report(reporter, *names, int(amount)))
             return None
         if STATE.fullmatch(row):
             said, self.said = tuple(self.said), []
@@ -91,7 +92,7 @@ class Answers:
             raise ToolError(f"`{row[:80]}` is no answer of bwe-live")
         return None
 
-    def standing(self, reports: tuple[dict, ...] | None) -> Standing:
+    def standing(self, reports: tuple[Report, ...] | None) -> Standing:
         refused, self.refused = tuple(self.refused), []
         table = parse_table(self.rows.text(), "the answers of bwe-live")
         return Standing(table, reports, refused)

@@ -11,6 +11,7 @@ from bwe_tools import hints, units
 from bwe_tools.document import ToolError
 
 MOST_NAME = 64
+Spot = tuple[float, float]  # longitude and latitude in degrees
 
 
 @dataclass(frozen=True)
@@ -47,12 +48,11 @@ class Network:
     reverse may be a line too.
     """
 
-    sites: dict = field(default_factory=dict)
-    lines: list = field(default_factory=list)
-    demands: list = field(default_factory=list)
-    places: dict = field(
-        default_factory=dict
-    )  # longitude and latitude by key, where the file has them
+    sites: dict[str, str] = field(default_factory=dict)
+    lines: list[Line] = field(default_factory=list)
+    demands: list[Demand] = field(default_factory=list)
+    # Longitude and latitude by key, where the file has them.
+    places: dict[str, Spot] = field(default_factory=dict)
     is_directed: bool = True
 
     def site(self, text: str, where: str) -> str:
@@ -82,7 +82,7 @@ class Network:
         return None
 
 
-def kilometres(place, other) -> float:
+def kilometres(place: Spot, other: Spot) -> float:
     """The great circle between two places of longitude and latitude in degrees, on a sphere of
     radius 6,371 km.
     """
@@ -97,8 +97,9 @@ def kilometres(place, other) -> float:
 class Namer:
     """Gives texts names of the format, one to one, and keeps the map of names to texts."""
 
-    def __init__(self):
-        self.texts, self.numbers = {}, {}
+    def __init__(self) -> None:
+        self.texts: dict[str, str] = {}
+        self.numbers: dict[str, int] = {}
 
     def name(self, text: str, original: str | None = None) -> str:
         """A name that no other text has: the text itself where it is free and a name."""

@@ -64,6 +64,9 @@ def strands_of(links: list[LinkView]) -> list[Strand]:
     return strands
 
 
+Box = tuple[float, float, float, float]  # left, upper, right and lower edge
+
+
 @dataclass(frozen=True)
 class Frame:
     """The room of a drawing, in pixels."""
@@ -262,8 +265,8 @@ class _Drawing:
         return dots
 
 
-def _covered(box: tuple, taken: list[tuple], width: int) -> int:
-    outside = 3 * (box[0] < 0 or box[2] > width)
+def _covered(box: Box, taken: list[Box], width: int) -> int:
+    outside = 3 if box[0] < 0 or box[2] > width else 0
     return outside + sum(
         box[0] < other[2] and other[0] < box[2] and box[1] < other[3] and other[1] < box[3]
         for other in taken
@@ -277,7 +280,9 @@ def _short(site: str) -> tuple[str, str]:
     return site[:13] + "\u2026", f"<title>{escape(site)}</title>"
 
 
-def _bar(state: str, tip: tuple, direction: tuple, size: float) -> str:
+def _bar(
+    state: str, tip: tuple[float, float], direction: tuple[float, float], size: float
+) -> str:
     """The bar across the end of a link that takes no more."""
     if state not in ("full", "drained"):
         return ""

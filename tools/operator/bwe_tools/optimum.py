@@ -11,8 +11,8 @@ from dataclasses import dataclass
 
 import numpy
 from numpy.typing import NDArray
-from scipy import sparse  # type: ignore[import]
-from scipy.optimize import linprog  # type: ignore[import]
+from scipy import sparse
+from scipy.optimize import linprog
 
 from bwe_tools.curves import Curve, Floats
 from bwe_tools.document import ToolError

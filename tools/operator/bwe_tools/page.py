@@ -16,6 +16,10 @@ from bwe_tools.view import GroupView, LinkView, PathGroupView, TaskView, View
 POLICY = "default-src 'none'; style-src 'unsafe-inline'; script-src 'unsafe-inline'; img-src data:"
 
 
+# A text of HTML, or the number by which a column is sorted and the text.
+Cell = str | tuple[int, str]
+
+
 @dataclass(frozen=True)
 class Listing:
     """A table of the page: its name, what its box picks out, and its columns.
@@ -171,7 +175,7 @@ def _group_row(group: GroupView, states: dict[str, str]) -> str:
         link for part in group.path_groups for _, names in part.paths for link in names
     )
     places = "".join(f"<li>{_place(part, states)}</li>" for part in group.path_groups)
-    cells = [
+    cells: list[Cell] = [
         f"<b>{escape(group.name)}</b>{_below(f'{group.source} → {group.target}')}",
         (group.asks, rate(group.asks)),
         (group.amount, rate(group.amount)),
@@ -202,7 +206,7 @@ def _links(view: View) -> str:
 
 def _link_row(link: LinkView) -> str:
     state = state_of(link)
-    cells = [
+    cells: list[Cell] = [
         f"<b>{escape(link.name)}</b>",
         escape(f"{link.source} → {link.target}"),
         (link.capacity, rate(link.capacity)),
@@ -225,7 +229,7 @@ def _tasks(view: View, most: int) -> str:
 
 
 def _task_row(task: TaskView) -> str:
-    cells = [
+    cells: list[Cell] = [
         f"<b>{escape(task.name)}</b>{_below(f'{task.user} / {task.job}, told by {task.reporter}')}",
         escape(task.group),
         (task.demand, rate(task.demand)),
@@ -245,7 +249,7 @@ def _drains(view: View, drains: list[Drain]) -> str:
 def _drain_row(drain: Drain) -> str:
     change = "0" if not drain.lost else ("−" if drain.lost > 0 else "+") + rate(abs(drain.lost))
     nothing = ", ".join(drain.groups_with_nothing)
-    cells = [
+    cells: list[Cell] = [
         f"<b>{escape(drain.name)}</b>",
         (drain.total, rate(drain.total)),
         (-drain.lost, change),
@@ -283,14 +287,15 @@ def _part(part: int, whole: int, state: str) -> tuple[int, str]:
 
 
 def _row(
-    listing: Listing, cells: list, picked: bool, links: Iterable[str], anchor: str = ""
+    listing: Listing, cells: list[Cell], picked: bool, links: Iterable[str], anchor: str = ""
 ) -> str:
     """A row; a cell with a number in front of its text is sorted by that number."""
     texts = []
     for cell, (_, kind) in zip(cells, listing.columns):
-        value, text = cell if isinstance(cell, tuple) else (None, cell)
-        value = "" if value is None else f' data-v="{value}"'
-        texts.append(f"<td{_class(kind)}{value}>{text}</td>")
+        text, order = cell, ""
+        if not isinstance(cell, str):
+            text, order = cell[1], f' data-v="{cell[0]}"'
+        texts.append(f"<td{_class(kind)}{order}>{text}</td>")
     marks = (f' id="{escape(anchor)}"' if anchor else "") + (" data-held" if picked else "")
     names = " ".join(links)
     marks += f' data-links="{escape(names)}"' if names else ""

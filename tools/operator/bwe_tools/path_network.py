@@ -8,7 +8,7 @@ from functools import cached_property
 
 import numpy
 from numpy.typing import NDArray
-from scipy import sparse  # type: ignore[import]
+from scipy import sparse
 
 from bwe_tools.curves import Floats
 from bwe_tools.document import Document, Group

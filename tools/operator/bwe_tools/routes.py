@@ -14,6 +14,7 @@ MOST_LINKS = 32
 MOST_LOOKS = 64
 MANY, AT_ONCE = 2_000, 64  # pairs for which all processors work, and those that one takes at once
 Pair = tuple[str, str]
+Node = tuple[str, str]  # `site` or `link`, and its name
 
 
 class Routes:
@@ -57,15 +58,15 @@ class Routes:
         has_gained = len(common_links([*first, another])) < len(common_links(found))
         return [*first, another] if has_gained and len(another) <= MOST_LINKS else found
 
-    def around(self, links, source, target) -> list:
+    def around(self, links: set[str], source: Node, target: Node) -> list[str]:
         """The path that meets the fewest of these links, and of those the shortest."""
         detour = 1 + sum(length for _, _, length in self.graph.edges(data="length"))
 
-        def length_of(_, node, edge):
-            return edge["length"] + (detour if node[0] == "link" and node[1] in links else 0)
+        def length_of(_: Node, node: Node, edge: dict[str, float]) -> float:
+            is_common = node[0] == "link" and node[1] in links
+            return edge["length"] + (float(detour) if is_common else 0)
 
         return link_names(networkx.shortest_path(self.graph, source, target, length_of))
-
 
     def of_all(self, pairs: Sequence[Pair], most: int) -> Iterator[list[list[str]]]:
         """The paths of each pair in turn (`between`); of many pairs on all processors."""
@@ -87,9 +88,9 @@ def _between_kept(most: int, pair: Pair) -> list[list[str]]:
     return _kept[0].between(*pair, most)
 
 
-def common_links(paths) -> set:
-    return set.intersection(*map(set, paths)) if paths else set()
+def common_links(paths: Sequence[Sequence[str]]) -> set[str]:
+    return set(paths[0]).intersection(*paths[1:]) if paths else set()
 
 
-def link_names(way) -> list:
+def link_names(way: Iterable[Node]) -> list[str]:
     return [name for kind, name in way if kind == "link"]

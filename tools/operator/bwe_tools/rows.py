@@ -6,6 +6,7 @@ from __future__ import annotations
 
 import csv
 import io
+from collections.abc import Iterable, Iterator, Sequence
 
 from bwe_tools import hints
 from bwe_tools.document import ToolError, read_bytes
@@ -30,7 +31,12 @@ OTHER_NAMES = {
 }
 
 
-def rows(path: str, needed: tuple, known: tuple):
+Row = dict[str, str]  # what stands in each column that has something
+
+
+def rows(
+    path: str, needed: Sequence[str], known: Sequence[str]
+) -> Iterator[tuple[str, Row]]:
     """The rows of a file, each with what to call it in sentences, under the names of `known`
     columns.
     """
@@ -52,7 +58,9 @@ def rows(path: str, needed: tuple, known: tuple):
         raise ToolError(f"{path} line {reader.line_num}: {fault}") from None
 
 
-def columns(path, names, needed, known):
+def columns(
+    path: str, names: Iterable[str], needed: Iterable[str], known: Sequence[str]
+) -> list[str]:
     """The header in the words of `known`; a name that is none of them is a fault."""
     found = [OTHER_NAMES.get(name.strip().lower(), name.strip().lower()) for name in names]
     for name in needed:
@@ -68,7 +76,7 @@ def columns(path, names, needed, known):
     return found
 
 
-def named_cells(path, line, header, cells):
+def named_cells(path: str, line: int, header: Sequence[str], cells: Sequence[str]) -> Row:
     if len(cells) > len(header):
         raise ToolError(
             f"{path} line {line}: {len(cells)} cells are more than the header's {len(header)}"
@@ -76,13 +84,13 @@ def named_cells(path, line, header, cells):
     return {name: cell.strip() for name, cell in zip(header, cells) if cell.strip()}
 
 
-def cell(row: dict, name: str, where: str) -> str:
+def cell(row: Row, name: str, where: str) -> str:
     if name not in row:
         raise ToolError(f"{where}: the column \"{name}\" is empty")
     return row[name]
 
 
-def read_demands(path: str, network: Network, plain: str) -> list:
+def read_demands(path: str, network: Network, plain: str) -> list[Demand]:
     """The demands of a file, between sites of a network."""
     demands = []
     known = ("from", "to", "demand", "user", "job", "task", "weight")
@@ -96,8 +104,17 @@ def read_demands(path: str, network: Network, plain: str) -> list:
         ):
             raise ToolError(f"{where}: the weight \"{weight}\" is no whole number from 1 to 1,000")
         amount = rate(cell(row, "demand", where), where, plain)
-        names = (row.get("user", "all"), row.get("job", "all"), row.get("task"))
-        demands.append(Demand(source, target, amount, *names, int(weight)))
+        demands.append(
+            Demand(
+                source,
+                target,
+                amount,
+                user=row.get("user", "all"),
+                job=row.get("job", "all"),
+                task=row.get("task"),
+                weight=int(weight),
+            )
+        )
     if not demands:
         raise ToolError(f"{path} has no demands")
     return demands

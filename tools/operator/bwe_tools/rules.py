@@ -5,39 +5,68 @@ looks at them.
 from __future__ import annotations
 
 from collections import Counter
-from collections.abc import Iterator
-from typing import Any, NamedTuple
+from collections.abc import Iterable, Iterator, Mapping, Sequence
+from typing import NamedTuple, TypeVar
 
 from bwe_tools import hints, limits, units
 from bwe_tools.fault import Fault, pointer
 from bwe_tools.json_text import shortened
+from bwe_tools.raw import (
+    Place,
+    RawDocument,
+    RawFunction,
+    RawGroup,
+    RawJob,
+    RawLink,
+    RawPart,
+    RawPath,
+    RawReport,
+    RawTask,
+    RawUser,
+)
 
 MOST_SHARE = 1_000_000_000
 MOST_POINTS, MOST_PATHS, MOST_PATH_LINKS, MOST_WEIGHT = 256, 16, 32, 1_000
 MOST_HINTS, MOST_HINTS_AMONG_MANY, MANY = 20, 3, 20_000
 
 
-class Value(NamedTuple):
-    """A name or number that refusals 4 to 6 look at. `scope` is where a new name has to be new,
-    `kind` what it names.
+# A document, or what of one has its shape.
+Looked = RawDocument | RawPart
+Ends = Mapping[str, tuple[str, str]]  # the two sites of each link
+Entry = TypeVar("Entry")
+
+
+class Name(NamedTuple):
+    """A name that refusals 4 to 6 look at. `scope` is where a new name has to be new, `kind` what
+    it names.
     """
 
-    place: tuple
-    value: Any
+    place: Place
+    text: str
     kind: str
-    scope: tuple | None = None
-    least: int = 0
-    most: int = 0
+    scope: Place | None = None
 
 
-def entries(raw, key: str) -> Iterator[tuple[int, dict]]:
+class Number(NamedTuple):
+    """A number that refusal 4 looks at, and the range in which it has to be."""
+
+    place: Place
+    amount: int
+    least: int
+    most: int
+
+
+Value = Name | Number
+
+
+def entries(listed: Iterable[Entry | None]) -> Iterator[tuple[int, Entry]]:
     """The entries of a list of the root with their numbers. One that is not shaped as the format
-    says stands as None (`shape.sound_part`), and is passed over.
+    says stands as None (`sound.sound_part`), and is passed over.
     """
-    return ((at, entry) for at, entry in enumerate(raw.get(key, ())) if entry is not None)
+    return ((at, entry) for at, entry in enumerate(listed) if entry is not None)
 
 
-def plain_names(names) -> set[str]:
+def plain_names(names: Iterable[str]) -> set[str]:
     return set(filter(hints.NAME.match, names))
 
 
@@ -58,13 +87,13 @@ class Walk:
     paths cost little. `unread` are names of entries whose shape is at fault, which are not missed.
     """
 
-    def __init__(self, raw, unread: frozenset[str] = frozenset()) -> None:
+    def __init__(self, raw: Looked, unread: frozenset[str] = frozenset()) -> None:
         self.raw = raw
         self.limits = limits.limits_of(raw["version"])
         new = {
-            "link": [link["name"] for _, link in entries(raw, "links")],
-            "group": [group["name"] for _, group in entries(raw, "groups")],
-            "reporter": [name for _, name in entries(raw, "reporters")],
+            "link": [link["name"] for _, link in entries(raw["links"])],
+            "group": [group["name"] for _, group in entries(raw["groups"])],
+            "reporter": [name for _, name in entries(raw["reporters"])],
             "task": [task["name"] for task in tasks(raw)],
         }
         self.odd = {kind: odd_names(names) for kind, names in new.items()}
@@ -78,43 +107,46 @@ class Walk:
         raw = self.raw
         yield from self._number(("version",), raw["version"], 1, limits.NEWEST)
         yield from self._number(("top",), raw["top"], 1, MOST_SHARE)
-        for at, link in entries(raw, "links"):
+        for at, link in entries(raw["links"]):
             place = ("links", at)
             yield from self._thing(place, link, "link")
             if "owner" in link:
                 yield from self._name((*place, "owner"), link["owner"], "reporter")
-        for at, group in entries(raw, "groups"):
+        for at, group in entries(raw["groups"]):
             yield from self._group(("groups", at), group)
-        for at, name in entries(raw, "reporters"):
+        for at, name in entries(raw["reporters"]):
             if name in self.odd["reporter"]:
-                yield Value(("reporters", at), name, "reporter", scope=("reporters",))
+                yield Name(("reporters", at), name, "reporter", scope=("reporters",))
         yield from self._script()
-        for at, closing in entries(raw, "closings"):
+        for at, closing in entries(raw.get("closings", [])):
             yield from self._name(("closings", at, "link"), closing["link"], "link")
             yield from self._number(("closings", at, "share"), closing["share"], 0, MOST_SHARE)
 
     def _script(self) -> Iterator[Value]:
         reporters, plain, most = self.plain["reporter"], self.plain, units.MOST
-        for at, report in entries(self.raw, "script"):
-            thing, amount = report_keys(report)
+        for at, report in entries(self.raw["script"]):
+            if "link" in report:
+                thing, name, key, amount = "link", report["link"], "capacity", report["capacity"]
+            else:
+                thing, name, key, amount = "task", report["task"], "demand", report["demand"]
             if (
                 report["reporter"] not in reporters
-                or report[thing] not in plain[thing]
-                or not 0 <= report[amount] <= most
+                or name not in plain[thing]
+                or not 0 <= amount <= most
             ):
                 place = ("script", at)
                 yield from self._name((*place, "reporter"), report["reporter"], "reporter")
-                yield from self._name((*place, thing), report[thing], thing)
-                yield from self._number((*place, amount), report[amount], 0, most)
+                yield from self._name((*place, thing), name, thing)
+                yield from self._number((*place, key), amount, 0, most)
 
-    def _thing(self, place, thing, kind) -> Iterator[Value]:
+    def _thing(self, place: Place, thing: RawLink | RawGroup, kind: str) -> Iterator[Value]:
         if thing["name"] in self.odd[kind]:
-            yield Value((*place, "name"), thing["name"], kind, scope=(kind,))
-        for end in ("from", "to"):
-            if not hints.NAME.match(thing[end]):
-                yield Value((*place, end), thing[end], "site")
+            yield Name((*place, "name"), thing["name"], kind, scope=(kind,))
+        for end, site in (("from", thing["from"]), ("to", thing["to"])):
+            if not hints.NAME.match(site):
+                yield Name((*place, end), site, "site")
 
-    def _group(self, place, group) -> Iterator[Value]:
+    def _group(self, place: Place, group: RawGroup) -> Iterator[Value]:
         yield from self._thing(place, group, "group")
         for at, paths in enumerate(group["paths"]):
             for path_at, path in enumerate(paths):
@@ -127,15 +159,15 @@ class Walk:
         for at, user in enumerate(users):
             user_place = (*place, "users", at)
             if user["name"] in odd:
-                yield Value((*user_place, "name"), user["name"], "user", scope=place)
+                yield Name((*user_place, "name"), user["name"], "user", scope=place)
             odd_jobs = odd_names([job["name"] for job in user["jobs"]])
             for job_at, job in enumerate(user["jobs"]):
                 job_place = (*user_place, "jobs", job_at)
                 if job["name"] in odd_jobs:
-                    yield Value((*job_place, "name"), job["name"], "job", scope=user_place)
+                    yield Name((*job_place, "name"), job["name"], "job", scope=user_place)
                 yield from self._tasks((*job_place, "tasks"), job["tasks"])
 
-    def _tasks(self, place, listed) -> Iterator[Value]:
+    def _tasks(self, place: Place, listed: list[RawTask]) -> Iterator[Value]:
         odd, reporters = self.odd["task"], self.plain["reporter"]
         for at, task in enumerate(listed):
             if (
@@ -145,30 +177,26 @@ class Walk:
             ):
                 yield from self._task((*place, at), task)
 
-    def _task(self, place, task) -> Iterator[Value]:
+    def _task(self, place: Place, task: RawTask) -> Iterator[Value]:
         if task["name"] in self.odd["task"]:
-            yield Value((*place, "name"), task["name"], "task", scope=("task",))
+            yield Name((*place, "name"), task["name"], "task", scope=("task",))
         yield from self._name((*place, "reporter"), task["reporter"], "reporter")
         if "weight" in task:
             yield from self._number((*place, "weight"), task["weight"], 1, MOST_WEIGHT)
 
-    def _name(self, place, name: str, kind: str) -> Iterator[Value]:
+    def _name(self, place: Place, name: str, kind: str) -> Iterator[Value]:
         if name not in self.plain[kind]:
-            yield Value(place, name, kind)
+            yield Name(place, name, kind)
 
-    def _number(self, place, number: int, least: int, most: int) -> Iterator[Value]:
+    def _number(self, place: Place, number: int, least: int, most: int) -> Iterator[Value]:
         if not least <= number <= most:
-            yield Value(place, number, "number", least=least, most=most)
+            yield Number(place, number, least, most)
 
 
-def report_keys(report):
-    return ("link", "capacity") if "link" in report else ("task", "demand")
-
-
-def functions(raw):
+def functions(raw: Looked) -> Iterator[tuple[Place, RawFunction]]:
     """All functions with their places, in the order of the walk."""
-    for at, group in entries(raw, "groups"):
-        place = ("groups", at)
+    for at, group in entries(raw["groups"]):
+        place: Place = ("groups", at)
         yield from own_function(place, group)
         for user_at, user in enumerate(group["users"]):
             user_place = (*place, "users", user_at)
@@ -179,23 +207,26 @@ def functions(raw):
                 yield (*job_place, "task"), job["task"]
 
 
-def own_function(place, node):
+def own_function(
+    place: Place, node: RawGroup | RawUser | RawJob
+) -> Iterator[tuple[Place, RawFunction]]:
     if "function" in node:
         yield (*place, "function"), node["function"]
 
 
-def hops(raw):
+def hops(raw: Looked) -> int:
+    """How many links there are over all paths."""
     return sum(
         len(path["links"])
-        for _, group in entries(raw, "groups")
+        for _, group in entries(raw["groups"])
         for paths in group["paths"]
         for path in paths
     )
 
 
-def tasks(raw):
+def tasks(raw: Looked) -> Iterator[RawTask]:
     """All tasks in the order of the walk."""
-    for _, group in entries(raw, "groups"):
+    for _, group in entries(raw["groups"]):
         for user in group["users"]:
             for job in user["jobs"]:
                 yield from job["tasks"]
@@ -216,7 +247,7 @@ def meant_by_more(walk: Walk, count: int, most_of_4: int) -> str | None:
     return f'"version":{limits.NEWEST}' if is_older and count <= most_of_4 else None
 
 
-def counts_of(raw) -> tuple[int, ...]:
+def counts_of(raw: Looked) -> tuple[int, ...]:
     """How many there are of what a version limits, in the order of `limits.Limits`."""
     return (
         len(raw["links"]),
@@ -235,7 +266,7 @@ def counts_of(raw) -> tuple[int, ...]:
 def counts(walk: Walk) -> Iterator[Fault]:
     raw, most_of = walk.raw, walk.limits
     long = [found for found in functions(raw) if len(found[1]) > MOST_POINTS]
-    found = [
+    found: list[tuple[str, Place, int, int]] = [
         ("groups", ("groups",), len(raw["groups"]), most_of.groups),
         *(("points", place, len(points), MOST_POINTS) for place, points in long),
         ("hops", ("groups",), hops(raw), most_of.hops),
@@ -258,43 +289,45 @@ def counts(walk: Walk) -> Iterator[Fault]:
 def ranges(walk: Walk) -> Iterator[Fault]:
     for found in walk.values:
         line = f"4 range at {pointer(found.place)}"
-        if found.kind == "number":
-            if not found.least <= found.value <= found.most:
+        if isinstance(found, Number):
+            if not found.least <= found.amount <= found.most:
                 sentence = (
-                    f'"{found.place[-1]}" is {found.value}, and has to be from {found.least} to'
+                    f'"{found.place[-1]}" is {found.amount}, and has to be from {found.least} to'
                     f" {found.most:,}"
                 )
                 yield Fault(found.place, sentence).refused(line)
-        elif not hints.NAME.match(found.value):
+        elif not hints.NAME.match(found.text):
             sentence = (
-                f'"{shortened(found.value)}" is no name: those are 1 to 64 of letters, digits, -'
+                f'"{shortened(found.text)}" is no name: those are 1 to 64 of letters, digits, -'
                 " _ and ."
             )
-            meant = f'"{hints.plain_name(found.value)}"'
+            meant = f'"{hints.plain_name(found.text)}"'
             yield Fault(found.place, sentence, meant).refused(line)
 
 
 def repeated_names(walk: Walk) -> Iterator[Fault]:
-    seen: dict[tuple, tuple] = {}
+    seen: dict[tuple[Place, str], Place] = {}
     for found in walk.values:
-        if found.scope is None:
+        if isinstance(found, Number) or found.scope is None:
             continue
-        first = seen.setdefault((found.scope, found.value), found.place)
+        first = seen.setdefault((found.scope, found.text), found.place)
         if first != found.place:
-            sentence = f'{found.kind} "{found.value}" stands before, at {pointer(first)}'
+            sentence = f'{found.kind} "{found.text}" stands before, at {pointer(first)}'
             yield Fault(found.place, sentence).refused(f"5 repeated name at {pointer(found.place)}")
 
 
 def unknown_names(walk: Walk) -> Iterator[Fault]:
     hinted = 0
     for found in walk.values:
+        if isinstance(found, Number):
+            continue
         known = walk.known.get(found.kind)
-        if found.scope is None and known is not None and found.value not in known:
+        if found.scope is None and known is not None and found.text not in known:
             hinted += 1
             # To look for a near name among many takes long.
             most = MOST_HINTS if len(known) <= MANY else MOST_HINTS_AMONG_MANY
-            meant = hints.near(found.value, known) if hinted <= most else None
-            sentence = f'there is no {found.kind} "{found.value}"'
+            meant = hints.near(found.text, known) if hinted <= most else None
+            sentence = f'there is no {found.kind} "{found.text}"'
             yield Fault(found.place, sentence, meant and f'"{meant}"').refused(
                 f"6 unknown name at {pointer(found.place)}"
             )
@@ -311,7 +344,7 @@ def bad_functions(walk: Walk) -> Iterator[Fault]:
             )
 
 
-def bad_point(points, top):
+def bad_point(points: RawFunction, top: int) -> tuple[int, int, str] | None:
     """The first point at fault: its number, the cause and a sentence."""
     if not points:
         return 0, 1, "a function has at least one point, [0,0]"
@@ -336,7 +369,7 @@ def bad_topology(walk: Walk) -> Iterator[Fault]:
         sentence = f"{count:,} links are more than {most:,}"
         meant = meant_by_more(walk, count, limits.OF_4.links)
         yield Fault(("links",), sentence, meant).refused("8 topology cause 1 link 0")
-    for at, link in entries(raw, "links"):
+    for at, link in entries(raw["links"]):
         if link["from"] == link["to"]:
             sentence = f"link \"{link['name']}\" goes from {link['from']} to itself"
             yield Fault(("links", at, "to"), sentence).refused(f"8 topology cause 3 link {at}")
@@ -347,53 +380,61 @@ def bad_topology(walk: Walk) -> Iterator[Fault]:
             )
 
 
+class PathFault(NamedTuple):
+    """What is wrong with a path or path group: the cause of refusal 9, the numbers of the path
+    group and of the path, and the steps to it from `paths` of the group.
+    """
+
+    cause: int
+    sentence: str
+    place: int = 0
+    path: int = 0
+    steps: Place = ()
+    meant: str | None = None
+
+
 def bad_paths(walk: Walk) -> Iterator[Fault]:
     """The first path at fault of each group."""
-    ends = {link["name"]: (link["from"], link["to"]) for _, link in entries(walk.raw, "links")}
-    for number, group in entries(walk.raw, "groups"):
+    ends = {link["name"]: (link["from"], link["to"]) for _, link in entries(walk.raw["links"])}
+    for number, group in entries(walk.raw["groups"]):
         found = bad_path_of_group(group, ends)
         if found is not None:
-            cause, at, path_at, place, sentence, meant = found
-            where = ("groups", number, "paths", *place)
-            line = f"9 path cause {cause} group {number} place {at} path {path_at}"
-            yield Fault(where, sentence, meant).refused(line)
+            where: Place = ("groups", number, "paths", *found.steps)
+            at = f"cause {found.cause} group {number} place {found.place} path {found.path}"
+            yield Fault(where, found.sentence, found.meant).refused(f"9 path {at}")
 
 
-def bad_path_of_group(group, ends):
-    """The first path at fault: cause, place, path, the steps from `paths`, a sentence and a hint."""
-    if len(group["paths"]) > MOST_PATHS:
-        return 1, 0, 0, (), f"{len(group['paths'])} path groups are more than {MOST_PATHS}", None
-    if not group["paths"]:
-        return 2, 0, 0, (), f"group \"{group['name']}\" has no path group", None
+def bad_path_of_group(group: RawGroup, ends: Ends) -> PathFault | None:
+    """The first path at fault."""
+    count = len(group["paths"])
+    if count > MOST_PATHS:
+        return PathFault(1, f"{count} path groups are more than {MOST_PATHS}")
+    if count == 0:
+        return PathFault(2, f"group \"{group['name']}\" has no path group")
     for at, paths in enumerate(group["paths"]):
         if not paths:
-            return 2, at, 0, (at,), "this path group has no path", None
+            return PathFault(2, "this path group has no path", at, steps=(at,))
         if len(paths) > MOST_PATHS:
-            return (
-                3,
-                at,
-                0,
-                (at,),
-                f"{len(paths)} paths in one path group are more than {MOST_PATHS}",
-                None,
-            )
+            sentence = f"{len(paths)} paths in one path group are more than {MOST_PATHS}"
+            return PathFault(3, sentence, at, steps=(at,))
         for path_at, path in enumerate(paths):
             found = bad_links(group, path, ends)
             if found is not None:
-                cause, steps, sentence, meant = found
-                return cause, at, path_at, (at, path_at, *steps), sentence, meant
+                return found._replace(place=at, path=path_at, steps=(at, path_at, *found.steps))
     return None
 
 
-def bad_links(group, path, ends):
-    """The fault of one path: cause, the steps from it, a sentence and a hint."""
+def bad_links(group: RawGroup, path: RawPath, ends: Ends) -> PathFault | None:
+    """The fault of one path, with the steps from it."""
     links = path["links"]
     if len(links) > MOST_PATH_LINKS:
-        return 4, ("links",), f"a path of {len(links)} links is longer than {MOST_PATH_LINKS}", None
+        sentence = f"a path of {len(links)} links is longer than {MOST_PATH_LINKS}"
+        return PathFault(4, sentence, steps=("links",))
     if not 1 <= path["weight"] <= MOST_WEIGHT:
-        return 5, ("weight",), f"the weight {path['weight']} is not from 1 to {MOST_WEIGHT:,}", None
+        sentence = f"the weight {path['weight']} is not from 1 to {MOST_WEIGHT:,}"
+        return PathFault(5, sentence, steps=("weight",))
     if not links:
-        return 6, ("links",), "a path has at least one link", None
+        return PathFault(6, "a path has at least one link", steps=("links",))
     if not all(link in ends for link in links):
         return None
     site = group["from"]
@@ -401,23 +442,20 @@ def bad_links(group, path, ends):
         source, target = ends[link]
         if source != site:
             sentence = f'link "{link}" begins at {source}, and the path has come to {site}'
-            return 6, ("links", at), sentence, link_from(site, target, source, ends)
+            meant = link_from(site, target, source, ends)
+            return PathFault(6, sentence, steps=("links", at), meant=meant)
         site = target
     if site != group["to"]:
         sentence = f"the path ends at {site}, and group \"{group['name']}\" goes to {group['to']}"
-        return (
-            6,
-            ("links", len(links) - 1),
-            sentence,
-            link_from(ends[links[-1]][0], group["to"], site, ends),
-        )
+        meant = link_from(ends[links[-1]][0], group["to"], site, ends)
+        return PathFault(6, sentence, steps=("links", len(links) - 1), meant=meant)
     if len(set(links)) == len(links):
         return None
     twice = next(link for link, count in Counter(links).items() if count > 1)
-    return 7, ("links",), f'link "{twice}" stands twice in a path', None
+    return PathFault(7, f'link "{twice}" stands twice in a path', steps=("links",))
 
 
-def link_from(site, target, other, ends):
+def link_from(site: str, target: str, other: str, ends: Ends) -> str | None:
     """A link that would go on from a site: to the target, or to the other site, where there is one."""
     found = [
         name for wanted in (target, other) for name, of in ends.items() if of == (site, wanted)
@@ -427,7 +465,7 @@ def link_from(site, target, other, ends):
 
 def bad_tree(walk: Walk) -> Iterator[Fault]:
     number = 0
-    for at, group in entries(walk.raw, "groups"):
+    for at, group in entries(walk.raw["groups"]):
         for place, children in nodes_of(at, group):
             if not children:
                 sentence = f'the list "{place[-1]}" is empty, and has to have at least one entry'
@@ -440,31 +478,30 @@ def bad_tree(walk: Walk) -> Iterator[Fault]:
         yield Fault(("groups",), sentence, meant).refused("10 tree cause 2 node 0")
 
 
-def nodes_of(at: int, group) -> Iterator[tuple[tuple, list]]:
+def nodes_of(at: int, group: RawGroup) -> Iterator[tuple[Place, Sequence[object]]]:
     """The place and the children of each node of a group, in the order of the nodes' numbers."""
     yield ("groups", at, "users"), group["users"]
     for user_at, user in enumerate(group["users"]):
-        place = ("groups", at, "users", user_at, "jobs")
+        place: Place = ("groups", at, "users", user_at, "jobs")
         yield place, user["jobs"]
         for job_at, job in enumerate(user["jobs"]):
             yield (*place, job_at, "tasks"), job["tasks"]
 
 
 def not_owners(walk: Walk) -> Iterator[Fault]:
-    owners = {
-        "link": {link["name"]: link.get("owner") for _, link in entries(walk.raw, "links")},
+    owners: dict[str, dict[str, str | None]] = {
+        "link": {link["name"]: link.get("owner") for _, link in entries(walk.raw["links"])},
         "task": {task["name"]: task["reporter"] for task in tasks(walk.raw)},
     }
-    for at, report in entries(walk.raw, "script"):
-        thing, _ = report_keys(report)
-        if report[thing] not in owners[thing]:
+    for at, report in entries(walk.raw["script"]):
+        thing, name = ("link", report["link"]) if "link" in report else ("task", report["task"])
+        if name not in owners[thing]:
             continue
-        owner = owners[thing][report[thing]]
+        owner = owners[thing][name]
         if owner != report["reporter"]:
             of = f'owned by "{owner}"' if owner else "without an owner"
             sentence = (
-                f"{thing} \"{report[thing]}\" is {of}, and \"{report['reporter']}\" may not"
-                " report it"
+                f"{thing} \"{name}\" is {of}, and \"{report['reporter']}\" may not report it"
             )
             fault = Fault(("script", at, "reporter"), sentence, owner and f'"{owner}"')
             yield fault.refused(f"11 not owner at entry {at}")
@@ -483,7 +520,7 @@ PASSES = (
 )
 
 
-def faults(raw, unread: frozenset[str] = frozenset()) -> Iterator[Fault]:
+def faults(raw: Looked, unread: frozenset[str] = frozenset()) -> Iterator[Fault]:
     """The faults of a document that has its shape: by their numbers, and of one number in the order
     of the walk. The first is the one that bwe refuses the document for.
     """
@@ -491,5 +528,5 @@ def faults(raw, unread: frozenset[str] = frozenset()) -> Iterator[Fault]:
     return (fault for look in PASSES for fault in look(walk))
 
 
-def first_fault(raw) -> Fault | None:
+def first_fault(raw: Looked) -> Fault | None:
     return next(faults(raw), None)

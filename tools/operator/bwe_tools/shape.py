@@ -5,14 +5,16 @@ from __future__ import annotations
 import json
 from collections.abc import Iterable, Iterator
 from functools import lru_cache
-from typing import Any
+from typing import Any, Protocol
 
 import jsonschema
+from jsonschema.exceptions import ValidationError
 
 from bwe_tools import hints, sound
 from bwe_tools.fault import Fault, pointer, walk_order
 from bwe_tools.json_text import shortened
 from bwe_tools.program import page_file
+from bwe_tools.raw import Place
 
 SCHEMA = page_file("bwe.schema.json")
 KINDS = {"integer": "a whole number", "string": "a text", "array": "a list", "object": "an object"}
@@ -25,8 +27,14 @@ NEWER = {
 }
 
 
+class Validator(Protocol):
+    """A validator of the schema's library."""
+
+    def iter_errors(self, instance: object) -> Iterator[ValidationError]: ...
+
+
 @lru_cache(maxsize=None)
-def validator():
+def validator() -> Validator:
     """The schema's validator, for which a whole number is what the format calls so: 1.0 and true
     are none.
     """
@@ -35,10 +43,11 @@ def validator():
     )
     made = jsonschema.validators.extend(jsonschema.Draft202012Validator, type_checker=kinds)
     schema = json.loads(SCHEMA.read_text(encoding="utf-8"))
-    return made(inlined(schema, schema.pop("$defs")))
+    checking: Validator = made(inlined(schema, schema.pop("$defs")))
+    return checking
 
 
-def inlined(schema, definitions: dict):
+def inlined(schema: Any, definitions: dict[str, Any]) -> Any:
     """A schema with each reference replaced by what it names, for a long document much the quicker
     one to check.
     """
@@ -56,7 +65,7 @@ def inlined(schema, definitions: dict):
     return parts
 
 
-def point_place(place: tuple) -> tuple | None:
+def point_place(place: Place) -> Place | None:
     """The place of the point of a function that a place is, or lies in."""
     for at in range(len(place) - 1):
         is_task_name = place[0] == "script"
@@ -65,41 +74,46 @@ def point_place(place: tuple) -> tuple | None:
     return None
 
 
-def fault_of(error, at: int | None = None) -> Fault | None:
+def rule_of(error: ValidationError) -> object:
+    """The key of the schema that a value breaks; None where the schema has False for it."""
+    return error.validator
+
+
+def fault_of(error: ValidationError, at: int | None = None) -> Fault | None:
     """The fault of shape that an error of the schema is; None where it is of another rule, as a
     range. `at` is the number of the entry of a list of the root that was looked at alone.
     """
-    place, value = tuple(error.absolute_path), error.instance
+    place: Place = tuple(error.absolute_path)
+    value, rule = error.instance, rule_of(error)
     if at is not None:
         place = (place[0], at, *place[2:])
     point = point_place(place)
     if point is not None and (
-        error.validator == "type"
-        or (place == point and error.validator in ("minItems", "maxItems"))
+        rule == "type"
+        or (place == point and rule in ("minItems", "maxItems"))
     ):
         return Fault(
             point, "a point of a function is a list of two whole numbers, share and amount"
         )
-    if error.validator == "type":
+    if rule == "type":
         return kind_fault(place, value, error.validator_value)
-    if error.validator == "required":
+    if rule == "required":
         missing = next(key for key in error.validator_value if key not in value)
         return Fault(
             place, f'the key "{missing}" is missing', missing_hint(missing, value, error.schema)
         )
-    if error.validator == "additionalProperties":
+    if rule == "additionalProperties":
         known = error.schema["properties"]
         extra = next(key for key in value if key not in known)
         return Fault(place, unknown_key(extra, place), key_hint(extra, value, known), key=extra)
-    if error.validator is None:
-        sentence = f'the key "{place[-1]}" is of {NEWER[place[-1]]} alone'
-        return Fault(
-            place[:-1], sentence, f"\"version\":{3 if place[-1] == 'weight' else 2}", key=place[-1]
-        )
+    if rule is None:
+        key = str(place[-1])
+        sentence = f'the key "{key}" is of {NEWER[key]} alone'
+        return Fault(place[:-1], sentence, f"\"version\":{3 if key == 'weight' else 2}", key=key)
     return None
 
 
-def kind_fault(place: tuple, value, kind: str) -> Fault:
+def kind_fault(place: Place, value: object, kind: str) -> Fault:
     written = getattr(value, "text", None) or json.dumps(value, ensure_ascii=False)
     what = f'"{place[-1]}" is' if place and isinstance(place[-1], str) else "this is"
     sentence = f"{what} {shortened(written)}, and has to be {KINDS[kind]}"
@@ -114,12 +128,12 @@ def kind_fault(place: tuple, value, kind: str) -> Fault:
     )
 
 
-def unknown_key(key: str, place: tuple) -> str:
+def unknown_key(key: str, place: Place) -> str:
     where = "a document" if not place else f"{pointer(place)}"
     return f"the key {json.dumps(shortened(key), ensure_ascii=False)} is none of {where}"
 
 
-def key_hint(key: str, value: dict, known: dict) -> str | None:
+def key_hint(key: str, value: dict[str, object], known: dict[str, object]) -> str | None:
     """The key that a misspelt one stands for: one that the object does not have yet."""
     if key in NEWER:
         return f"\"version\":{3 if key == 'weight' else 2}, as {key} is of {NEWER[key]} alone"
@@ -127,7 +141,7 @@ def key_hint(key: str, value: dict, known: dict) -> str | None:
     return meant and json.dumps(meant)
 
 
-def missing_hint(key: str, value: dict, schema: dict) -> str | None:
+def missing_hint(key: str, value: dict[str, object], schema: dict[str, Any]) -> str | None:
     """The misspelt key that stands in place of a missing one."""
     known = schema["properties"]
     if key == "task" and ("link" in value or "capacity" in value):
@@ -136,7 +150,7 @@ def missing_hint(key: str, value: dict, schema: dict) -> str | None:
     return written and f'"{key}" for {json.dumps(written, ensure_ascii=False)}'
 
 
-def faults(raw) -> list[Fault]:
+def faults(raw: object) -> list[Fault]:
     """The faults of shape in the order of the format's walk: the first is the one that bwe refuses
     the document for. Of one place there is one.
     """
@@ -145,16 +159,16 @@ def faults(raw) -> list[Fault]:
     return in_order(by_parts(raw) if type(raw) is dict else found_in(raw))
 
 
-def by_schema(raw) -> list[Fault]:
+def by_schema(raw: object) -> list[Fault]:
     """The same, without the short looks that tell what is sound."""
     return in_order(found_in(raw))
 
 
-def found_in(raw) -> Iterator[Fault]:
+def found_in(raw: object) -> Iterator[Fault]:
     return (fault for fault in map(fault_of, validator().iter_errors(raw)) if fault is not None)
 
 
-def found_in_entry(root: dict[str, Any], key: str, at: int, entry: Any) -> Iterator[Fault]:
+def found_in_entry(root: dict[str, Any], key: str, at: int, entry: object) -> Iterator[Fault]:
     """The faults of an entry of a list of the root, which stands there alone."""
     for error in validator().iter_errors({**root, key: [entry]}):
         fault = fault_of(error, at) if [*error.absolute_path][:2] == [key, 0] else None
@@ -183,5 +197,5 @@ def in_order(faults: Iterable[Fault]) -> list[Fault]:
     ]
 
 
-def first_fault(raw) -> Fault | None:
+def first_fault(raw: object) -> Fault | None:
     return next(iter(faults(raw)), None)

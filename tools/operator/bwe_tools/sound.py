@@ -7,7 +7,9 @@ Most documents are sound, and of one that is not most entries are.
 from __future__ import annotations
 
 from collections.abc import Callable, Iterable
-from typing import Any
+from typing import Any, TypeGuard, cast
+
+from bwe_tools.raw import RawDocument, RawPart
 
 LISTS = ("links", "groups", "reporters", "script", "closings")
 ROOT = frozenset(("version", "top", "links", "groups", "reporters", "script"))
@@ -21,10 +23,13 @@ DEMAND = frozenset(("reporter", "task", "demand"))
 CAPACITY = frozenset(("reporter", "link", "capacity"))
 CLOSING = frozenset(("link", "share"))
 NONE: frozenset[str] = frozenset()
+Members = dict[str, Any]  # an object of JSON whose values were not looked at
 FUNCTION = frozenset(("function",))
 
 
-def has(value: Any, required: frozenset[str], optional: frozenset[str] = NONE) -> bool:
+def has(
+    value: object, required: frozenset[str], optional: frozenset[str] = NONE
+) -> TypeGuard[Members]:
     """Whether it is an object with these keys and no others."""
     if type(value) is not dict:
         return False
@@ -32,33 +37,33 @@ def has(value: Any, required: frozenset[str], optional: frozenset[str] = NONE) -
     return keys == required or (required <= keys and keys <= required | optional)
 
 
-def are_texts(*values: Any) -> bool:
+def are_texts(*values: object) -> bool:
     return all(type(value) is str for value in values)
 
 
-def is_whole(value: Any) -> bool:
+def is_whole(value: object) -> TypeGuard[int]:
     return type(value) is int
 
 
-def is_list(value: Any) -> bool:
+def is_list(value: object) -> TypeGuard[list[Any]]:
     return type(value) is list
 
 
-def is_plain_task(task: Any) -> bool:
+def is_plain_task(task: object) -> bool:
     """A quick yes for a task without a weight, as most are: there may be a million."""
     if type(task) is not dict or len(task) != 2:
         return False
     return type(task.get("name")) is type(task.get("reporter")) is str
 
 
-def is_plain_demand(report: Any) -> bool:
+def is_plain_demand(report: object) -> bool:
     """A quick yes for a report of a demand."""
     if type(report) is not dict or len(report) != 3 or type(report.get("demand")) is not int:
         return False
     return type(report.get("reporter")) is type(report.get("task")) is str
 
 
-def is_function(value: Any) -> bool:
+def is_function(value: object) -> bool:
     return is_list(value) and all(
         type(point) is list and len(point) == 2 and type(point[0]) is type(point[1]) is int
         for point in value
@@ -69,18 +74,19 @@ class Shape:
     """The shape of the objects of a version; of version 4 and an unknown one that of version 3."""
 
     def __init__(self, version: int) -> None:
+        self.version = version
         self.link_options = NONE if version == 1 else frozenset(("owner",))
         self.task_options = NONE if version in (1, 2) else frozenset(("weight",))
         self.has_capacities = version != 1
 
-    def link(self, link: Any) -> bool:
+    def link(self, link: object) -> bool:
         return (
             has(link, LINK, self.link_options)
             and are_texts(link["name"], link["from"], link["to"], link.get("owner", ""))
             and is_whole(link["capacity"])
         )
 
-    def group(self, group: Any) -> bool:
+    def group(self, group: object) -> bool:
         return (
             has(group, GROUP, FUNCTION)
             and are_texts(group["name"], group["from"], group["to"])
@@ -92,7 +98,7 @@ class Shape:
         )
 
     @staticmethod
-    def path(path: Any) -> bool:
+    def path(path: object) -> bool:
         return (
             has(path, PATH)
             and is_whole(path["weight"])
@@ -100,7 +106,7 @@ class Shape:
             and are_texts(*path["links"])
         )
 
-    def user(self, user: Any) -> bool:
+    def user(self, user: object) -> bool:
         return (
             has(user, USER, FUNCTION)
             and are_texts(user["name"])
@@ -109,7 +115,7 @@ class Shape:
             and all(map(self.job, user["jobs"]))
         )
 
-    def job(self, job: Any) -> bool:
+    def job(self, job: object) -> bool:
         return (
             has(job, JOB, FUNCTION)
             and are_texts(job["name"])
@@ -119,14 +125,14 @@ class Shape:
             and all(is_plain_task(task) or self.task(task) for task in job["tasks"])
         )
 
-    def task(self, task: Any) -> bool:
+    def task(self, task: object) -> bool:
         return (
             has(task, TASK, self.task_options)
             and are_texts(task["name"], task["reporter"])
             and is_whole(task.get("weight", 1))
         )
 
-    def report(self, report: Any) -> bool:
+    def report(self, report: object) -> bool:
         if self.has_capacities and has(report, CAPACITY):
             return are_texts(report["reporter"], report["link"]) and is_whole(report["capacity"])
         return (
@@ -136,12 +142,12 @@ class Shape:
         )
 
     @staticmethod
-    def closing(closing: Any) -> bool:
+    def closing(closing: object) -> bool:
         return has(closing, CLOSING) and are_texts(closing["link"]) and is_whole(closing["share"])
 
-    def check_of(self, key: str) -> Callable[[Any], bool]:
+    def check_of(self, key: str) -> Callable[[object], bool]:
         """What tells whether an entry of a list of the root has its shape."""
-        checks: dict[str, Callable[[Any], bool]] = {
+        checks: dict[str, Callable[[object], bool]] = {
             "links": self.link,
             "groups": self.group,
             "reporters": are_texts,
@@ -151,7 +157,7 @@ class Shape:
         return checks[key]
 
 
-def is_shaped(raw: Any) -> bool:
+def is_shaped(raw: object) -> TypeGuard[RawDocument]:
     """Whether the document has the shape of its version ("The document", docs/FORMAT.md)."""
     if not has(raw, ROOT, frozenset(("closings",))):
         return False
@@ -164,7 +170,7 @@ def is_shaped(raw: Any) -> bool:
     )
 
 
-def unsound_entries(raw: dict[str, Any]) -> Iterable[tuple[str, int]]:
+def unsound_entries(raw: Members) -> Iterable[tuple[str, int]]:
     """The key and number of each entry of a list of the root that has not its shape."""
     shape = Shape(raw["version"] if is_whole(raw.get("version")) else 3)
     for key in LISTS:
@@ -174,30 +180,31 @@ def unsound_entries(raw: dict[str, Any]) -> Iterable[tuple[str, int]]:
                 yield key, at
 
 
-def sound_part(raw: Any) -> tuple[dict, frozenset[str]]:
+def sound_part(raw: object) -> tuple[RawPart, frozenset[str]]:
     """The document with None in the place of each entry without its shape, and what is missing or
     of another kind at the root filled in; and the names that stand in the entries left out.
     """
-    if type(raw) is not dict:
-        raw = {}
-    version = raw.get("version") if is_whole(raw.get("version")) else 3
-    top = raw.get("top") if is_whole(raw.get("top")) else 1_000_000_000
-    part: dict[str, Any] = {"version": version, "top": top}
-    shape, left_out = Shape(version), []
+    root: Members = raw if isinstance(raw, dict) else {}
+    version, top = root.get("version"), root.get("top")
+    shape = Shape(version if is_whole(version) else 3)
+    lists: dict[str, list[object]] = {}
+    left_out: list[object] = []
     for key in LISTS:
-        given = raw.get(key) if is_list(raw.get(key)) else []
+        given = root.get(key, [])
+        if not is_list(given):
+            left_out.append(given)
+            given = []
         has_shape = shape.check_of(key)
-        part[key] = [entry if has_shape(entry) else None for entry in given]
-        left_out += [entry for entry, kept in zip(given, part[key]) if kept is None]
-        if not is_list(raw.get(key, [])):
-            left_out.append(raw[key])
-    return part, frozenset(names_in(left_out))
+        lists[key] = [entry if has_shape(entry) else None for entry in given]
+        left_out += [entry for entry, kept in zip(given, lists[key]) if kept is None]
+    part: Members = {"version": shape.version, "top": top if is_whole(top) else 1_000_000_000}
+    return cast(RawPart, part | lists), frozenset(names_in(left_out))
 
 
-def names_in(value: Any) -> Iterable[str]:
+def names_in(value: object) -> Iterable[str]:
     """All texts in a value, whatever they stand for."""
-    if type(value) is str:
+    if isinstance(value, str):
         yield value
-    elif type(value) in (list, dict):
-        for member in value.values() if type(value) is dict else value:
+    elif isinstance(value, (list, dict)):
+        for member in value.values() if isinstance(value, dict) else value:
             yield from names_in(member)

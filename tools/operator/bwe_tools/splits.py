@@ -12,7 +12,7 @@ from functools import reduce
 from math import gcd
 
 import numpy
-from scipy import sparse  # type: ignore[import]
+from scipy import sparse
 
 from bwe_tools.curves import Floats
 from bwe_tools.document import Document, Group, Path

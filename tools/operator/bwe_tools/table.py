@@ -3,6 +3,7 @@
 from __future__ import annotations
 
 import re
+from collections.abc import Iterator
 from dataclasses import dataclass, field, replace
 
 from bwe_tools.document import ToolError
@@ -96,7 +97,7 @@ class Table:
         """The table as the program writes it."""
         return "".join(line + "\n" for line in self._lines())
 
-    def _lines(self):
+    def _lines(self) -> Iterator[str]:
         yield f"table {self.reports}" if self.tiers is None else f"tiers {self.reports}"
         for tier in [None] if self.tiers is None else range(self.tiers):
             if tier is not None:
@@ -148,16 +149,17 @@ class _Lines:
     def is_next(self, kind: str) -> bool:
         return self.at < len(self.lines) and self.lines[self.at].startswith(kind + " ")
 
-    def take(self, kind: str) -> tuple[str | None, ...]:
+    def take(self, kind: str) -> tuple[str, ...]:
+        """What the next line says, empty where it leaves something out."""
         if self.at >= len(self.lines):
             raise self.fault(f"the table ends where a `{kind}` line is due")
         match = FORMS[kind].fullmatch(self.lines[self.at])
         if match is None:
             raise self.fault(f"`{self.lines[self.at][:80]}` is no `{kind}` line")
         self.at += 1
-        return match.groups()
+        return match.groups("")
 
-    def take_all(self, kind: str):
+    def take_all(self, kind: str) -> Iterator[tuple[str, ...]]:
         while self.is_next(kind):
             yield self.take(kind)
 
@@ -170,7 +172,7 @@ def _take_group(lines: _Lines) -> GroupAmount:
         if int(place) != len(parts):
             lines.at -= 1
             raise lines.fault(f"place {len(parts)} of group {name} is due, and this is {place}")
-        parts.append(PathGroupAmount(int(part), closed_by))
+        parts.append(PathGroupAmount(int(part), closed_by or None))
     return GroupAmount(name, int(share), int(amount), parts)
 
 

@@ -8,6 +8,7 @@ import jsonschema
 
 from bwe_tools.document import ToolError
 from bwe_tools.program import page_file
+from bwe_tools.shape import Validator
 from bwe_tools.table import (
     Closing,
     GroupAmount,
@@ -21,8 +22,8 @@ from bwe_tools.table import (
 SCHEMA = page_file("table.schema.json")
 
 
-def table_to_json(table: Table) -> dict:
-    tiers = {} if table.tiers is None else {"tiers": table.tiers}
+def table_to_json(table: Table) -> dict[str, object]:
+    tiers: dict[str, object] = {} if table.tiers is None else {"tiers": table.tiers}
     return tiers | {
         "reports": table.reports,
         "closings": [_closing_to_json(closing) for closing in table.closings],
@@ -44,9 +45,9 @@ def table_to_json(table: Table) -> dict:
     }
 
 
-def _closing_to_json(closing: Closing) -> dict:
-    tier = {} if closing.tier is None else {"tier": closing.tier}
-    return {"link": closing.link, "share": closing.share} | tier
+def _closing_to_json(closing: Closing) -> dict[str, str | int]:
+    whole: dict[str, str | int] = {"link": closing.link, "share": closing.share}
+    return whole if closing.tier is None else whole | {"tier": closing.tier}
 
 
 def table_from_json(text: bytes, source: str = "the input") -> Table:
@@ -85,16 +86,17 @@ def table_from_json(text: bytes, source: str = "the input") -> Table:
 
 def _validate(whole: object, source: str) -> None:
     schema = json.loads(SCHEMA.read_text())
-    fault = jsonschema.exceptions.best_match(_validator()(schema).iter_errors(whole))
+    fault = jsonschema.exceptions.best_match(_validator(schema).iter_errors(whole))
     if fault is not None:
         place = "/" + "/".join(map(str, fault.absolute_path))
         raise ToolError(f"{source} is not the JSON of a table: at {place}: {fault.message[:200]}")
 
 
-def _validator():
+def _validator(schema: object) -> Validator:
     """Draft 2020-12, which takes 1.0 for an integer; here only numbers without a fraction are."""
     base = jsonschema.Draft202012Validator
     checker = base.TYPE_CHECKER.redefine(
         "integer", lambda _, value: isinstance(value, int) and not isinstance(value, bool)
     )
-    return jsonschema.validators.extend(base, type_checker=checker)
+    made: Validator = jsonschema.validators.extend(base, type_checker=checker)(schema)
+    return made

@@ -49,4 +49,4 @@ def in_words(text: str) -> int | None:
     if carrier := CARRIER.search(text):
         return whole(CARRIERS[carrier[1].lower()] * int(carrier[2]))
     found = IN_WORDS.search(text)
-    return found and whole(Decimal(found[1]) * SIZES[found[2].lower()])
+    return None if found is None else whole(Decimal(found[1]) * SIZES[found[2].lower()])

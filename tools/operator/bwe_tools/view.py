@@ -2,10 +2,11 @@
 
 from __future__ import annotations
 
-from collections.abc import Iterator, Mapping
+from collections.abc import Iterable, Iterator, Mapping
 from dataclasses import dataclass
+from typing import Protocol
 
-from bwe_tools.document import Document, Group, Job, Task, ToolError, User
+from bwe_tools.document import Document, Group, Job, Path, Task, ToolError, User
 from bwe_tools.rate import rate
 from bwe_tools.table import Closing, GroupAmount, Table
 
@@ -128,13 +129,18 @@ def view_of(
     return View(document.top, table.reports, table.total, links, groups, table.closings)
 
 
+class Named(Protocol):
+    @property
+    def name(self) -> str: ...
+
+
 def check_that_they_fit(document: Document, table: Table) -> None:
-    pairs = {
+    names: dict[str, tuple[Iterable[Named], Iterable[Named]]] = {
         "links": (document.links, table.links),
         "groups": (document.groups, table.groups),
-        "tasks": (list(document.tasks()), table.tasks),
+        "tasks": (document.tasks(), table.tasks),
     }
-    for what, (ours, theirs) in pairs.items():
+    for what, (ours, theirs) in names.items():
         if [one.name for one in ours] != [one.name for one in theirs]:
             raise ToolError(f"the table is of another document: its {what} are not the document's")
     for group, amount in zip(document.groups, table.groups):
@@ -198,7 +204,7 @@ def _group_view(
     )
 
 
-def _also(paths: tuple, over: frozenset[str]) -> tuple[str, ...]:
+def _also(paths: tuple[Path, ...], over: frozenset[str]) -> tuple[str, ...]:
     """The links of a path group, in their order, that were over with the one that closed it."""
     return tuple(dict.fromkeys(link for path in paths for link in path.links if link in over))
 
@@ -206,7 +212,15 @@ def _also(paths: tuple, over: frozenset[str]) -> tuple[str, ...]:
 class _Holders:
     """Says for the tasks of one group what holds each below its demand."""
 
-    def __init__(self, group, is_held, parts, demands, limits, links) -> None:
+    def __init__(
+        self,
+        group: Group,
+        is_held: bool,
+        parts: list[PathGroupView],
+        demands: dict[str, int],
+        limits: dict[str, int],
+        links: dict[str, LinkView],
+    ) -> None:
         self.group, self.demands, self.limits = group, demands, limits
         self.links = self._links(parts, links) if is_held else ""
         self.by_node: dict[int, str | None] = {}
@@ -243,7 +257,7 @@ class _Holders:
         if node.function is None:
             return None
         most = node.function[-1][1]
-        tasks = node.tasks if kind == "job" else list(node.tasks())
+        tasks = node.tasks if isinstance(node, Job) else tuple(node.tasks())
         given = sum(self.limits[task.name] for task in tasks)
         asked = sum(self.demands[task.name] for task in tasks)
         used_up = given * 1000 >= most * 999

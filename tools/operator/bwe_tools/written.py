@@ -10,10 +10,26 @@ from itertools import permutations
 from typing import Any
 
 from bwe_tools.document import ToolError, least_version
-from bwe_tools.limits import OF_4
+from bwe_tools.limits import OF_4, PLAIN
 from bwe_tools.network import Namer, kilometres
+from bwe_tools.raw import (
+    RawClosing,
+    RawDocument,
+    RawGroup,
+    RawJob,
+    RawLink,
+    RawPath,
+    RawReport,
+    RawTask,
+    RawUser,
+    made_group,
+    made_job,
+    made_task,
+    made_user,
+)
 from bwe_tools.routes import Routes
 from bwe_tools.rules import MOST_PATHS, MOST_SHARE, MOST_WEIGHT
+from bwe_tools.sound import is_whole
 from bwe_tools.toml_section import Section
 
 MEASURES = ("hops", "metric", "length")
@@ -48,7 +64,7 @@ def defaults_of(section: Section) -> Defaults:
 
 
 def measure_of(section: Section, default: str) -> str:
-    found = section.text("by", default)
+    found: str = section.text("by", default)
     if found not in MEASURES:
         raise section.fault(
             "by", f"paths are short by {', '.join(MEASURES[:-1])} or {MEASURES[-1]}"
@@ -58,7 +74,7 @@ def measure_of(section: Section, default: str) -> str:
 
 def switch_of(section: Section, key: str, default: bool) -> bool:
     found = section.value(key, default)
-    if type(found) is not bool:
+    if not isinstance(found, bool):
         raise section.fault(key, "this is true or false")
     return found
 
@@ -66,15 +82,15 @@ def switch_of(section: Section, key: str, default: bool) -> bool:
 class Written:
     """A document in the making: the parts that its groups are made from, and their names."""
 
-    def __init__(self, table: dict) -> None:
+    def __init__(self, table: dict[str, Any]) -> None:
         root = Section("", table)
         self.top = root.whole("top", 1, MOST_SHARE, 1_000_000)
         self.defaults = defaults_of(root.section("defaults"))
         self.places = dict(places_of(root.section("sites")))
-        self.links: list[dict] = []
+        self.links: list[RawLink] = []
         self.metrics: dict[str, int] = {}
-        self.script: list[dict] = []
-        self.capacities: list[dict] = []
+        self.script: list[RawReport] = []
+        self.capacities: list[RawReport] = []
         self.reporters: dict[str, None] = {}
         self.group_names, self.task_names = Namer(), Namer()
         for section in root.sections("links"):
@@ -85,17 +101,20 @@ class Written:
         self.closings = [closing_of(section) for section in root.sections("closings")]
         root.end()
 
-    def raw(self) -> dict:
-        closings = {"closings": self.closings} if self.closings else {}
+    def raw(self) -> RawDocument:
         owners = dict.fromkeys(link["owner"] for link in self.links if "owner" in link)
-        parts = {
+        raw: RawDocument = {
+            "version": PLAIN,
             "top": self.top,
             "links": self.links,
             "groups": self.groups,
             "reporters": list(self.reporters | owners),
             "script": self.script + self.capacities,
-        } | closings
-        return {"version": least_version(parts)} | parts
+        }
+        if self.closings:
+            raw["closings"] = self.closings
+        raw["version"] = least_version(raw)
+        return raw
 
     # ---- links
 
@@ -112,8 +131,10 @@ class Written:
         for source, target in [ends, ends[::-1]] if is_both else [ends]:
             is_back = (source, target) != ends
             own = f"{name}-back" if name and is_back else name or f"{source}_{target}"
-            link = {"name": own, "from": source, "to": target, "capacity": capacity}
-            self.links.append(link | ({"owner": owner} if owner else {}))
+            link: RawLink = {"name": own, "from": source, "to": target, "capacity": capacity}
+            if owner:
+                link["owner"] = owner
+            self.links.append(link)
             self.metrics[own] = metric
             if reported is not None:
                 self.capacities.append({"reporter": owner, "link": own, "capacity": reported})
@@ -126,7 +147,7 @@ class Written:
 
     # ---- groups
 
-    def groups_of(self, section: Section) -> Iterator[dict]:
+    def groups_of(self, section: Section) -> Iterator[RawGroup]:
         """The groups of a table: one, one each way, or one for each pair of sites."""
         name = section.name("name", None)
         pairs = self.pairs_of(section)
@@ -138,10 +159,9 @@ class Written:
         is_disjoint = switch_of(section, "disjoint", self.defaults.is_disjoint)
         for source, target in pairs:
             own = self.group_names.name(name or f"{source}_{target}")
-            ends = {"name": own, "from": source, "to": target}
-            given = {"function": function} if function is not None else {}
             ways = self.paths_of(section, paths, (source, target), by, is_disjoint)
-            yield ends | given | {"paths": ways, "users": self.users_of(section, own)}
+            users = self.users_of(section, own)
+            yield made_group(own, (source, target), function, ways, users)
         section.end()
 
     def pairs_of(self, section: Section) -> list[tuple[str, str]]:
@@ -150,19 +170,20 @@ class Written:
             return [ends, ends[::-1]] if is_both else [ends]
         pairs, where = section.value("pairs"), section.place("pairs")
         if pairs == "all":
-            ends = [link[end] for link in self.links for end in ("from", "to")]
-            return list(permutations(dict.fromkeys([*self.places, *ends]), 2))
+            named = [site for link in self.links for site in (link["from"], link["to"])]
+            sites = dict.fromkeys([*self.places, *named])
+            return [(one, other) for one, other in permutations(sites, 2)]
         if not isinstance(pairs, list):
             raise section.fault("pairs", 'this is "all", or a list of pairs of sites')
         return [pair_of(pair, f"{where}[{at}]") for at, pair in enumerate(pairs)]
 
     def paths_of(
-        self, section: Section, paths: Any, ends: tuple[str, str], by: str, is_disjoint: bool
-    ) -> list:
+        self, section: Section, paths: object, ends: tuple[str, str], by: str, is_disjoint: bool
+    ) -> list[list[RawPath]]:
         if isinstance(paths, list):
             where = section.place("paths")
             return [path_group_of(entry, f"{where}[{at}]") for at, entry in enumerate(paths)]
-        if type(paths) is not int or not 1 <= paths <= MOST_PATHS:
+        if not is_whole(paths) or not 1 <= paths <= MOST_PATHS:
             sentence = f"this is how many shortest paths, 1 to {MOST_PATHS}, or a list of them"
             raise section.fault("paths", sentence)
         ways = self.disjoint(ends, paths, by) if is_disjoint else self.shortest(ends, paths, by)
@@ -185,43 +206,42 @@ class Written:
             ways += found
         return ways
 
-    def routes(self, links: list[dict], by: str) -> Routes:
+    def routes(self, links: list[RawLink], by: str) -> Routes:
         lengths = None if by == "hops" else {link["name"]: self.length(link, by) for link in links}
         return Routes([(link["name"], link["from"], link["to"]) for link in links], lengths)
 
-    def length(self, link: dict, by: str) -> float:
+    def length(self, link: RawLink, by: str) -> float:
         if by == "metric":
             return self.metrics[link["name"]]
-        unknown = next((link[end] for end in ("from", "to") if link[end] not in self.places), None)
+        ends = link["from"], link["to"]
+        unknown = next((site for site in ends if site not in self.places), None)
         if unknown is not None:
             raise ToolError(f"sites.{unknown}: paths by length need the coordinates of each site")
-        return kilometres(self.places[link["from"]], self.places[link["to"]])
+        return kilometres(self.places[ends[0]], self.places[ends[1]])
 
     # ---- users, jobs and tasks
 
-    def users_of(self, section: Section, group: str) -> list[dict]:
+    def users_of(self, section: Section, group: str) -> list[RawUser]:
         users = [self.user_of(user, group) for user in section.sections("users")]
         return users or [{"name": "all", "jobs": [self.job_of(section, group, "all")]}]
 
-    def user_of(self, section: Section, group: str) -> dict:
+    def user_of(self, section: Section, group: str) -> RawUser:
         name = section.name("name")
         function = section.function("function", None)
         jobs = [self.own_job_of(job, f"{group}-{name}") for job in section.sections("jobs")]
         jobs = jobs or [self.job_of(section, f"{group}-{name}", "all")]
         section.end()
-        given = {"function": function} if function is not None else {}
-        return {"name": name} | given | {"jobs": jobs}
+        return made_user(name, function, jobs)
 
-    def own_job_of(self, section: Section, prefix: str) -> dict:
+    def own_job_of(self, section: Section, prefix: str) -> RawJob:
         """The job of a table of its own."""
         name = section.name("name")
         function = section.function("function", None)
         job = self.job_of(section, f"{prefix}-{name}", name)
         section.end()
-        given = {"function": function} if function is not None else {}
-        return {"name": name} | given | {key: job[key] for key in ("task", "tasks")}
+        return made_job(name, function, job["task"], job["tasks"])
 
-    def job_of(self, section: Section, prefix: str, name: str) -> dict:
+    def job_of(self, section: Section, prefix: str, name: str) -> RawJob:
         """A job by what a table says of its tasks: that of a job, or of a user or group without
         jobs of their own.
         """
@@ -231,11 +251,12 @@ class Written:
         for task, demand in tasks:
             self.reporters[task["reporter"]] = None
             if demand is not None:
-                report = {"reporter": task["reporter"], "task": task["name"], "demand": demand}
-                self.script.append(report)
+                self.script.append(
+                    {"reporter": task["reporter"], "task": task["name"], "demand": demand}
+                )
         return {"name": name, "task": given, "tasks": [task for task, _ in tasks]}
 
-    def tasks_of(self, section: Section, prefix: str) -> Iterator[tuple[dict, int | None]]:
+    def tasks_of(self, section: Section, prefix: str) -> Iterator[tuple[RawTask, int | None]]:
         """The tasks of a job, each with its demand: as many alike ones, or a table for each."""
         demand = section.rate("demand", self.defaults.demand)
         weight = section.whole("weight", 1, MOST_WEIGHT, 1)
@@ -245,18 +266,14 @@ class Written:
             count = section.whole("tasks", 1, OF_4.tasks, 1)
             for number in range(count):
                 text = prefix if count == 1 else f"{prefix}-{number}"
-                yield task_of(self.task_names.name(text), reporter, weight), demand
+                yield made_task(self.task_names.name(text), reporter, weight), demand
             return
         for task in section.sections("tasks"):
             name = self.task_names.name(task.name("name"))
             own = task.rate("demand", demand)
             of = task.name("reporter", reporter), task.whole("weight", 1, MOST_WEIGHT, weight)
             task.end()
-            yield task_of(name, *of), own
-
-
-def task_of(name: str, reporter: str, weight: int) -> dict:
-    return {"name": name, "reporter": reporter} | ({"weight": weight} if weight != 1 else {})
+            yield made_task(name, *of), own
 
 
 def places_of(section: Section) -> Iterator[tuple[str, tuple[float, float]]]:
@@ -285,7 +302,7 @@ def pair_of(value: object, where: str) -> tuple[str, str]:
     return value[0], value[1]
 
 
-def path_group_of(entry: object, where: str) -> list[dict]:
+def path_group_of(entry: object, where: str) -> list[RawPath]:
     """A path group: the names of the links of its one path, or a table for each weighted path."""
     if isinstance(entry, list) and entry and all(isinstance(link, str) for link in entry):
         return [{"weight": 1, "links": entry}]
@@ -294,7 +311,7 @@ def path_group_of(entry: object, where: str) -> list[dict]:
     return [path_of(Section(f"{where}[{at}]", path)) for at, path in enumerate(entry)]
 
 
-def path_of(section: Section) -> dict:
+def path_of(section: Section) -> RawPath:
     weight = section.whole("weight", 1, MOST_WEIGHT, 1)
     links = section.value("links")
     if not isinstance(links, list) or not all(isinstance(link, str) for link in links):
@@ -303,7 +320,7 @@ def path_of(section: Section) -> dict:
     return {"weight": weight, "links": links}
 
 
-def closing_of(section: Section) -> dict:
-    found = {"link": section.name("link"), "share": section.whole("share", 0, MOST_SHARE)}
+def closing_of(section: Section) -> RawClosing:
+    found: RawClosing = {"link": section.name("link"), "share": section.whole("share", 0, MOST_SHARE)}
     section.end()
     return found

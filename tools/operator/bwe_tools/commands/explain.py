@@ -111,8 +111,8 @@ def _group(group: GroupView) -> Iterator[str]:
         else f" (its tasks want {rate(group.demand)}, its functions allow that)"
     )
     yield f"  asks  {rate(group.asks)}{below}"
-    part = percent(group.amount, group.asks)
-    yield f"  gets  {rate(group.amount)}, {part}, at share {group.share}"
+    of_asks = percent(group.amount, group.asks)
+    yield f"  gets  {rate(group.amount)}, {of_asks}, at share {group.share}"
     for place, part in enumerate(group.path_groups):
         yield f"  path group {place}: {rate(part.amount)} by {_paths(part)}, {_state(part, group)}"
 

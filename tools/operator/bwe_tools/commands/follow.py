@@ -2,15 +2,15 @@
 
 from __future__ import annotations
 
-import json
 import os
 import sys
+from dataclasses import replace
 from pathlib import Path
 
 import click
 
 from bwe_tools.commands.metrics import metrics_of_table, metrics_text
-from bwe_tools.document import Document, ToolError, of_raw, least_version, to_raw
+from bwe_tools.document import Document, ToolError, document_text, least_version, to_raw
 from bwe_tools.files import named, read_document
 from bwe_tools.holders import held_view
 from bwe_tools.live_answers import Answers, Standing
@@ -46,20 +46,20 @@ def command(document: str, folder: Path, title: str | None, tasks: int) -> None:
 
 
 def keep(folder: Path, document: Document, standing: Standing, title: str, tasks: int) -> None:
-    replace(folder / "table.txt", standing.table.text())
-    replace(folder / "bwe.prom", metrics_text(metrics_of_table(standing.table)))
+    put(folder / "table.txt", standing.table.text())
+    put(folder / "bwe.prom", metrics_text(metrics_of_table(standing.table)))
     if standing.reports is None:
         return
     # Only the last report of each task and link counts, so these stand for all.
-    raw = {**to_raw(document), "script": list(standing.reports)}
-    raw["version"] = least_version(raw)
-    current = of_raw(raw)
+    current = replace(document, script=standing.reports)
+    current = replace(current, version=least_version(to_raw(current)))
     table = standing.table.with_reports(len(standing.reports))
-    values = values_at_top(json.dumps(raw).encode(), "the document with the reports of bwe-live")
-    replace(folder / "page.html", page(held_view(current, table, values), title, [], tasks))
+    text, what = document_text(current).encode(), "the document with the reports of bwe-live"
+    view = held_view(current, table, values_at_top(text, what))
+    put(folder / "page.html", page(view, title, [], tasks))
 
 
-def replace(file: Path, text: str) -> None:
+def put(file: Path, text: str) -> None:
     """Puts a text into a file at once."""
     beside = file.with_name(f".{file.name}.new")
     try:

@@ -5,6 +5,7 @@ from __future__ import annotations
 import click
 
 from bwe_tools import convert
+from bwe_tools.convert import Choices
 from bwe_tools.document import ToolError
 from bwe_tools.network import Line, Network, rate
 from bwe_tools.rows import cell, read_demands, rows
@@ -21,7 +22,9 @@ from bwe_tools.rows import cell, read_demands, rows
     help="What a number without a unit counts: kbit/s, Mbit/s, Gbit/s or Tbit/s.",
 )
 @convert.options
-def command(links, demands, unit, choices, map_file):
+def command(
+    links: str, demands: str | None, unit: str, choices: Choices, map_file: str | None
+) -> None:
     """Make a document of two spreadsheets, saved as CSV, and write it to standard output.
 
     LINKS has the columns from, to and capacity, and may have name and length. DEMANDS has from, to
@@ -40,12 +43,11 @@ def command(links, demands, unit, choices, map_file):
 def read_links(path: str, plain: str) -> Network:
     network = Network()
     for where, row in rows(path, ("from", "to"), ("from", "to", "capacity", "name", "length")):
-        ends = [cell(row, end, where) for end in ("from", "to")]
-        network.sites.update(zip(ends, ends))
+        source, target = cell(row, "from", where), cell(row, "to", where)
+        network.sites |= {source: source, target: target}
         capacity = rate(row["capacity"], where, plain) if "capacity" in row else None
-        network.lines.append(
-            Line(*ends, capacity, row.get("name"), length(row.get("length"), where))
-        )
+        named, reach = row.get("name"), length(row.get("length"), where)
+        network.lines.append(Line(source, target, capacity, named, reach))
     return network
 
 

@@ -3,15 +3,18 @@
 from __future__ import annotations
 
 import io
+from collections.abc import Mapping
 from math import isfinite
+from typing import Any
 from xml.etree.ElementTree import ParseError
 
 import click
 import networkx
 
 from bwe_tools import convert, units
+from bwe_tools.convert import Choices
 from bwe_tools.document import ToolError, read_bytes
-from bwe_tools.network import Line, Network, rate
+from bwe_tools.network import Line, Network, Spot, rate
 from bwe_tools.rows import read_demands
 
 PLAIN_KEYS = ("capacity", "bandwidth", "speed")
@@ -33,7 +36,9 @@ PLAIN_KEYS = ("capacity", "bandwidth", "speed")
     ),
 )
 @convert.options
-def command(file, demands, unit, choices, map_file):
+def command(
+    file: str, demands: str | None, unit: str, choices: Choices, map_file: str | None
+) -> None:
     """Make a document of a GraphML file and write it to standard output.
 
     Sites are named by their labels. A link's capacity is the first of LinkSpeedRaw (bit/s),
@@ -73,7 +78,8 @@ def read_graph(path: str, plain: str) -> Network:
     return network
 
 
-def place_of(node: dict):
+def place_of(node: Mapping[str, Any]) -> Spot | None:
+    """The place of a node, where it has two numbers for it."""
     try:
         east, north = float(node["Longitude"]), float(node["Latitude"])
     except (KeyError, TypeError, ValueError):
@@ -81,7 +87,7 @@ def place_of(node: dict):
     return (east, north) if isfinite(east) and isfinite(north) else None
 
 
-def capacity_of(edge: dict, where: str, plain: str) -> int | None:
+def capacity_of(edge: Mapping[str, object], where: str, plain: str) -> int | None:
     """The capacity of an edge in kb/s; None where it says nothing, or 0."""
     if edge.get("LinkSpeedRaw"):
         return rate(str(edge["LinkSpeedRaw"]), where, "")

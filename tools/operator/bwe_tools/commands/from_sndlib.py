@@ -10,6 +10,7 @@ from xml.etree import ElementTree
 import click
 
 from bwe_tools import convert, units
+from bwe_tools.convert import Choices
 from bwe_tools.document import ToolError, read_bytes
 from bwe_tools.network import Demand, Line, Network
 
@@ -25,7 +26,7 @@ SECTION = re.compile(r"^([A-Z_]+)\s*\(\s*$(.*?)^\)\s*$", re.MULTILINE | re.DOTAL
     help="What its numbers count: kbit/s to Tbit/s.  [default: what the file says, else M]",
 )
 @convert.options
-def command(file, unit, choices, map_file):
+def command(file: str, unit: str | None, choices: Choices, map_file: str | None) -> None:
     """Make a document of a network of SNDlib and write it to standard output.
 
     The file is SNDlib's XML or its native text. A link's capacity is the pre-installed one; where
@@ -53,7 +54,7 @@ def read_network(path: str, unit: str | None) -> Network:
 class Reader:
     """Fills a network, and says where a number or a name of the file is at fault."""
 
-    def __init__(self, path: str, unit: str):
+    def __init__(self, path: str, unit: str) -> None:
         self.path, self.size, self.network = path, units.SIZES[unit], Network()
 
     def number(self, text: str, where: str) -> Decimal:
@@ -74,7 +75,7 @@ class Reader:
             )
         return amount
 
-    def place(self, key: str, east: str, north: str):
+    def place(self, key: str, east: str, north: str) -> None:
         try:
             self.network.places[key] = float(east), float(north)
             if not all(map(isfinite, self.network.places[key])):
@@ -84,20 +85,27 @@ class Reader:
                 f"{self.path}: node \"{key}\": its coordinates are no numbers"
             ) from None
 
-    def link(self, key: str, source: str, target: str, installed: str | None, modules: list):
+    def link(
+        self, key: str, source: str, target: str, installed: str | None, modules: list[str]
+    ) -> None:
         where = f"link \"{key}\""
-        ends = [self.network.site(end, f"{self.path}: {where}") for end in (source, target)]
+        ends = self.ends(source, target, where)
         sizes = [self.number(size, where) for size in ([installed] if installed else []) + modules]
         capacity = next((self.amount(size, where) for size in sizes if size > 0), None)
         self.network.lines.append(Line(*ends, capacity))
 
-    def demand(self, key: str, source: str, target: str, unit: str, value: str):
+    def demand(self, key: str, source: str, target: str, unit: str, value: str) -> None:
         where = f"demand \"{key}\""
-        ends = [self.network.site(end, f"{self.path}: {where}") for end in (source, target)]
+        ends = self.ends(source, target, where)
         if ends[0] == ends[1]:
             raise ToolError(f"{self.path}: {where} goes from \"{source}\" to itself")
         amount = self.amount(self.number(unit, where) * self.number(value, where), where)
         self.network.demands.append(Demand(*ends, amount))
+
+    def ends(self, source: str, target: str, where: str) -> tuple[str, str]:
+        """The keys of the two sites of a link or a demand."""
+        at = f"{self.path}: {where}"
+        return self.network.site(source, at), self.network.site(target, at)
 
 
 def read_xml(text: str, path: str, unit: str | None) -> Network:
@@ -109,7 +117,8 @@ def read_xml(text: str, path: str, unit: str | None) -> Network:
         element.tag = str(element.tag).rpartition("}")[2]
     if root.tag != "network":
         raise ToolError(f"{path} is no network of SNDlib: its first element is \"{root.tag}\"")
-    reader = Reader(path, unit or UNITS.get(root.findtext("meta/unit", "").strip(), "m"))
+    own_unit = UNITS.get(root.findtext("meta/unit", "").strip(), "m")
+    reader = Reader(path, unit or own_unit)
     for node in root.iterfind("networkStructure/nodes/node"):
         key = attribute(node, "id", path)
         reader.network.sites[key] = key
@@ -134,13 +143,13 @@ def read_xml(text: str, path: str, unit: str | None) -> Network:
     return reader.network
 
 
-def attribute(element, name: str, path: str) -> str:
+def attribute(element: ElementTree.Element, name: str, path: str) -> str:
     if name not in element.attrib:
         raise ToolError(f"{path}: a {element.tag} has no {name}")
     return element.attrib[name]
 
 
-def child(element, name: str, path: str) -> str:
+def child(element: ElementTree.Element, name: str, path: str) -> str:
     found = element.findtext(name)
     if found is None:
         raise ToolError(f"{path}: {element.tag} \"{element.get('id')}\" has no {name}")
@@ -154,7 +163,8 @@ def read_native(text: str, path: str, unit: str | None) -> Network:
     if "NODES" not in sections or "LINKS" not in sections:
         raise ToolError(f"{path} is no network of SNDlib: it has no sections NODES and LINKS")
     meta = re.search(r"^\s*unit\s*=\s*(\w+)", sections.get("META", ""), re.MULTILINE)
-    reader = Reader(path, unit or UNITS.get(meta[1] if meta else "", "m"))
+    own_unit = UNITS.get(meta[1] if meta else "", "m")
+    reader = Reader(path, unit or own_unit)
     for words in lines(sections["NODES"]):
         reader.network.sites[words[0]] = words[0]
         if len(words) == 5:
@@ -168,13 +178,15 @@ def read_native(text: str, path: str, unit: str | None) -> Network:
     return reader.network
 
 
-def lines(section: str):
+def lines(section: str) -> list[list[str]]:
     """The lines of a section as words; a parenthesis is a word."""
     words = (re.sub(r"([()])", r" \1 ", line).split() for line in section.splitlines())
     return [line for line in words if line]
 
 
-def fields(words: list, path: str, kind: str, least: int):
+def fields(
+    words: list[str], path: str, kind: str, least: int
+) -> tuple[str, str, str, str, list[str]]:
     """Key, source, target, first number and the rest of `KEY ( SOURCE TARGET ) NUMBER ..`."""
     if len(words) < least or words[1] != "(" or words[4] != ")":
         raise ToolError(

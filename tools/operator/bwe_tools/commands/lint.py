@@ -27,7 +27,7 @@ MOST_FAULTS = 20
     help=f"Print all that is found, and not the first {MOST_FAULTS} faults and the first"
     f" {MOST_OF_A_KIND} warnings of a kind.",
 )
-def command(file, is_all):
+def command(file: str, is_all: bool) -> None:
     """Say why bwe refuses a document: all its faults with line and column and what was likely
     meant. The first is the one that bwe names, with the row that bwe itself prints. Of a document
     that bwe accepts, warn of what is allowed and likely not meant: tasks that are never reported,
@@ -62,10 +62,12 @@ def command(file, is_all):
     progress.stage("looking for what was likely not meant")
     kinds = advice.warnings(raw)
     progress.end()
-    places = json_text.Places(text) if any(kinds) else None
+    if not any(kinds):
+        return
+    places = json_text.Places(text)
     for warnings in kinds:
         tell_warnings(file, places, warnings, len(warnings) if is_all else MOST_OF_A_KIND)
-    sys.exit(1 if any(kinds) else 0)
+    sys.exit(1)
 
 
 def read_text(file: str) -> tuple[str, int]:
@@ -90,11 +92,17 @@ def tell_not_json(file: str, text: str, size: int, fault: json_text.NotJson) -> 
 def tell_too_long(file: str, most: int) -> NoReturn:
     sentence = f"longer than {most:,} bytes"
     meant = '"version":4, of which a document may be longer' if most == BEFORE_4.size else None
-    tell(file, "", sentence, meant, f"refused input longer than {most} bytes")
+    tell(file, None, sentence, meant, f"refused input longer than {most} bytes")
     sys.exit(2)
 
 
-def tell_faults(file, places, first: Fault, others: Iterator[Fault], most: int | None) -> None:
+def tell_faults(
+    file: str,
+    places: json_text.Places,
+    first: Fault,
+    others: Iterator[Fault],
+    most: int | None,
+) -> None:
     tell(file, position_of(places, first), first.sentence, first.meant, first.refusal)
     left = 0
     for number, fault in enumerate(others, 2):
@@ -111,13 +119,22 @@ def position_of(places: json_text.Places, fault: Fault) -> json_text.Position:
     return places.position_of(place, fault.key is not None)
 
 
-def tell(file, where, sentence, meant, refusal=None) -> None:
+def tell(
+    file: str,
+    where: json_text.Position | None,
+    sentence: str,
+    meant: str | None,
+    refusal: str | None = None,
+) -> None:
     hint = f"; did you mean {meant}?" if meant else ""
     line = f" (bwe: {refusal})" if refusal else ""
-    click.echo(f"{file}:{where}{':' if where else ''} fault: {sentence}{hint}{line}")
+    position = "" if where is None else f"{where}:"
+    click.echo(f"{file}:{position} fault: {sentence}{hint}{line}")
 
 
-def tell_warnings(file, places, found, most) -> None:
+def tell_warnings(
+    file: str, places: json_text.Places, found: list[advice.Advice], most: int
+) -> None:
     for warning in found[:most]:
         click.echo(f"{file}:{places.position_of(warning.place)}: warning: {warning.sentence}")
     if len(found) > most:

@@ -2,11 +2,21 @@
 
 from __future__ import annotations
 
-from typing import Any
+from dataclasses import replace
 
 import click
 
-from bwe_tools.document import ToolError, first_fault, read_bytes, text_of, to_raw
+from bwe_tools.document import (
+    Function,
+    Group,
+    Job,
+    ToolError,
+    User,
+    first_fault,
+    read_bytes,
+    text_of,
+    to_raw,
+)
 from bwe_tools.files import named, read_document
 from bwe_tools.rules import MOST_SHARE
 
@@ -28,15 +38,14 @@ def command(document: str, tiers: str) -> None:
     Example: bwe-tools prioritize examples/shared-link.json examples/shared-link.tiers | bwe solve
     """
     _, parsed = read_document(document)
-    whole = to_raw(parsed)
-    groups = whole["groups"]
-    digits = digits_of(read_bytes(tiers), len(groups), named(tiers))
+    digits = digits_of(read_bytes(tiers), len(parsed.groups), named(tiers))
     top = parsed.top * (max(digits, default=0) + 1)
     if top > MOST_SHARE:
         raise ToolError(f"the tiers need a top of {top:,}, and the greatest is {MOST_SHARE:,}")
-    later = [moved(group, digit * parsed.top) for group, digit in zip(groups, digits)]
-    raw = {**whole, "top": top, "groups": later}
-    raw.pop("closings", None)
+    groups = tuple(
+        moved_group(group, digit * parsed.top) for group, digit in zip(parsed.groups, digits)
+    )
+    raw = to_raw(replace(parsed, top=top, groups=groups, closings=()))
     fault = first_fault(raw)
     if fault is not None:
         raise ToolError(
@@ -55,19 +64,27 @@ def digits_of(text: bytes, groups: int, name: str) -> list[int]:
     return [int(digit) for digit in line[:-1]]
 
 
-def moved(node: dict[str, Any], shares: int) -> dict[str, Any]:
-    """A group, user or job whose functions, and those below it, begin so many shares later."""
-    changed = dict(node)
-    for key in ("function", "task"):
-        if key in node:
-            changed[key] = begun_later(node[key], shares)
-    for key in ("users", "jobs"):
-        if key in node:
-            changed[key] = [moved(child, shares) for child in node[key]]
-    return changed
+def moved_group(group: Group, shares: int) -> Group:
+    """A group whose functions, and those of its users and jobs, begin so many shares later."""
+    users = tuple(moved_user(user, shares) for user in group.users)
+    return replace(group, function=own_moved(group.function, shares), users=users)
 
 
-def begun_later(points: list, shares: int) -> list:
+def moved_user(user: User, shares: int) -> User:
+    jobs = tuple(moved_job(job, shares) for job in user.jobs)
+    return replace(user, function=own_moved(user.function, shares), jobs=jobs)
+
+
+def moved_job(job: Job, shares: int) -> Job:
+    own, each = own_moved(job.function, shares), moved(job.task_function, shares)
+    return replace(job, function=own, task_function=each)
+
+
+def own_moved(function: Function | None, shares: int) -> Function | None:
+    return None if function is None else moved(function, shares)
+
+
+def moved(function: Function, shares: int) -> Function:
     if shares == 0:
-        return points
-    return [[0, 0], *([share + shares, amount] for share, amount in points)]
+        return function
+    return ((0, 0), *((share + shares, amount) for share, amount in function))

@@ -7,7 +7,7 @@ from decimal import Decimal
 
 import click
 
-from bwe_tools.document import Document, Group, Job, Link, User
+from bwe_tools.document import Document, Function, Group, Job, Link, Path, User
 from bwe_tools.files import read_document
 
 
@@ -61,7 +61,7 @@ def _group(group: Group, asked: dict[str, int]) -> Iterator[str]:
         yield from _user(user, asked)
 
 
-def _path_group(paths: tuple) -> str:
+def _path_group(paths: tuple[Path, ...]) -> str:
     if len(paths) == 1 and paths[0].weight == 1:
         return _texts(paths[0].links)
     whole = (f"{{ weight = {path.weight}, links = {_texts(path.links)} }}" for path in paths)
@@ -90,13 +90,13 @@ def _job(job: Job, asked: dict[str, int]) -> Iterator[str]:
     yield "]"
 
 
-def _function(key: str, points: list | None) -> Iterator[str]:
+def _function(key: str, points: Function | None) -> Iterator[str]:
     if points is not None:
         whole = ", ".join(f"[{share}, {_rate(amount)}]" for share, amount in points)
         yield f"{key} = [{whole}]"
 
 
-def _texts(names: tuple) -> str:
+def _texts(names: tuple[str, ...]) -> str:
     return "[" + ", ".join(f'"{name}"' for name in names) + "]"
 
 
