@@ -59,7 +59,8 @@ class EtcdStore:
         answer = self._wire.write(
             lambda channel, seconds: rpc.KVStub(channel).Txn(
                 request, timeout=2 * seconds, metadata=NEEDS_LEADER
-            )
+            ),
+            size=request.ByteSize(),
         )
         return Outcome(answer.succeeded, answer.header.revision)
 

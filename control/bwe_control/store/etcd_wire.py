@@ -35,6 +35,8 @@ __all__ = ["NEEDS_LEADER", "Wire", "endpoints_of", "grpc", "rpc"]
 log = logging.getLogger(__name__)
 
 SHORTEST, LONGEST = 1.5, 6.0  # seconds that a member has for an answer: more after each failure
+SLOWEST = 30.0  # the same where the member is there, and only the answer is not
+SPEED = 4_000_000  # bytes that go in a second, at least: a longer request or answer has more time
 NEEDS_LEADER = (("hasleader", "true"),)
 OPTIONS = [
     ("grpc.max_receive_message_length", -1),
@@ -81,41 +83,48 @@ class Wire:
         self._credentials: Any = _credentials(tls) if tls else None
         self._at, self._channel, self._cluster = 0, None, 0
         self._patience = SHORTEST
+        self._greatest = 0  # bytes of the longest answer so far
 
     def read(self, call: Callable[[Any, float], Any]) -> Any:
         """Asks the members in turn, each once, until one answers. `call` gets channel and time."""
         fault: StoreError = StoreAway("the store has no member")
         for _ in range(len(self.endpoints) + 1):
             try:
-                return self._answered(call)
+                return self._answered(call, self._greatest)
             except (StoreAway, OutcomeUnknown) as away:
                 fault = away if isinstance(away, StoreAway) else StoreAway(str(away))
                 if isinstance(away, StoreChanged):
                     raise
         raise fault
 
-    def write(self, call: Callable[[Any, float], Any]) -> Any:
-        """Asks the members in turn until the request has gone out; it is not sent twice."""
+    def write(self, call: Callable[[Any, float], Any], size: int = 0) -> Any:
+        """Asks the members in turn until the request, of so many bytes, has gone out.
+
+        It is not sent twice.
+        """
         fault: StoreAway = StoreAway("the store has no member")
         for _ in range(len(self.endpoints) + 1):
             try:
-                return self._answered(call)
+                return self._answered(call, size)
             except StoreChanged:
                 raise
             except StoreAway as away:
                 fault = away
         raise fault
 
-    def _answered(self, call: Callable[[Any, float], Any]) -> Any:
+    def _answered(self, call: Callable[[Any, float], Any], size: int) -> Any:
         channel = self.channel()
         try:
-            answer = call(channel, self._patience)
+            answer = call(channel, self._patience + size / SPEED)
         except grpc.RpcError as fault:
             meaning = meaning_of(fault, self.endpoints[self._at])
             if isinstance(meaning, (StoreAway, OutcomeUnknown)):
-                self.move_on()
+                is_slow = fault.code() == grpc.StatusCode.DEADLINE_EXCEEDED
+                self.move_on(SLOWEST if is_slow else LONGEST)
             raise meaning from None
         self._patience = max(SHORTEST, self._patience * 0.9)
+        if answer is not None:
+            self._greatest = max(self._greatest, answer.ByteSize())
         return answer
 
     def channel(self) -> Any:
@@ -132,7 +141,7 @@ class Wire:
         )
         try:
             status = rpc.MaintenanceStub(channel).Status(
-                rpc.StatusRequest(), timeout=self._patience
+                rpc.StatusRequest(), timeout=min(self._patience, LONGEST)
             )
             self._see_that_it_is_the_same(status.header.cluster_id)
             if not status.leader:
@@ -152,11 +161,11 @@ class Wire:
         if before and before != cluster:
             raise StoreChanged("another cluster of etcd answers than before")
 
-    def move_on(self) -> None:
+    def move_on(self, longest: float = LONGEST) -> None:
         """Throws the channel away; the next call goes to the next member, and waits longer."""
         self.close()
         self._at = (self._at + 1) % len(self.endpoints)
-        self._patience = min(LONGEST, self._patience * 1.5)
+        self._patience = max(self._patience, min(longest, self._patience * 1.5))
 
     def close(self) -> None:
         if self._channel is not None:
