@@ -12,7 +12,7 @@ from pathlib import Path
 import click
 
 from bwe_control import commands
-from bwe_control.errors import ControlError, InputError
+from bwe_control.errors import ControlError, InputError, OutcomeUnknown
 from bwe_control.keys import Keys
 from bwe_control.session import Session, log_to_standard_error
 from bwe_control.store.opening import Tls, default_store
@@ -59,7 +59,7 @@ def group(
 
     Exit status: 0 done, 1 lines of a report were refused, 2 an argument, a file or a package, 3 a
     document or report cannot be taken, 4 the store is away or refuses and nothing was done, 5 it is
-    not known whether it was done.
+    not known whether it was done, or what it says cannot be written.
     """
     log_to_standard_error(logging.WARNING)
     if None in (ca, cert, key) and (ca, cert, key) != (None, None, None):
@@ -76,6 +76,14 @@ def main() -> None:
         print(f"bwe-control: {fault}", file=sys.stderr)
         sys.exit(fault.status)
     except BrokenPipeError:
-        # The reader has gone, as `head` does: there is nobody left to tell.
-        os.dup2(os.open(os.devnull, os.O_WRONLY), sys.stdout.fileno())
-        sys.exit(0)
+        _write_no_more()
+        sys.exit(0)  # the reader has gone, as `head` does: there is nobody left to tell
+    except OSError as fault:
+        _write_no_more()
+        print(f"bwe-control: reading or writing failed: {fault.strerror}", file=sys.stderr)
+        sys.exit(OutcomeUnknown.status)
+
+
+def _write_no_more() -> None:
+    """Throws away what standard output has not taken."""
+    os.dup2(os.open(os.devnull, os.O_WRONLY), sys.stdout.fileno())

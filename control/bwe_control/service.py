@@ -78,9 +78,9 @@ class Service:
         self._prefix = 0  # of the posted table
         self._due, self._pause, self._trouble, self._told = 0.0, PAUSES[0], "", ""
 
-    def run(self) -> None:
-        """Goes on for ever; what is raised here ends it, and `close` gives the lead away."""
-        while True:
+    def run(self, is_told_to_stop: Callable[[], bool]) -> None:
+        """Goes on until it is told; what is raised here ends it. `close` gives the lead away."""
+        while not is_told_to_stop():
             self.step()
 
     def step(self) -> None:

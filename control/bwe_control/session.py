@@ -5,9 +5,11 @@ from __future__ import annotations
 import logging
 import sys
 from dataclasses import dataclass, replace
+from typing import BinaryIO
 
 import click
 
+from bwe_control.errors import InputError
 from bwe_control.keys import Keys
 from bwe_control.store.interface import Store
 from bwe_control.store.opening import Tls, open_store
@@ -41,6 +43,13 @@ class Session:
         """Says once that nothing is encrypted, where that is so."""
         if self.store.startswith("etcd:") and self.tls is None:
             log.warning("speaks plain text to the store: anybody on its network may read and write")
+
+
+def standard_input() -> BinaryIO:
+    """The bytes of standard input; an InputError where the caller has closed it."""
+    if sys.stdin is None:
+        raise InputError("there is no standard input")
+    return sys.stdin.buffer
 
 
 def log_to_standard_error(level: int) -> None:

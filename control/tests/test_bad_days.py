@@ -231,6 +231,25 @@ def test_an_allocator_that_came_up_in_a_read_only_folder_posts_once_it_may(own):
     assert own.shown("hosts")["pages-0"] == 7
 
 
+@needs_live
+def test_an_allocator_waits_for_the_right_to_make_its_folder(own):
+    forbid(own.folder, True)
+    try:
+        with open("/dev/null", "rb") as given:
+            one = subprocess.Popen(
+                [*BARRED, PROGRAM, "allocate", "--name", "a"],
+                stdin=given,
+                stderr=subprocess.PIPE,
+                env=own.environment,
+            )
+        own.processes.append(one)
+        assert b"cannot be made: Permission denied" in one.stderr.readline()
+    finally:
+        forbid(own.folder, False)
+    own.wait(lambda: (own.folder / "control/store.db").exists())
+    own.wait_posted(own.init())
+
+
 @pytest.mark.skipif(os.geteuid() != 0, reason="becoming another user needs root")
 def test_a_folder_of_another_user_is_named(tmp_path):
     folder = Path("/tmp") / f"bwe-control-{os.getpid()}"
@@ -327,6 +346,20 @@ def test_a_clock_that_jumps_moves_nothing(own, tmp_path):
         deployment.wait_posted(deployment.report("hosts", f"demand pages-0 {amount}\n"))
         time.sleep(0.5)
     assert deployment.value(deployment.keys.leader) == b"a" and first.poll() is None
+
+
+@needs_live
+def test_sigterm_ends_an_allocator_that_has_no_folder_yet(own):
+    forbid(own.folder, True)
+    try:
+        words = [*BARRED, PROGRAM, "allocate", "--name", "a"]
+        one = subprocess.Popen(words, stderr=subprocess.PIPE, env=own.environment)
+        own.processes.append(one)
+        assert b"cannot be made" in one.stderr.readline()
+        one.terminate()
+        assert one.wait(timeout=30) == 0 and one.stderr.read() == b""
+    finally:
+        forbid(own.folder, False)
 
 
 @needs_live

@@ -1,11 +1,16 @@
 """What reporters and operators put wrongly: each has a sentence, a status, and loses nothing."""
 
 import json
+import os
+import subprocess
+from pathlib import Path
 
 import pytest
-from deployment import TWO_FIBRES, needs_bwe, needs_live
+from deployment import PROGRAM, TWO_FIBRES, needs_bwe, needs_live
 
+from bwe_control.errors import InputError
 from bwe_control.store.interface import Put
+from bwe_control.store.opening import default_store
 from bwe_control.values import accepted_of, refusals_of, refused_document_of
 
 NAMES = b"demand pages-0 5\ndemand pages-9 7\ncapacity fibre-1 3\n"
@@ -235,6 +240,41 @@ def test_words_that_are_none_have_status_2(own):
         ["--store", "x:y", "status"],
     ):
         own.run(*words, status=2)
+
+
+@pytest.mark.parametrize(
+    "words, status, sentence",
+    [
+        ("report hosts <&-", 2, "there is no standard input"),
+        ("init - <&-", 2, "there is no standard input"),
+        ("limits hosts >/dev/full", 5, "reading or writing failed: No space left on device"),
+        ("report hosts </dev/null >/dev/full", 5, "reading or writing failed: No space left"),
+        ("report hosts </dev/null >&-", 0, ""),
+        ("limits hosts | true", 0, ""),
+    ],
+)
+def test_streams_that_are_closed_or_full_have_a_sentence(own, words, status, sentence):
+    own.init()
+    ran = subprocess.run(
+        ["bash", "-c", f"{PROGRAM} {words}"],
+        capture_output=True,
+        env=own.environment,
+        check=False,
+    )
+    said = ran.stderr.decode()
+    assert ran.returncode == status and sentence in said and said.count("\n") == bool(sentence)
+
+
+def test_a_user_without_a_folder_is_told_to_name_a_store(monkeypatch):
+    def nowhere():
+        raise RuntimeError
+
+    for name in ("STATE_DIRECTORY", "XDG_STATE_HOME"):
+        monkeypatch.delenv(name, raising=False)
+    monkeypatch.setattr(os, "geteuid", lambda: 54321)
+    monkeypatch.setattr(Path, "home", nowhere)
+    with pytest.raises(InputError, match="BWE_STORE"):
+        default_store()
 
 
 def test_values_that_nobody_writes_are_said(own):

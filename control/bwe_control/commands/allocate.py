@@ -7,16 +7,25 @@ import os
 import signal
 import socket
 import sys
+import time
+from contextlib import ExitStack
 from types import FrameType
 
 import click
 
 from bwe_control.compaction import Compaction
+from bwe_control.errors import StoreError
 from bwe_control.keys import plain_name
 from bwe_control.metrics import Metrics
 from bwe_control.programs import find_program
 from bwe_control.service import Service, Settings
 from bwe_control.session import Session, log_to_standard_error
+
+
+log = logging.getLogger(__name__)
+
+PAUSE = 1.0  # seconds between two tries to make the store
+_told: list[int] = []  # the signal that ends the service, also where its exception was lost
 
 
 class Stopped(BaseException):
@@ -60,18 +69,32 @@ def command(
         metrics.serve(port)
     for one in (signal.SIGTERM, signal.SIGINT):
         signal.signal(one, _stop)
-    session.open(makes_folder=True).close()
-    compaction = Compaction(session.open, history) if session.store.startswith("sqlite:") else None
-    service = Service(session.open, session.keys, settings, metrics)
-    try:
-        service.run()
-    except Stopped:
-        service.close()
-    finally:
-        if compaction is not None:
-            compaction.stop()
+    with ExitStack() as behind:
+        try:
+            _make_store(session, metrics)
+            if session.store.startswith("sqlite:"):
+                behind.callback(Compaction(session.open, history).stop)
+            service = Service(session.open, session.keys, settings, metrics)
+            behind.callback(service.close)
+            service.run(lambda: bool(_told))
+        except Stopped:
+            pass
     sys.stderr.flush()
     os._exit(0)  # calls to a store that is away are not waited for
+
+
+def _make_store(session: Session, metrics: Metrics) -> None:
+    """Makes the store's folder where it is not there; waits where this user cannot."""
+    told = ""
+    while not _told:
+        try:
+            return session.open(makes_folder=True).close()
+        except StoreError as fault:
+            metrics.refuses.set(1)
+            if str(fault) != told:
+                log.error("%s", fault)
+            told = str(fault)
+            time.sleep(PAUSE)
 
 
 def _default_name() -> str:
@@ -82,4 +105,5 @@ def _default_name() -> str:
 def _stop(number: int, frame: FrameType | None) -> None:
     for one in (signal.SIGTERM, signal.SIGINT):
         signal.signal(one, signal.SIG_IGN)
+    _told.append(number)
     raise Stopped

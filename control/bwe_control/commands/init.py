@@ -2,7 +2,6 @@
 
 from __future__ import annotations
 
-import sys
 from pathlib import Path
 
 import click
@@ -11,7 +10,7 @@ from bwe_control.client import put_value
 from bwe_control.errors import InputError
 from bwe_control.network import network_of
 from bwe_control.programs import check_document
-from bwe_control.session import Session
+from bwe_control.session import Session, standard_input
 
 
 @click.command()
@@ -42,7 +41,7 @@ def command(session: Session, document: str, users: bool) -> None:
 
 def _read(name: str) -> bytes:
     if name == "-":
-        return sys.stdin.buffer.read()
+        return standard_input().read()
     try:
         return Path(name).read_bytes()
     except OSError as fault:

@@ -9,7 +9,7 @@ import click
 from bwe_control.client import put_report, read_limits, read_refusals, wait_posted
 from bwe_control.errors import Refused
 from bwe_control.keys import Keys, plain_name
-from bwe_control.session import Session
+from bwe_control.session import Session, standard_input
 from bwe_control.store.interface import Store
 
 MOST_BYTES = 8_000_000  # what a store takes in one request
@@ -31,7 +31,7 @@ def command(session: Session, reporter: str, waits: bool) -> None:
         printf 'demand t0 80\\ndemand t1 80\\n' | bwe-control report r0 --wait
     """
     plain_name(reporter, "a reporter's name")
-    value = sys.stdin.buffer.read(MOST_BYTES + 1)
+    value = standard_input().read(MOST_BYTES + 1)
     if len(value) > MOST_BYTES:
         raise Refused(f"the report is longer than {MOST_BYTES} bytes; it was not put")
     store = session.open()

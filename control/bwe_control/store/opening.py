@@ -25,7 +25,10 @@ def state_folder() -> Path:
         return Path(given.split(":")[0])
     if os.geteuid() == 0:
         return Path("/var/lib/bwe")
-    return Path(os.environ.get("XDG_STATE_HOME") or Path.home() / ".local/state") / "bwe"
+    try:
+        return Path(os.environ.get("XDG_STATE_HOME") or Path.home() / ".local/state") / "bwe"
+    except RuntimeError:
+        raise InputError("this user has no folder: name a store by --store or BWE_STORE") from None
 
 
 def default_store() -> str:
