@@ -17,6 +17,7 @@ from bwe_control.picture import PictureMaker, empty_page, standing, with_followi
 from bwe_control.session import Session
 from bwe_control.status import StatusReader
 from bwe_control.store.interface import Select
+from bwe_control.trouble import Trouble
 from bwe_control.values import Posted
 
 log = logging.getLogger(__name__)
@@ -55,11 +56,15 @@ class PageFollower:
         maker = PictureMaker(store, self._session.keys)
         reader = StatusReader(store, self._session.keys)
         bell = store.bell([Select(self._session.keys.posted)])
+        trouble = Trouble()
         while True:
             try:
                 self._look(maker, reader)
+                if trouble.is_over():
+                    log.info("the store answers again")
             except ControlError as fault:
-                log.warning("%s", fault)
+                if trouble.is_new(str(fault)):
+                    log.warning("%s", fault)
                 self._metrics.away.set(1)
                 self._keep(notice=f"The last table is shown: {fault}.")
             time.sleep(PAUSE)

@@ -36,6 +36,7 @@ from bwe_control.store.interface import (
     Select,
     Store,
 )
+from bwe_control.trouble import Trouble
 from bwe_control.unposted import Unposted
 
 log = logging.getLogger(__name__)
@@ -76,7 +77,7 @@ class Service:
         self._has_changed = True
         self._looks_now = False  # the next reading does not wait
         self._prefix = 0  # of the posted table
-        self._due, self._pause, self._trouble, self._told = 0.0, PAUSES[0], "", ""
+        self._due, self._pause, self._trouble, self._told = 0.0, PAUSES[0], Trouble(), ""
 
     def run(self, is_told_to_stop: Callable[[], bool]) -> None:
         """Goes on until it is told; what is raised here ends it. `close` gives the lead away."""
@@ -246,14 +247,14 @@ class Service:
             self._store.revoke(lease)
 
     def _is_well(self) -> None:
-        if self._trouble:
-            log.info("goes on: %s is over", self._trouble)
-        self._trouble, self._pause = "", PAUSES[0]
+        if self._trouble.is_over():
+            log.info("goes on")
+        self._pause = PAUSES[0]
         self._metrics.away.set(0)
         self._metrics.refuses.set(0)
 
     def _is_troubled(self, fault: ControlError) -> None:
-        """Says it once, and goes on after a pause that grows."""
+        """Says each fault once, and goes on after a pause that grows."""
         kind = type(fault).__name__
         if isinstance(fault, LiveDied):
             self._metrics.live_restarts.inc()
@@ -266,9 +267,9 @@ class Service:
             self._desk.restart()
         if isinstance(fault, LeaseLost):
             self._chain.lease = None
-        if str(fault) != self._trouble:
+        if self._trouble.is_new(str(fault)):
             log.error("%s", fault)
-        self._trouble, self._has_changed = str(fault), True
+        self._has_changed = True
         self._tell(str(fault), is_ready=False)
         time.sleep(self._pause)
         self._pause = min(2 * self._pause, PAUSES[1])

@@ -1,6 +1,7 @@
 """Stores that are away, full, read-only or another's; SIGTERM in each state; a clock that jumps."""
 
 import os
+import re
 import shutil
 import signal
 import subprocess
@@ -33,7 +34,8 @@ def metric(port, name):
         )
     except OSError:
         return -1.0
-    return float(next(it.split()[1] for it in text.splitlines() if it.startswith(name + " ")))
+    found = (it.split()[1] for it in text.splitlines() if it.startswith(name + " "))
+    return float(next(found, -1.0))
 
 
 @pytest.fixture
@@ -381,6 +383,21 @@ def test_sigterm_ends_an_allocator_in_each_state(own, state):
     assert one.wait(timeout=30) == 0
     leader = b"first" if state == "stands by" else None
     assert own.value(own.keys.leader) == leader
+
+
+@needs_live
+@needs_etcd
+def test_members_that_are_away_for_long_are_said_once_each(tmp_path):
+    members = [f"127.0.0.1:{free_port()}" for _ in range(3)]
+    one, port = Deployment(f"etcd:{','.join(members)}", tmp_path), free_port()
+    try:
+        one.allocate("a", "--metrics", str(port))
+        name = 'bwe_control_store_faults_total{kind="StoreAway"}'
+        one.wait(lambda: metric(port, name) >= 5)
+        told = re.findall(r"ERROR the member (\S+) ", one.log("a"))
+        assert sorted(told) == sorted(members)
+    finally:
+        one.close()
 
 
 @needs_live

@@ -17,6 +17,7 @@ from bwe_control.client import LOOK_EACH, PAUSE, Limits, LimitsFollower, put_rep
 from bwe_control.errors import ControlError, StoreAway
 from bwe_control.keys import Keys
 from bwe_control.store.interface import Select, Store
+from bwe_control.trouble import Trouble
 from bwe_control.values import Refusals, report_text
 
 log = logging.getLogger(__name__)
@@ -68,6 +69,7 @@ class StoreExchange:
         self._is_due = False
         self._refusals: Refusals | None = None
         self.is_connected = False
+        self._trouble = Trouble()
         self._threads = [
             threading.Thread(target=self._run, args=(work,), name=name, daemon=True)
             for name, work in (("limits", self._follow), ("report", self._put_reports))
@@ -101,16 +103,14 @@ class StoreExchange:
 
     def _run(self, work: Callable[[Store], None]) -> None:
         """Opens a store and works on it, anew after each fault, until it is told to stop."""
-        said = ""
         while not self._is_stopped:
             store = None
             try:
                 store = self._opens()
                 work(store)
             except ControlError as fault:
-                if str(fault) != said:
-                    said = str(fault)
-                    log.warning("the store is away, what is in force stays: %s", said)
+                if self._trouble.is_new(str(fault)):
+                    log.warning("the store is away, what is in force stays: %s", fault)
             finally:
                 if store is not None:
                     store.close()
@@ -145,6 +145,7 @@ class StoreExchange:
             return
         log.info("the store answers")
         self.is_connected = True
+        self._trouble.is_over()
         with self._condition:
             self._is_due = self._report is not None
             self._condition.notify_all()

@@ -20,6 +20,7 @@ from bwe_control.metrics import Metrics
 from bwe_control.programs import find_program
 from bwe_control.service import Service, Settings
 from bwe_control.session import Session, log_to_standard_error
+from bwe_control.trouble import Trouble
 
 
 log = logging.getLogger(__name__)
@@ -85,15 +86,14 @@ def command(
 
 def _make_store(session: Session, metrics: Metrics) -> None:
     """Makes the store's folder where it is not there; waits where this user cannot."""
-    told = ""
+    trouble = Trouble()
     while not _told:
         try:
             return session.open(makes_folder=True).close()
         except StoreError as fault:
             metrics.refuses.set(1)
-            if str(fault) != told:
+            if trouble.is_new(str(fault)):
                 log.error("%s", fault)
-            told = str(fault)
             time.sleep(PAUSE)
 
 
