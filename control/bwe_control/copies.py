@@ -26,7 +26,7 @@ class Copy:
     def take(self, store: Store, found: Selected, revision: int) -> set[str]:
         """Takes what was read at a revision; the keys that were written or deleted since.
 
-        Whoever drops what this returns has to `forget`.
+        They are told once. StoreError where the store does not answer: then nothing is taken.
         """
         if revision < self.revision:
             raise StoreChanged(

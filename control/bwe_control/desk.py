@@ -75,17 +75,22 @@ class Desk:
         return view, Reading(reading.revision, reading.found[6:])
 
     def _take(self, reading: Reading) -> bool:
+        """Takes what has changed; whether anything has. A fault in the middle drops nothing of it."""
         document, accepted, reports = reading.found[3:6]
         changed = self.reports.take(self._store, reports, reading.revision)
+        self._note(changed)
         is_new = self.document.take(self._store, document, reading.revision)
         self.accepted.take(self._store, accepted, reading.revision)
+        return bool(is_new or changed)
+
+    def _note(self, changed: set[str]) -> None:
+        """Keys of reports that the tables have to take, and when they were new."""
+        self._untold |= changed
         now = time.monotonic()
         for key in changed:
             self.seen[key] = now
             if key not in self.reports.entries:
                 del self.seen[key]
-        self._untold |= changed
-        return bool(is_new or changed)
 
     def settle(self) -> None:
         """Brings the tables to the document in force, and hands them the reports that changed.
