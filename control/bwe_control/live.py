@@ -14,6 +14,7 @@ from bwe_control.errors import ControlError, Refused
 
 TICK = 0.25  # seconds between two looks at whether the child does anything
 CHUNK = 1 << 20
+ODD = "what runs as bwe-live answers what bwe-live never does"
 
 
 class LiveDied(ControlError):
@@ -146,7 +147,9 @@ def _is_whole(answer: bytearray) -> bool:
 def _answer_of(text: bytes) -> Answer:
     first = text.find(b"\ntask ")
     last = text.rfind(b"\ntotal ")
-    total = int(text[last + 7 : -1])
+    total = text[last + 7 : -1]
     if text.startswith(b"refused line"):
         raise LiveDied("bwe-live refused a line that it has to take")
-    return Answer(total, text[first + 1 : last].split(b"\n") if 0 <= first < last else [])
+    if not total.isdigit():
+        raise LiveDied(ODD)
+    return Answer(int(total), text[first + 1 : last].split(b"\n") if 0 <= first < last else [])

@@ -6,7 +6,7 @@ import logging
 from collections.abc import Callable
 from pathlib import Path
 
-from bwe_control.live import Answer, Live
+from bwe_control.live import ODD, Answer, Live, LiveDied
 from bwe_control.network import is_reporter, network_of
 from bwe_control.reports import NO_REPORT, Report, changed_lines, next_report
 from bwe_control.store.interface import Entry
@@ -46,12 +46,20 @@ class Tables:
         self._made: set[str] = set()  # whose rows were made anew since they were asked for
         self.rows = {name: b"" for name in network.reporters}
         self.total = 0
-        self._take(self._live.first)
+        self._start_with(self._live)
 
     def _start(self) -> Live:
         self._live = Live(self._program, self.text, self._beat, self._stuck)
-        self._take(self._live.first)
+        self._start_with(self._live)
         return self._live
+
+    def _start_with(self, live: Live) -> None:
+        """Takes the first table of a child, which is ended where that is none."""
+        try:
+            self._take(live.first)
+        except BaseException:
+            self.close()
+            raise
 
     def put(self, reporter: str, entry: Entry | None) -> None:
         """A report as it stands now; None: there is none any more."""
@@ -100,7 +108,10 @@ class Tables:
     def _take(self, answer: Answer) -> None:
         self.total = answer.total
         for line in answer.task_lines:
-            lines, place, name = self._places[line[5 : line.index(b" ", 5)]]
+            known = self._places.get(line[5 : line.find(b" ", 5)])
+            if known is None:
+                raise LiveDied(ODD)
+            lines, place, name = known
             if lines[place] != line:
                 lines[place] = line
                 self._changed.add(name)

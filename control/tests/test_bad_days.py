@@ -233,6 +233,19 @@ def test_an_allocator_that_came_up_in_a_read_only_folder_posts_once_it_may(own):
     assert own.shown("hosts")["pages-0"] == 7
 
 
+@pytest.mark.parametrize("answer", ["total x\n", "table 0\ntask unknown limit 5\ntotal 5\n"])
+def test_another_program_in_place_of_bwe_live_is_said(own, answer):
+    other = own.folder / "other"
+    other.write_text(f"#!/bin/sh\nprintf '{answer}'\nexec cat >/dev/null\n")
+    other.chmod(0o755)
+    own.init()
+    one = own.allocate("a", BWE_LIVE=str(other))
+    own.wait(lambda: "what runs as bwe-live" in own.log("a"))
+    assert one.poll() is None and own.limits("hosts").posted is None
+    one.terminate()
+    assert one.wait(timeout=30) == 0 and "Traceback" not in own.log("a")
+
+
 @needs_live
 def test_an_allocator_waits_for_the_right_to_make_its_folder(own):
     forbid(own.folder, True)
