@@ -10,6 +10,7 @@ from dataclasses import dataclass
 from bwe_control.errors import Compacted, NoStore, OutcomeUnknown, StoreAway, StoreError
 from bwe_control.keys import Keys
 from bwe_control.store.interface import Compare, Entry, Put, Select, Store
+from bwe_control.trouble import Trouble
 from bwe_control.values import Posted, Refusals, Slice, posted_of, refusals_of, slice_of
 
 log = logging.getLogger(__name__)
@@ -183,6 +184,7 @@ class LimitsFollower:
         self._store, self._keys, self._reporter = store, keys, reporter
         self._bell = store.bell([Select(keys.posted), Select(keys.limits(reporter))])
         self._last: Limits | None = None
+        self._trouble = Trouble()
 
     def next(self, seconds: float) -> Limits | None:
         """What has changed since the last call, the first time all; None after so many seconds.
@@ -204,8 +206,11 @@ class LimitsFollower:
     def _is_newer(self, now: Limits) -> bool:
         last = self._last.posted if self._last else None
         if last is None or (now.posted is not None and now.posted.prefix >= last.prefix):
+            self._trouble.is_over()
             return True
-        log.error("the posted prefix fell below %d: what the store shows is not shown", last.prefix)
+        sentence = f"the posted prefix fell below {last.prefix}: what the store shows is not shown"
+        if self._trouble.is_new(sentence):
+            log.error("%s", sentence)
         return False
 
     def close(self) -> None:

@@ -134,14 +134,15 @@ def test_a_reader_of_a_compacted_store_has_the_newest(store):
     assert read_limits(store, KEYS, "r9").slice is None
 
 
-def test_a_follower_shows_each_change_once_and_never_an_older_prefix(store):
+def test_a_follower_shows_each_change_once_and_never_an_older_prefix(store, caplog):
     follower = LimitsFollower(store, KEYS, "r0")
     assert follower.next(0).posted is None
     assert follower.next(0) is None
     post(store, 5, 7)
     assert follower.next(5).posted.prefix == 5
     post(store, 4, 6)  # by nobody who keeps to the protocol
-    assert follower.next(0.1) is None
+    assert follower.next(0.1) is None and follower.next(0.1) is None
+    assert caplog.text.count("the posted prefix fell below 5") == 1
     post(store, 6, 7)
     assert follower.next(5).posted.prefix == 6
     follower.close()

@@ -1,8 +1,13 @@
 """How long a member of etcd has for an answer: by what is known of the member and of the bytes."""
 
-import pytest
+import shutil
+import subprocess
 
-from bwe_control.errors import OutcomeUnknown, StoreAway
+import pytest
+from deployment import ROOT
+
+from bwe_control.errors import InputError, OutcomeUnknown, StoreAway
+from bwe_control.store.opening import Tls
 
 grpc = pytest.importorskip("grpc")
 
@@ -84,3 +89,23 @@ def test_who_has_had_a_long_answer_waits_for_the_next_one(wire):
     wire.read(calls(wire, Answer(30 * SPEED)))
     wire.read(calls(wire, Answer(10)))
     assert wire.given == [SHORTEST, SHORTEST + 30]
+
+
+@pytest.mark.skipif(shutil.which("openssl") is None, reason="there is no openssl")
+@pytest.mark.parametrize(
+    "names, sentence",
+    [
+        (("nowhere", "root.crt", "root.key"), "nowhere cannot be read: No such file"),
+        (("root.key", "root.crt", "root.key"), "root.key has no certificate of an authority"),
+        (("authority.crt", "root.key", "root.key"), "are no certificate and its key"),
+        (("authority.crt", "root.crt", "authority.key"), "are no certificate and its key"),
+    ],
+)
+def test_files_that_are_no_certificates_are_named(tmp_path, names, sentence):
+    for words in (["authority"], ["client", "root"]):
+        script = [ROOT / "control/etcd/certificates", tmp_path, *words]
+        subprocess.run(script, check=True, capture_output=True)
+    with pytest.raises(InputError, match=sentence):
+        Wire(["127.0.0.1:1"], Tls(*(tmp_path / it for it in names)))
+    files = (tmp_path / it for it in ("authority.crt", "root.crt", "root.key"))
+    Wire(["127.0.0.1:1"], Tls(*files)).close()

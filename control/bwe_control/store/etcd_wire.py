@@ -9,6 +9,7 @@ from __future__ import annotations
 
 import logging
 import os
+import ssl
 from collections.abc import Callable
 from typing import TYPE_CHECKING, Any
 
@@ -190,8 +191,18 @@ def _sentence(fault: Any, endpoint: str) -> str:
 
 
 def _credentials(tls: Tls) -> Any:
+    """What gRPC takes of the three files; InputError where they are none, of which it says nothing."""
     try:
         ca, key, cert = (path.read_bytes() for path in (tls.ca, tls.key, tls.cert))
     except OSError as fault:
         raise InputError(f"{fault.filename} cannot be read: {fault.strerror}") from None
+    context = ssl.SSLContext(ssl.PROTOCOL_TLS_CLIENT)
+    try:
+        context.load_verify_locations(cadata=ca.decode("ascii", "replace"))
+    except ssl.SSLError:
+        raise InputError(f"{tls.ca} has no certificate of an authority") from None
+    try:
+        context.load_cert_chain(tls.cert, tls.key, password="")
+    except ssl.SSLError:
+        raise InputError(f"{tls.cert} and {tls.key} are no certificate and its key") from None
     return grpc.ssl_channel_credentials(ca, key, cert)
