@@ -6,6 +6,7 @@ ghost use Rattle.raw_document.specs.Json.{json};
 
 use serde_json::Value;
 use std::alloc::Global;
+use version_scan::is_json;
 
 /// Why bytes have no value.
 #[derive(Clone, Copy)]
@@ -15,8 +16,21 @@ pub enum JsonError {
 }
 
 /// The value of a JSON text in UTF-8, of up to 127 nested levels.
-#[tactic(auto, unfolding(raw_document::specs::Json::json))]
+///
+/// Whether the bytes are JSON is found before a tree is made of them.
 pub fn read_json(alloc: Global, bytes: &[u8]) -> Result<Value, JsonError>
+    ensures value { IfOk result (λ value. json bytes.now ≡ Some (view value)) }
+    ensures not_json { IsErrOf result JsonError.NotJson → json bytes.now ≡ None }
+{
+    match is_json(alloc, bytes) {
+        Ok(true) => read_tree(alloc, bytes),
+        Ok(false) => Err(JsonError::NotJson),
+        Err(_) => Err(JsonError::OutOfMemory),
+    }
+}
+
+#[tactic(auto, unfolding(raw_document::specs::Json::json))]
+fn read_tree(alloc: Global, bytes: &[u8]) -> Result<Value, JsonError>
     ensures value { IfOk result (λ value. json bytes.now ≡ Some (view value)) }
     ensures not_json { IsErrOf result JsonError.NotJson → json bytes.now ≡ None }
 {

@@ -11,12 +11,10 @@ ghost use Rattle.version_scan.specs.Passing.{Passes, begins_object, is_4_read, m
 ghost use Rattle.version_scan.specs.Version.{is_4_at, is_4_in, is_number_4, is_of_version_4};
 
 use crate::passing::pass;
+use crate::whole::MAX_DEPTH;
 use json::{Reader, Scratch, Token};
 use raw_document::DocKey;
 use std::alloc::{AllocError, Global};
-
-// Most arrays and objects that may stand in one another.
-const MAX_DEPTH: usize = 127;
 
 /// Whether a document is of version 4: it is a JSON object whose `version` is the whole number 4.
 /// Of more members of that name the last one counts.
