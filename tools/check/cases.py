@@ -25,7 +25,8 @@ for `bwe_solve` the examples of that command, and for `bwe_live`:
 - posts: the same of 300 posts of documents of version 4 with 1,000 groups.
 
 A case with a file `long`, which says in a sentence why, is left out unless it is named; `--long`
-runs these alone, one after the other.
+runs these alone, one after the other. One with a file `bounded` is run in an address space of three
+times the bytes of its input and 64 MB, which is what a refusal may take.
 
 A line for each kind says how many passed, and the last line how many in all; the status is 0
 where all did.
@@ -55,6 +56,8 @@ BWE, SOLVE, LIVE, PROTOCOL = (
 DOCUMENTS, HARD, RUNS, FOLLOWED, POSTS = 200, 40, 3, 40, 300
 SUMMED = ["1", "200", "4000"]
 SECONDS = 120
+# The address space of a program whose case is bounded: so many times its input, and so many bytes.
+TIMES, BYTES_BESIDE = 3, 64_000_000
 
 # The arguments for the second parts of examples/, by the ending of their names.
 LINES_OF_PARTS = {".tiers": ["tiers"], ".samples": ["estimate", "2", "110"], ".events": ["enforce"]}
@@ -97,9 +100,9 @@ def fault_of_folder(program, folder):
 
 def fault_of_case(program, folder):
     words = (folder / "args").read_bytes().splitlines()
-    with opened(folder, "stdin") as source:
+    with input_of(folder) as (source, bound):
         ran = subprocess.run(
-            [program, *words_for(program, words)],
+            [*bound, program, *words_for(program, words)],
             stdin=source,
             capture_output=True,
             timeout=SECONDS,
@@ -110,6 +113,22 @@ def fault_of_case(program, folder):
     if ran.stderr:
         return f"on standard error: {ran.stderr[:400]!r}"
     return first_difference(ran.stdout, wanted)
+
+
+@contextmanager
+def input_of(folder):
+    """The input of a case, and the words in front of the program that bound its address space. They
+    need the length of the input, so that of a bounded case goes into a file first.
+    """
+    with opened(folder, "stdin") as source:
+        if not (folder / "bounded").exists():
+            yield source, []
+            return
+        with tempfile.TemporaryFile() as whole:
+            shutil.copyfileobj(source, whole)
+            most = TIMES * whole.tell() + BYTES_BESIDE
+            whole.seek(0)
+            yield whole, ["prlimit", f"--as={most}"]
 
 
 def words_for(program, words):

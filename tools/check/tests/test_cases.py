@@ -50,6 +50,15 @@ def test_a_script_stands_for_a_large_stream(tmp_path, case):
     assert cases.fault_of_case(program(tmp_path, "cat"), case) is None
 
 
+def test_a_bounded_case_has_three_times_its_input_and_64_MB(tmp_path, case):
+    (case / "bounded").touch()
+    (case / "stdin").unlink()
+    (case / "stdin.py").write_text('print("a" * 4_096_000, end="")\n')
+    (case / "stdout").write_text(f"{(3 * 4_096_000 + 64_000_000) // 1_024}\n")
+    told = program(tmp_path, "cat >/dev/null; ulimit -v")
+    assert cases.fault_of_case(told, case) is None
+
+
 def test_no_two_cases_send_the_same_document_to_the_same_refusal():
     seen = {}
     for folder in cases.folders_of_cases(cases.CASES):
