@@ -150,7 +150,7 @@ module _ (tasks links : ℕ) (scripts : List (List Report)) (done : List Report)
 
 -- ---- the lines of reports
 
--- a line for each report, with its place
+-- a row for each report, with its place
 abbrev pub report_lines : NameTexts → ℕ → List Report → List (List ℕ)
 report_lines names place [] = []
 report_lines names place (report ∷ reports) = spaced (report_line names place report) ∷ report_lines names (suc place) reports

@@ -17,7 +17,7 @@ pub record State : Type 0 where
   pub taken : ℕ
   pub floors : List ℕ
 
--- nothing is reported, and the table of nothing is posted
+-- the log is empty, and the table of no report is posted
 abbrev pub first_state : ℕ → State
 first_state readers = record { log = []; posted = 0; taken = 0; floors = replicate readers 0 }
 
@@ -55,8 +55,8 @@ state_after state (event.Tell reader prefix) =
 state_after state (event.Read reader) =
     record state { floors = slice_set state.floors reader state.posted }
 
--- what wanting memory leaves: the maker may have taken in more for a post; a piece that is too
--- long, a tell and a read want none
+-- the state after an event that is out of memory: the maker may have taken in more for a post; a
+-- piece that is too long, a tell and a read take no memory
 abbrev pub IsRefused : State → CoreEvent → State → Type 0
 IsRefused old (event.Report reporter piece) new = (length old.log + length piece ≤ MAX_REPORTS)
     × (new ≡ old)

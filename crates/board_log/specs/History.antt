@@ -42,8 +42,8 @@ AddsPiece step before found after =
     MatchBool (found == step.old) (after.0 ≡ before.0 ++ step.ask ∷ [])
     (GoOn (length (log_of before.0)) after.0)
 
--- who holds the whole log has the word of the named book, and counts the pieces, of which none is
--- empty until it has ended the log
+-- the holder of the whole log has the word of the named book, and counts the pieces, of which none
+-- is empty until it has ended the log
 pub record IsCounted (named : Book) (word : Named) (count : ℕ) (has_ended : Bool) (book : Book)
     (pieces : List (List Report)) : Type 0 where
   pub counted : count ≡ length pieces

@@ -40,7 +40,7 @@ pub record Membership : Type 0 where
   pub number : ℕ
   pub own : List PlacedReport
 
--- what the keeper knows, who is no member: the log, and how many members were made
+-- what the keeper, which is no member, knows: the log, and how many members were made
 abbrev pub knower : List Report → ℕ → Knows
 knower log seats =
     record { keeps = true; log = log; seats = seats; reports = false; number = 0; own = [] }

@@ -52,8 +52,8 @@ pub record IsLawful (limits : List Report → ℕ → ℕ) (moment end : World) 
   -- the reports up to a revision of the history are the same for ever
   pub stand : (revision : ℕ) → revision ≤ moment.revision
       → reports_at end.reports revision ≡ reports_at moment.reports revision
-  -- what a reader was told is posted, and what it saw, the posted prefix reaches for ever: who reads
-  -- then sees at least that
+  -- what a reader was told is posted, and what it saw, the posted prefix reaches for ever: a reader
+  -- that reads then sees at least that
   pub told : (reader : ℕ) → (reader_at moment reader).told ≤ posted_prefix end.posted
   pub seen : (reader : ℕ) → (reader_at moment reader).seen ≤ posted_prefix end.posted
 

@@ -13,8 +13,8 @@ use Rattle.control_core.specs.declared.reader.Reader.{Reader}
 use Rattle.control_core.specs.declared.sent.Outcome.{Outcome}
 use Rattle.control_core.specs.declared.sent.Outcome.TheVariants.{OnItsWay, Done, Refused, Lost}
 
--- what stands of a reporter: the limits of its tasks in the table of a prefix, that is of all
--- reports up to a revision
+-- the slice of a reporter: the limits of its tasks in the table of a prefix, that is of all reports
+-- up to a revision
 pub record Slice : Type 0 where
   pub prefix : ℕ
   pub limits : List ℕ

@@ -16,7 +16,7 @@ use Rattle.doc_maker.specs.Made.{Size, IsSize, drawn, numbered, link_name, task_
 abbrev pub walked_tasks : Size → List ℕ
 walked_tasks size = flat_map (tasks_of size) (numbers size.groups)
 
--- the place in the walk of the task that has this number in its name
+-- the number in the walk of the task that has this number in its name
 abbrev pub place_of : Size → ℕ → ℕ
 place_of size task = position_or_len (λ other. task == other) (walked_tasks size)
 

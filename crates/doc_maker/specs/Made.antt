@@ -20,7 +20,7 @@ pub record IsSize (size : Size) : Type 0 where
   pub enough_tasks : size.groups ≤ size.tasks
   pub few_tasks : size.tasks ≤ MAX_MADE_TASKS
 
--- the number that is drawn at a place
+-- the number that is drawn at an index
 abbrev pub drawn : Size → ℕ → ℕ
 drawn size place = ((size.seed % 1_000_003) * 7_919 + place * 104_729) % 10_007
 

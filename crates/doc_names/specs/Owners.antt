@@ -1,4 +1,4 @@
--- Who owns a task or link, and the first report of a script that its reporter has no right to make.
+-- The owner of a task or link, and the first report of a script that is not by the owner.
 use Rattle.std.specs.Prelude.{ℕ, suc, ◌==◌, Bool, false, List, [], ◌∷◌, slice_get, Option, Some, None, option_and_then, if◌then◌else◌}
 use Rattle.bwe_specs.specs.declared.report.Target.{Target}
 use Rattle.bwe_specs.specs.declared.report.Target.TheVariants.{Task, Link}
@@ -15,7 +15,7 @@ abbrev pub is_owner : Option ℕ → ℕ → Bool
 is_owner None reporter = false
 is_owner (Some owner) reporter = owner == reporter
 
--- the first of these entries, of which the first stands at this place in the script
+-- the first of these entries, of which the first stands at this index in the script
 unfoldable pub not_owned : List ℕ → List (Option ℕ) → ℕ → List Report → Option ℕ
 not_owned task_owners link_owners place [] = None
 not_owned task_owners link_owners place (report ∷ reports) =

@@ -1,4 +1,4 @@
--- The text of a world of regions after its events, line by line. A text is the list of its bytes.
+-- The text of a world of regions after its events, row by row. A text is the list of its bytes.
 use Rattle.std.specs.Prelude.{ℕ, ◌++◌, List, [], Option, Some, None, length, flat_map, slice_index, codes, decimal}
 use Rattle.bwe_specs.specs.Reports.{numbers}
 use Rattle.enforcer_core.specs.declared.event.WorldAnswer.{WorldAnswer}
@@ -42,7 +42,7 @@ limit_line names world region place =
     limit_text (entry_at names (slice_index (tasks_at world region) place))
     (limit_in_force world region place)
 
--- a region's line, and under it the limits in force
+-- a region's row, and under it the limits in force
 abbrev pub region_lines : {T : Type 0} → List (List ℕ) → World T → ℕ → List ℕ
 region_lines names world region =
     region_line region (region_at world region).floor (acked_at world region)

@@ -1,4 +1,4 @@
--- The line that is printed for events of which a line is at fault.
+-- The row that is printed for events of which a line is at fault.
 use Rattle.std.specs.Prelude.{ℕ, ◌++◌, List, codes, decimal}
 
 abbrev pub event_refusal : ℕ → List ℕ

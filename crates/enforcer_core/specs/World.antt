@@ -79,7 +79,7 @@ abbrev pub prefix_in_force : {T : Type 0} → World T → ℕ → Option ℕ
 prefix_in_force world region =
     option_map (λ limits. limits.prefix) (region_at world region).in_force
 
--- the limit in force for the task at a place of a region's tasks
+-- the limit in force for the task at an index of a region's tasks
 abbrev pub limit_in_force : {T : Type 0} → World T → ℕ → ℕ → Option ℕ
 limit_in_force world region place =
     option_map (λ limits. slice_index limits.limits place) (region_at world region).in_force

@@ -1,4 +1,4 @@
--- What stands after reports and posts.
+-- The state after reports and posts.
 use Rattle.std.specs.Prelude.{◌≡◌, ℕ, List, length, All}
 use Rattle.bwe_specs.specs.declared.report.Report.{Report}
 use Rattle.bwe_specs.specs.Allocation.{Plan, Table, allocation}

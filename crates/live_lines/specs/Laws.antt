@@ -10,8 +10,8 @@ PiecesDoNotMatter = (held : Held) (piece more : List ℕ)
     ≡ lines_from held piece ++ lines_from (held_after held piece) more)
     × (held_after held (piece ++ more) ≡ held_after (held_after held piece) more)
 
--- the lines that are cut are those of the text, and what is held is what it has left; each is none
--- where it is too long
+-- the lines that are cut are those of the text, and what is held is what it has left; a line is
+-- none where it is too long
 abbrev pub LinesAreOfTheText : Type 0
 LinesAreOfTheText = (text : List ℕ)
     → (lines_from (Some []) text ≡ map within (lines_of text))

@@ -88,7 +88,7 @@ meaning_of_words known (kind ∷ reporter ∷ name ∷ amount ∷ []) =
     reported (report_of known kind reporter name amount)
 meaning_of_words known (kind ∷ reporter ∷ name ∷ amount ∷ more ∷ words) = Refused NoLine
 
--- what a line without its line feed says; none is refused, whatever it said
+-- what a line without its line feed says; a line that is too long or ends with the input is refused
 unfoldable pub meaning_of : Known → Option Text → LineMeaning
 meaning_of known None = Refused NoLine
 meaning_of known (Some line) =

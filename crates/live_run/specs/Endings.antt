@@ -70,14 +70,14 @@ stop_status OutOfMemory = 6
 -- how it ended, with the bytes read and the text written
 pub data Ending (follow : Follow) (words : ℕ) (talk_after : Option Talk)
     (faults faults_after : Faults) (passed : Passed) : ℕ → Type 0 where
-  -- there are words: nothing is read
+  -- there are arguments: nothing is read
   no_words : 0 < words → passed.read ≡ [] → passed.written ≡ usage_line
       → Ending follow words talk_after faults faults_after passed 2
   -- the input has ended, and all that it calls for is written
   ended : words ≡ 0 → IsOver talk_after → IsJudged true follow passed.read
       → passed.written ≡ follow_text follow passed.read
       → Ending follow words talk_after faults faults_after passed 0
-  -- the document is refused, and the line that says so is written
+  -- the document is refused, and the row that says so is written
   refused : words ≡ 0 → IsJudged false follow passed.read
       → passed.written ≡ called_for follow passed.read
       → Ending follow words talk_after faults faults_after passed 3
@@ -108,8 +108,8 @@ pub data Ending (follow : Follow) (words : ℕ) (talk_after : Option Talk)
   out_of_memory : AreWhole follow passed
       → Ending follow words talk_after faults faults_after passed 6
 
--- a stream went from here to there as a conversation without words that was live all the way, and
--- ended or stopped
+-- a stream went from here to there as a conversation without arguments that was live all the way,
+-- and ended or stopped
 abbrev pub GoesOn : Follow → Option Talk → Option Talk → Faults → Faults → Passed → Result ℕ Stop
     → Type 0
 GoesOn follow talk talk_after faults faults_after before result =

@@ -1,4 +1,4 @@
--- The words of a line by their places, and the numbers and names among them. A text is the list of
+-- The words of a line by their indices, and the numbers and names among them. A text is the list of
 -- its bytes.
 use Rattle.std.specs.Prelude.{ℕ, Bool, List, Option}
 use Rattle.std.specs.List.{list_any}
@@ -6,11 +6,11 @@ use Rattle.std.specs.Str.{bytes_eq}
 use Rattle.doc_names.specs.NameTexts.{entry_at}
 use Rattle.text_scan.specs.Numbers.{printed_number_of}
 
--- the word in this place is this text
+-- the word of this index is this text
 abbrev pub is_word : List (List ℕ) → ℕ → List ℕ → Bool
 is_word words place text = bytes_eq (entry_at words place) text
 
--- the number that the word in this place is
+-- the number that the word of this index is
 abbrev pub number_at : List (List ℕ) → ℕ → Option ℕ
 number_at words place = printed_number_of (entry_at words place)
 

@@ -53,7 +53,7 @@ impl<'a> LineWords<'a> {
         self.count
     }
 
-    /// The word in this place, an empty one where the line has no such word.
+    /// The word of this index, an empty one where the line has no such word.
     pub(crate) fn word(&self, place: usize) -> &'a [u8]
         ensures { result.now ≡ entry_at self.now place }
     {
@@ -63,14 +63,14 @@ impl<'a> LineWords<'a> {
         b""
     }
 
-    /// Whether this text is the word in this place.
+    /// Whether this text is the word of this index.
     pub(crate) fn is_word(&self, place: usize, text: &[u8]) -> bool
         ensures { result ≡ is_word_of self.now place text.now }
     {
         self.word(place) == text
     }
 
-    /// The number in this place.
+    /// The number that the word of this index is.
     pub(crate) fn number_at(&self, place: usize) -> Option<u64>
         ensures { result ≡ number_in self.now place }
     {

@@ -1,4 +1,4 @@
--- The text of a run, line by line. A text is the list of its bytes.
+-- The text of a run, row by row. A text is the list of its bytes.
 use Rattle.std.specs.Prelude.{ℕ, suc, ◌++◌, List, [], ◌∷◌, length, flat_map, codes, decimal}
 use Rattle.bwe_specs.specs.Allocation.{Table}
 use Rattle.bwe_specs.specs.declared.report.Target.{Target}

@@ -7,7 +7,7 @@ use Rattle.bwe_specs.specs.declared.report.Target.TheVariants.{Task, Link}
 use Rattle.sample_lines.specs.declared.sample.Sample.{Sample}
 use Rattle.sample_lines.specs.Known.{Known}
 
--- it is of a task that there is, the task's owner told it, and its amount is not above the greatest
+-- it is of a task that there is, by the task's owner, and its amount is not above the greatest
 pub record IsHeld (known : Known) (sample : Sample) : Type 0 where
   pub task : sample.task < length known.names.tasks
   pub reporter : sample.reporter < length known.names.reporters

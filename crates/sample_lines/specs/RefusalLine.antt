@@ -1,4 +1,4 @@
--- The line that is printed for samples at fault.
+-- The row that is printed for samples at fault.
 use Rattle.std.specs.Prelude.{ℕ, ◌++◌, List, codes, decimal}
 
 abbrev pub sample_refusal : ℕ → List ℕ

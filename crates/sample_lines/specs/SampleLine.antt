@@ -32,7 +32,7 @@ amount_of digits = option_and_then amount_in_range (printed_number_of digits)
 
 -- ---- a sample
 
--- the sample of a text without its line feed: of a known task, told by its owner
+-- the sample of a text without its line feed: of a known task, by its owner
 unfoldable pub sample_of : Known → Text → Option Sample
 sample_of known text = do
   fields ← fields_of text

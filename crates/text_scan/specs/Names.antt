@@ -5,7 +5,7 @@ use Rattle.std.specs.Str.{bytes_eq}
 use Rattle.std.specs.declared.alloc.Global.{Global}
 use Rattle.text_scan.specs.declared.names.NameIndex.{NameIndex}
 
--- a name's number is the first place at which it stands
+-- a name's number is the first index at which it stands
 abbrev pub number_of_name : List (List ℕ) → List ℕ → Option ℕ
 number_of_name names name = position (bytes_eq name) names
 

@@ -7,7 +7,7 @@ use bwe_specs::OutOfMemory;
 use std::alloc::Global;
 use std::collections::HashMap;
 
-/// The numbers of names. A name's number is the first place at which it stands, and nothing else
+/// The numbers of names. A name's number is the first index at which it stands, and nothing else
 /// has one.
 #[derive(Drop)]
 pub struct NameIndex {

@@ -5,7 +5,7 @@ use Rattle.std.proofs.lemmas.List.FromFn.{length-map-range_with_len, get_or-map-
 use Rattle.bwe_specs.proofs.Bounds.{lowest-none, none-lowest, some-lowest}
 use Rattle.tier_text.specs.TierPart.{is_due, part_fault, tiers_in}
 
--- the first place that has not what is due
+-- the first byte at fault
 pub fault-found : (groups : ℕ) (part : List ℕ) (at : ℕ) → at < groups + 2 → is_due groups part at ≡ false → ((k : ℕ) → k < at → is_due groups part k ≡ true)
     → part_fault groups part ≡ Some at
 unfolding part_fault
@@ -13,7 +13,7 @@ fault-found groups part at within here below =
     some-lowest (groups + 2) (λ at. not (is_due groups part at)) at
     (record { below = within; passes = ap not here; none_lower = λ k lt. ap not (below k lt) })
 
--- no fault where each place has what is due
+-- no fault where each byte is what is due
 pub fault-none : (groups : ℕ) (part : List ℕ) → ((k : ℕ) → k < groups + 2 → is_due groups part k ≡ true) → part_fault groups part ≡ None
 unfolding part_fault
 fault-none groups part each = none-lowest (groups + 2) (λ at. not (is_due groups part at)) (λ k lt. ap not (each k lt))

@@ -10,7 +10,7 @@ use Rattle.tier_text.specs.declared.part.TiersError.TheVariants.{Refused, OutOfM
 abbrev pub is_tier_digit : ℕ → Bool
 is_tier_digit byte = nat_le 48 byte && nat_lt byte 56
 
--- the part has at this place what is due there: a digit for each group, then a line feed, then
+-- the part has at this byte what is due there: a digit for each group, then a line feed, then
 -- nothing
 abbrev pub is_due : ℕ → List ℕ → ℕ → Bool
 is_due groups part at =
@@ -32,6 +32,6 @@ abbrev pub TellsFault : Option ℕ → TiersError → Type 0
 TellsFault fault (Refused at) = fault ≡ Some at
 TellsFault fault OutOfMemory = Unit {0}
 
--- the line of a refused part
+-- the row of a refused part
 unfoldable pub tiers_line : ℕ → List ℕ
 tiers_line at = codes "refused 15 tiers at byte " ++ decimal at ++ codes "\n"

@@ -28,7 +28,7 @@ pub record AreParts (bytes : List ℕ) (parts : Parts) : Type 0 where
   pub two_part : IsTwoPart bytes digits document rest
   pub are : parts ≡ parts_behind digits (length document)
 
--- the document of an input lies from the start of its place to before the end
+-- the document of an input lies from its start to before its end
 abbrev pub document_in : List ℕ → Parts → List ℕ
 document_in input parts = drop parts.start (take parts.end input)
 

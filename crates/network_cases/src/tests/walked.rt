@@ -50,7 +50,7 @@ fn made(rt: &impl Abort, alloc: Global, size: Size, seed: u64) -> Result<Case, F
     Ok(case_of(alloc, topology, groups, slopes)?.expect(rt, "in range"))
 }
 
-// Whether none of the lists is seen that differ from these closings at one place.
+// Whether none of the lists is seen that differ from these closings at one index.
 fn no_other_is_seen(alloc: Global, case: &Case, closings: &[Closing]) -> Result<bool, OutOfMemory> {
     for place in 0..closings.len() {
         let mut higher = Vec::from_slice(alloc, closings)?;
