@@ -15,8 +15,8 @@ use Rattle.allocator.specs.Frames.{task_count}
 use Rattle.path_groups.specs.Given.{Group}
 use Rattle.path_groups.specs.Faults.{plan_fault}
 use Rattle.wan_topology.specs.Network.{network_of}
-use Rattle.owner_rule.specs.Owners.{not_owned}
-use Rattle.owner_rule.proofs.OwnerFacts.{IsOwned, by_owners}
+use Rattle.doc_names.specs.Owners.{not_owned}
+use Rattle.doc_names.proofs.OwnerFacts.{IsOwned, by_owners}
 use Rattle.raw_document.specs.declared.doc_path.PathStep.{PathStep}
 use Rattle.raw_document.specs.Json.{json}
 use Rattle.raw_document.specs.Forms.{document_at}

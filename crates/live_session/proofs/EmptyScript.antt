@@ -11,7 +11,7 @@ use Rattle.raw_document.specs.declared.doc_path.PathStep.{PathStep}
 use Rattle.raw_document.specs.declared.doc_path.PathStep.TheVariants.{Key}
 use Rattle.raw_document.specs.Reading.{◌>>=◌, each, under}
 use Rattle.raw_document.specs.Raw.{Raw}
-use Rattle.owner_rule.specs.Owners.{not_owned}
+use Rattle.doc_names.specs.Owners.{not_owned}
 use Rattle.doc_names.specs.NameTexts.{NameTexts}
 use Rattle.doc_passes.specs.declared.limit.What.TheVariants as counts
 use Rattle.doc_passes.specs.Limits.{first_some, group_overrun, hops, lists_overrun, overrun, overrun_of, overrun_within}

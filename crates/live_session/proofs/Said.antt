@@ -10,8 +10,8 @@ use Rattle.bwe_specs.specs.declared.report.Report.{Report}
 use Rattle.bwe_specs.specs.declared.report.Target.{Target}
 use Rattle.bwe_specs.specs.declared.report.Target.TheVariants.{Task, Link}
 use Rattle.demand_book.specs.Fit.{IsFit, IsInRange}
-use Rattle.owner_rule.specs.Owners.{is_owner, owner_of}
-use Rattle.owner_rule.proofs.OwnerFacts.{owner_is}
+use Rattle.doc_names.specs.Owners.{is_owner, owner_of}
+use Rattle.doc_names.proofs.OwnerFacts.{owner_is}
 use Rattle.text_scan.specs.Names.{number_of_name}
 use Rattle.text_scan.specs.Numbers.{amount_in_range, number_of}
 use Rattle.text_scan.specs.Words.{Text, words_of}
