@@ -1,5 +1,5 @@
 -- The rows of a table text and of a change text, and the one put into the other.
-use Rattle.std.proofs.Common.{◌≡◌, ◌≢◌, ◌<◌, ◌+◌, ℕ, Bool, true, false, cond, not, List, [], ◌∷◌, ◌++◌, length, map, filter, flat_map, get_or, Option, Some, None, refl, sym, ap, ap₂, subst, ◌∙◌, arith, All, ◌==◌, ◌||◌, codes, decimal, ◌⊎◌, inl, inr, append_assoc, append-nil, bytes_eq, sum_by, slice_index, slice_index_or, ne_eqb}
+use Rattle.std.proofs.Common.{◌≡◌, ◌≢◌, ◌<◌, ℕ, Bool, true, false, cond, not, List, [], ◌∷◌, ◌++◌, length, map, filter, flat_map, get_or, Option, Some, None, refl, sym, ap, ap₂, subst, ◌∙◌, arith, All, ◌==◌, ◌||◌, codes, decimal, ◌⊎◌, inl, inr, append_assoc, append-nil, bytes_eq, sum_by, slice_index, slice_index_or, ne_eqb}
 use Rattle.std.specs.List.{list_any}
 use Rattle.std.proofs.lemmas.Bool.{cases_lt}
 use Rattle.std.proofs.lemmas.List.{append_cancel_left, get_or_past}
