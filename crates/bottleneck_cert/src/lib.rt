@@ -23,6 +23,7 @@ use crate::by_all::verdict_by_all;
 use bwe_specs::OutOfMemory;
 pub use bwe_specs::{Cause, Closing, Verdict};
 use closing_walk::seen_right;
+use kept_values::{KeptValues, Meant};
 use mono_search::Steps;
 use mpfa_fill::GroupValues;
 use path_groups::PathPlan;
@@ -114,8 +115,54 @@ pub fn check_by_looks<V: GroupValues, L: Ledger>(
     Ok(verdict)
 }
 
-// The verdict of the walk, or else of the pass over all links.
+// The verdict, with values that are kept once they were asked for.
 fn judged<V: GroupValues, L: Ledger>(
+    alloc: Global,
+    values: &V,
+    topology: &Topology,
+    plan: &PathPlan,
+    closings: &[Closing],
+    steps: &mut Steps<L>,
+) -> Result<Verdict, OutOfMemory>
+    requires built_on { IsBuiltOn topology.now plan.now }
+    requires groups { (V.meaning values.now).groups ≡ length plan.now }
+    ensures verdict { IfOk result (λ verdict. verdict
+        ≡ verdict_of (wan_of (V.meaning values.now) plan.now topology.now.capacities)
+        closings.now) }
+    ensures looks { IfOk result (λ verdict. verdict ≡ Right
+        → let links = length topology.now.capacities in
+        steps.new
+        ≤ steps.old + (links + length closings.now + 2 * links_over_all links plan.now)) }
+{
+    judged_by::<V, Brand, L>(alloc, values, topology, plan, closings, steps)
+}
+
+// The same, where the values are told apart by their meaning.
+fn judged_by<V: GroupValues, K: Meant, L: Ledger>(
+    alloc: Global,
+    values: &V,
+    topology: &Topology,
+    plan: &PathPlan,
+    closings: &[Closing],
+    steps: &mut Steps<L>,
+) -> Result<Verdict, OutOfMemory>
+    requires meant { K.value ≡ (V.meaning values.now).value }
+    requires built_on { IsBuiltOn topology.now plan.now }
+    requires groups { (V.meaning values.now).groups ≡ length plan.now }
+    ensures verdict { IfOk result (λ verdict. verdict
+        ≡ verdict_of (wan_of (V.meaning values.now) plan.now topology.now.capacities)
+        closings.now) }
+    ensures looks { IfOk result (λ verdict. verdict ≡ Right
+        → let links = length topology.now.capacities in
+        steps.new
+        ≤ steps.old + (links + length closings.now + 2 * links_over_all links plan.now)) }
+{
+    let kept: KeptValues<V, K> = KeptValues::of(alloc, values)?;
+    walked(alloc, &kept, topology, plan, closings, steps)
+}
+
+// The verdict of the walk, or else of the pass over all links.
+fn walked<V: GroupValues, L: Ledger>(
     alloc: Global,
     values: &V,
     topology: &Topology,

@@ -1,5 +1,5 @@
 use Rattle.bottleneck_cert.proofs.Causes.{right-is, not-right}
-use Rattle.bottleneck_cert.proofs.judged.Goals as goal
+use Rattle.bottleneck_cert.proofs.walked.Goals as goal
 
 pub returns-then-branch-clause-verdict : goal.returns-then-branch-clause-verdict
 returns-then-branch-clause-verdict g c = right-is _ c.args.closings.now (c.in_ok-seen_right.ensures.right c.if-branch.true)
