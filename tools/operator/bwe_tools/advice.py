@@ -7,7 +7,8 @@ from collections import defaultdict
 from collections.abc import Iterable, Iterator
 from dataclasses import dataclass
 
-from bwe_tools.raw import Place, RawDocument, RawFunction, RawGroup, RawJob, RawPath, RawUser
+from bwe_tools.raw import Place, RawDocument, RawFunction, RawPath
+from bwe_tools.sound import NAME_OF
 
 # The rates of common lines, in kb/s.
 WHOLE_LINES = {1_000_000 * gigabits for gigabits in (1, 10, 25, 40, 50, 100, 200, 400, 800)}
@@ -24,6 +25,8 @@ def unreported_tasks(raw: RawDocument) -> Iterator[Advice]:
     for group_at, group in enumerate(raw["groups"]):
         for user_at, user in enumerate(group["users"]):
             for job_at, job in enumerate(user["jobs"]):
+                if reported.issuperset(map(NAME_OF, job["tasks"])):
+                    continue
                 for at, task in enumerate(job["tasks"]):
                     if task["name"] not in reported:
                         place = ("groups", group_at, "users", user_at, "jobs", job_at, "tasks")

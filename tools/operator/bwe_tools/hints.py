@@ -7,10 +7,12 @@ import re
 import unicodedata
 from collections.abc import Iterable
 from itertools import islice
+from string import ascii_letters, digits
 
 from bwe_tools.units import kilobits
 
 NAME = re.compile(r"[A-Za-z0-9_.-]{1,64}\Z")
+NAME_LETTERS, MOST_LETTERS = (ascii_letters + digits + "_.-").encode(), 64
 # Letters that are easily taken for digits, in words whose capitals are small letters.
 LOOK_ALIKE = str.maketrans("oil", "011")
 MANY, ENDS = 20_000, 3

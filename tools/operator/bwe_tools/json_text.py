@@ -8,10 +8,10 @@ import math
 import re
 from array import array
 from bisect import bisect_right
-from collections.abc import Iterator
+from collections.abc import Callable, Iterator
 from contextlib import contextmanager
 from dataclasses import dataclass
-from itertools import accumulate
+from itertools import accumulate, islice
 from typing import Any, NoReturn
 
 from bwe_tools.raw import Place
@@ -23,11 +23,15 @@ TOKEN = re.compile(r'"(?:[^"\\]|\\.)*"|[\[\]{}]', re.DOTALL)
 TEXT = re.compile(r'"(?:[^"\\]|\\.)*"', re.DOTALL)
 PIECE, PARTS, LONG = 1 << 20, 1 << 16, 4_000_000
 NO_BRACKET = bytes(set(range(256)) - set(b"[]{}"))
+NO_MARK = bytes(set(range(256)) - set(b'[]{}"'))
+# How a number with a sign begins behind what may stand before a value.
+SIGNED = tuple(before + "-" for before in ":,[ \t\n\r")
 # A number that Python reads as another whole number than bwe has a sign or is so long.
 DIGITS_AS_0 = bytes(48 if 48 <= byte < 58 else byte for byte in range(256))
 LONG_NUMBER = b"0" * 20
 # What opens a level counts 1, and what closes one -1.
 LEVELS = [(byte in b"[{") - (byte in b"]}") for byte in range(256)]
+BRACKET, KEYS = re.compile(r"[\[\]{}]"), json.JSONDecoder()
 ESCAPE = re.compile(r"\\(?:u([0-9a-fA-F]{4})|.)", re.DOTALL)
 
 
@@ -104,7 +108,7 @@ def value_of(text: str) -> Any:
                 parse_int=parse_int,
                 parse_float=NoWhole,
                 parse_constant=refuse_constant,
-                object_hook=OneOfEach().put if len(text) > LONG else None,
+                object_hook=one_of_each() if len(text) > LONG else None,
             )
     except json.JSONDecodeError as fault:
         raise NotJson(json_sentence(text, fault), fault.pos) from None
@@ -114,35 +118,25 @@ def value_of(text: str) -> Any:
     return value
 
 
-class OneOfEach:
-    """Keeps of each name of a link of a path, a reporter and a task one text, however often it
-    stands: of a long document they are a third of all that its value takes, and may be most.
+def one_of_each() -> Callable[[dict[str, Any]], dict[str, Any]]:
+    """A hook that keeps of each name of a reporter and of a link of a path one text, however often
+    it stands: of a long document they may be most of what its value takes. It is called for each
+    object of a document, and does little.
     """
+    known: dict[str, str] = {}
+    keep = known.setdefault
 
-    def __init__(self) -> None:
-        self.known: dict[str, str] = {}
-
-    def put(self, found: dict[str, Any]) -> dict[str, Any]:
-        if "reporter" in found:
-            self.put_key(found, "reporter")
-            self.put_key(found, "task" if "task" in found else "name")
+    def put(found: dict[str, Any]) -> dict[str, Any]:
+        reporter = found.get("reporter")
+        if type(reporter) is str:
+            found["reporter"] = keep(reporter, reporter)
         elif "weight" in found:
-            self.put_links(found)
+            links = found.get("links")
+            if type(links) is list and all(type(link) is str for link in links):
+                found["links"] = list(map(keep, links, links))
         return found
 
-    def put_links(self, found: dict[str, Any]) -> None:
-        links: Any = found.get("links")
-        try:
-            "".join(links)
-        except TypeError:  # other than texts
-            return
-        if type(links) is list:
-            found["links"] = list(map(self.known.setdefault, links, links))
-
-    def put_key(self, found: dict[str, Any], key: str) -> None:
-        text = found.get(key)
-        if type(text) is str:
-            found[key] = self.known.setdefault(text, text)
+    return put
 
 
 @contextmanager
@@ -180,8 +174,39 @@ def outside_of_texts(text: str) -> Iterator[str]:
         start = end if end >= 0 else len(text)
 
 
+def plain_brackets(text: str) -> bytes | None:
+    """The brackets of a text in their order, where none stands between double quotes and nothing is
+    escaped there; else None.
+    """
+    if "\\" in text:
+        return None
+    # Before a bracket that stands outside there is an even number of quotes, so runs of them go.
+    marks = text.encode().translate(None, NO_MARK).replace(b'""', b"")
+    return None if b'"' in marks else marks
+
+
+def is_plain(text: str) -> bool:
+    """A quick yes, as for most documents: no number is in doubt, and lists and objects are nested
+    well and at most `MOST_LEVELS` deep.
+    """
+    brackets = plain_brackets(text)
+    if brackets is None or text.startswith("-") or any(sign in text for sign in SIGNED):
+        return False
+    if LONG_NUMBER in text.encode().translate(DIGITS_AS_0):
+        return False
+    # A round takes away the innermost lists and objects, which are at most two levels.
+    for _ in range(MOST_LEVELS // 2):
+        left = brackets.replace(b"[]", b"").replace(b"{}", b"")
+        if not left or len(left) == len(brackets):
+            return not left
+        brackets = left
+    return False
+
+
 def look_outside(text: str) -> bool:
     """Whether a number is in doubt; NotJson where lists and objects are nested too deep."""
+    if is_plain(text):
+        return False
     is_doubtful, level = False, 0
     for piece in outside_of_texts(text):
         outside = piece.encode()
@@ -279,24 +304,72 @@ def after_space(text: str, at: int) -> int:
     return at if found is None else found.end()
 
 
-def members(text: str, at: int) -> Iterator[tuple[str | int, int, int]]:
-    """The steps of the object or list that begins at an offset: the step, where its key stands,
-    where its value stands. Values are read over, and none is kept.
+Skip = Callable[[int], int]  # from where a value begins to where it ends
+
+
+def skipped_by_parser(text: str) -> Skip:
+    """Reads over values, of which none is kept."""
+    decoder = json.JSONDecoder(object_pairs_hook=len, parse_float=len)
+
+    def skip(at: int) -> int:
+        return decoder.raw_decode(text, at)[1]
+
+    return skip
+
+
+def skipped_by_brackets(text: str) -> Skip:
+    """The same for a text that has brackets outside of its texts alone (`plain_brackets`): several
+    times as quick for a long list or object.
     """
-    decoder = json.JSONDecoder(object_pairs_hook=len, parse_int=len, parse_float=len, strict=True)
+    skip_short = skipped_by_parser(text)
+
+    def skip(at: int) -> int:
+        if text[at] not in "[{":
+            return skip_short(at)
+        level = 0
+        for start in range(at, len(text), PIECE):
+            piece = text[start : start + PIECE]
+            steps = map(LEVELS.__getitem__, piece.encode().translate(None, NO_BRACKET))
+            levels = list(accumulate(steps, initial=level))[1:]
+            if 0 in levels:
+                ends = islice(BRACKET.finditer(piece), levels.index(0), None)
+                return start + next(ends).end()
+            level = levels[-1] if levels else level
+        return len(text)
+
+    return skip
+
+
+def members(text: str, at: int, skip: Skip) -> Iterator[tuple[str | int, int, int]]:
+    """The steps of the object or list that begins at an offset: the step, where its key stands,
+    where its value stands.
+    """
     is_object = text[at] == "{"
     number, at = 0, after_space(text, at + 1)
     while text[at] not in "]}":
         key_at = at
         step: str | int = number
         if is_object:
-            step, at = decoder.raw_decode(text, at)
+            step, at = KEYS.raw_decode(text, at)
             at = after_space(text, after_space(text, at) + 1)
         yield step, key_at, at
-        at = after_space(text, decoder.raw_decode(text, at)[1])
+        at = after_space(text, skip(at))
         if text[at] == ",":
             at = after_space(text, at + 1)
         number += 1
+
+
+class Entries:
+    """Where the entries of a list stand, read as far as it is asked."""
+
+    def __init__(self, found: Iterator[tuple[str | int, int, int]]) -> None:
+        self.offsets = array("q")
+        self.found = found
+
+    def offset_of(self, number: int) -> int:
+        missing = number + 1 - len(self.offsets)
+        self.offsets.extend(value for _, _, value in islice(self.found, max(0, missing)))
+        return self.offsets[number]
 
 
 class Places:
@@ -306,8 +379,9 @@ class Places:
         self.text = text
         self.lines = array("q", [0])
         self.lines.extend(found.end() for found in re.finditer("\n", text))
+        self.skip = skipped_by_parser(text)
         self.objects: dict[int, dict[str, tuple[int, int]]] = {}
-        self.lists: dict[int, array[int]] = {}
+        self.lists: dict[int, Entries] = {}
 
     def offset_of(self, place: Place, is_key: bool = False) -> int:
         """Where the value at a place stands, or its key. Of a key that an object repeats the last
@@ -323,15 +397,21 @@ class Places:
     def members_of(self, at: int) -> dict[str, tuple[int, int]]:
         """Where the keys and the values of the object at an offset stand."""
         if at not in self.objects:
-            found = members(self.text, at)
+            found = members(self.text, at, self.skip if self.objects else self.skip_long())
             self.objects[at] = {str(step): (key, value) for step, key, value in found}
         return self.objects[at]
+
+    def skip_long(self) -> Skip:
+        """What to read over the members of the root with, which are long."""
+        is_quick = plain_brackets(self.text) is not None
+        return skipped_by_brackets(self.text) if is_quick else self.skip
 
     def entry_of(self, at: int, number: int) -> tuple[int, int]:
         """Where an entry of the list at an offset stands, which is its key as well."""
         if at not in self.lists:
-            self.lists[at] = array("q", (value for _, _, value in members(self.text, at)))
-        return self.lists[at][number], self.lists[at][number]
+            self.lists[at] = Entries(members(self.text, at, self.skip))
+        offset = self.lists[at].offset_of(number)
+        return offset, offset
 
     def position(self, offset: int) -> Position:
         """Line and column, from 1, as editors count them."""

@@ -6,6 +6,8 @@ from __future__ import annotations
 
 from collections import Counter
 from collections.abc import Iterable, Iterator, Mapping, Sequence
+from itertools import chain
+from operator import eq
 from typing import NamedTuple, TypeVar
 
 from bwe_tools import hints, limits, units
@@ -24,6 +26,7 @@ from bwe_tools.raw import (
     RawTask,
     RawUser,
 )
+from bwe_tools.sound import AT_ONCE, DEMAND_OF, FEW, NAME_OF, REPORTER_OF
 
 MOST_SHARE = 1_000_000_000
 MOST_POINTS, MOST_PATHS, MOST_PATH_LINKS, MOST_WEIGHT = 256, 16, 32, 1_000
@@ -66,8 +69,21 @@ def entries(listed: Iterable[Entry | None]) -> Iterator[tuple[int, Entry]]:
     return ((at, entry) for at, entry in enumerate(listed) if entry is not None)
 
 
-def plain_names(names: Iterable[str]) -> set[str]:
-    return set(filter(hints.NAME.match, names))
+def plain_names(names: Iterable[str]) -> frozenset[str]:
+    listed = list(names)
+    if len(listed) > FEW and are_plain_names(listed):
+        return frozenset(listed)
+    return frozenset(filter(hints.NAME.match, listed))
+
+
+def are_plain_names(names: list[str]) -> bool:
+    """A quick yes for many names at once."""
+    whole = "\n".join(names)
+    return (
+        whole.isascii()
+        and whole.encode().translate(None, hints.NAME_LETTERS) == b"\n" * (len(names) - 1)
+        and 0 < min(map(len, names)) <= max(map(len, names)) <= hints.MOST_LETTERS
+    )
 
 
 def odd_names(names: list[str]) -> frozenset[str]:
@@ -97,10 +113,15 @@ class Walk:
             "task": [task["name"] for task in tasks(raw)],
         }
         self.odd = {kind: odd_names(names) for kind, names in new.items()}
-        self.known = {
-            kind: unread.union(new[kind]) for kind in ("link", "reporter", "task")
+        self.known = {kind: unread.union(new[kind]) for kind in ("link", "reporter", "task")}
+        self.plain: dict[str, frozenset[str]] = {
+            kind: plain_names(names) if unread or self.odd[kind] else names
+            for kind, names in self.known.items()
         }
-        self.plain = {kind: plain_names(names) for kind, names in self.known.items()}
+        # The reports, so many at a time, together where all are of demands.
+        self.pieces = [
+            (start, piece, demands_of(piece)) for start, piece in pieces_of_script(raw["script"])
+        ]
         self.values = list(self._values())
 
     def _values(self) -> Iterator[Value]:
@@ -123,8 +144,25 @@ class Walk:
             yield from self._number(("closings", at, "share"), closing["share"], 0, MOST_SHARE)
 
     def _script(self) -> Iterator[Value]:
+        for start, piece, demands in self.pieces:
+            if demands is None or not self._are_known(demands):
+                yield from self._reports(start, piece)
+
+    def _are_known(self, demands: Demands) -> bool:
+        """Whether names and amounts of many reports are no fault of any refusal."""
+        return (
+            self.plain["reporter"].issuperset(demands.reporters)
+            and self.plain["task"].issuperset(demands.tasks)
+            and 0 <= min(demands.amounts)
+            and max(demands.amounts) <= units.MOST
+        )
+
+    def _reports(self, start: int, script: Script) -> Iterator[Value]:
+        """The values of some reports, of which the first has a number."""
         reporters, plain, most = self.plain["reporter"], self.plain, units.MOST
-        for at, report in entries(self.raw["script"]):
+        for at, report in enumerate(script, start):
+            if report is None:
+                continue
             if "link" in report:
                 thing, name, key, amount = "link", report["link"], "capacity", report["capacity"]
             else:
@@ -169,6 +207,12 @@ class Walk:
 
     def _tasks(self, place: Place, listed: list[RawTask]) -> Iterator[Value]:
         odd, reporters = self.odd["task"], self.plain["reporter"]
+        if (
+            odd.isdisjoint(map(NAME_OF, listed))
+            and reporters.issuperset(map(REPORTER_OF, listed))
+            and all(1 <= task["weight"] <= MOST_WEIGHT for task in listed if "weight" in task)
+        ):
+            return
         for at, task in enumerate(listed):
             if (
                 task["name"] in odd
@@ -191,6 +235,28 @@ class Walk:
     def _number(self, place: Place, number: int, least: int, most: int) -> Iterator[Value]:
         if not least <= number <= most:
             yield Number(place, number, least, most)
+
+
+class Demands(NamedTuple):
+    """Reports of demands by what they say, each in the order of the reports."""
+
+    reporters: tuple[str, ...]
+    tasks: tuple[str, ...]
+    amounts: tuple[int, ...]
+
+
+Script = Sequence[RawReport | None]
+
+
+def pieces_of_script(script: Script) -> Iterator[tuple[int, Script]]:
+    """Some reports after the other, with the number of the first."""
+    return ((start, script[start : start + AT_ONCE]) for start in range(0, len(script), AT_ONCE))
+
+
+def demands_of(script: Script) -> Demands | None:
+    """Some reports where all of them are of demands, so that they can be looked at together."""
+    demands = [report for report in script if report is not None and "task" in report]
+    return Demands(*zip(*map(DEMAND_OF, demands))) if len(demands) == len(script) else None
 
 
 def functions(raw: Looked) -> Iterator[tuple[Place, RawFunction]]:
@@ -226,10 +292,12 @@ def hops(raw: Looked) -> int:
 
 def tasks(raw: Looked) -> Iterator[RawTask]:
     """All tasks in the order of the walk."""
-    for _, group in entries(raw["groups"]):
-        for user in group["users"]:
-            for job in user["jobs"]:
-                yield from job["tasks"]
+    return chain.from_iterable(
+        job["tasks"]
+        for _, group in entries(raw["groups"])
+        for user in group["users"]
+        for job in user["jobs"]
+    )
 
 
 OF_4_BY_NAME = {
@@ -489,15 +557,32 @@ def nodes_of(at: int, group: RawGroup) -> Iterator[tuple[Place, Sequence[object]
 
 
 def not_owners(walk: Walk) -> Iterator[Fault]:
-    owners: dict[str, dict[str, str | None]] = {
-        "link": {link["name"]: link.get("owner") for _, link in entries(walk.raw["links"])},
-        "task": {task["name"]: task["reporter"] for task in tasks(walk.raw)},
-    }
-    for at, report in entries(walk.raw["script"]):
-        thing, name = ("link", report["link"]) if "link" in report else ("task", report["task"])
-        if name not in owners[thing]:
+    links = {link["name"]: link.get("owner") for _, link in entries(walk.raw["links"])}
+    names = map(NAME_OF, tasks(walk.raw))
+    of_tasks: dict[str, str | None] = dict(zip(names, map(REPORTER_OF, tasks(walk.raw))))
+    for start, piece, demands in walk.pieces:
+        if demands is None or not all(
+            map(eq, map(of_tasks.get, demands.tasks, demands.reporters), demands.reporters)
+        ):
+            yield from not_owners_of(start, piece, links, of_tasks)
+
+
+Owners = Mapping[str, str | None]
+
+
+def not_owners_of(
+    start: int, script: Script, links: Owners, of_tasks: Owners
+) -> Iterator[Fault]:
+    """The faults of some reports, of which the first has a number."""
+    for at, report in enumerate(script, start):
+        if report is None:
             continue
-        owner = owners[thing][name]
+        is_link = "link" in report
+        thing, name = ("link", report["link"]) if is_link else ("task", report["task"])
+        owners = links if is_link else of_tasks
+        if name not in owners:
+            continue
+        owner = owners[name]
         if owner != report["reporter"]:
             of = f'owned by "{owner}"' if owner else "without an owner"
             sentence = (

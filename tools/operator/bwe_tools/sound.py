@@ -6,7 +6,9 @@ Most documents are sound, and of one that is not most entries are.
 
 from __future__ import annotations
 
-from collections.abc import Callable, Iterable
+from collections.abc import Callable, Iterable, Iterator
+from itertools import chain, islice
+from operator import itemgetter
 from typing import Any, TypeGuard, cast
 
 from bwe_tools.raw import RawDocument, RawPart
@@ -23,6 +25,10 @@ DEMAND = frozenset(("reporter", "task", "demand"))
 CAPACITY = frozenset(("reporter", "link", "capacity"))
 CLOSING = frozenset(("link", "share"))
 NONE: frozenset[str] = frozenset()
+# Many tasks or reports are looked at together.
+FEW, AT_ONCE = 8, 4_096
+NAME_OF, REPORTER_OF = itemgetter("name"), itemgetter("reporter")
+DEMAND_OF = itemgetter("reporter", "task", "demand")
 Members = dict[str, Any]  # an object of JSON whose values were not looked at
 FUNCTION = frozenset(("function",))
 
@@ -63,6 +69,44 @@ def is_plain_demand(report: object) -> bool:
     return type(report.get("reporter")) is type(report.get("task")) is str
 
 
+def tasks_of(groups: list[Members]) -> Iterator[Any]:
+    """All that stands in the lists of tasks of groups."""
+    return chain.from_iterable(
+        job["tasks"] for group in groups for user in group["users"] for job in user["jobs"]
+    )
+
+
+def pieces_of(entries: Iterator[Any]) -> Iterator[list[Any]]:
+    """Some entries after the other, of many so many that a look at them together is worth it."""
+    while piece := list(islice(entries, AT_ONCE)):
+        yield piece
+
+
+def are_plain_tasks(tasks: list[Any], may_have_weight: bool) -> bool:
+    """A quick yes for many tasks at once."""
+    if set(map(type, tasks)) != {dict}:
+        return False
+    try:
+        texts = set(map(type, map(NAME_OF, tasks))) | set(map(type, map(REPORTER_OF, tasks)))
+        weights = {type(task["weight"]) for task in tasks if len(task) != 2}
+    except KeyError:
+        return False
+    is_short = max(map(len, tasks)) <= (3 if may_have_weight else 2)
+    return is_short and texts == {str} and weights <= {int}
+
+
+def are_plain_demands(reports: list[Any]) -> bool:
+    """A quick yes for many reports of demands at once."""
+    if set(map(type, reports)) != {dict} or set(map(len, reports)) != {3}:
+        return False
+    try:
+        reporters, tasks, amounts = zip(*map(DEMAND_OF, reports))
+    except KeyError:
+        return False
+    kinds = set(map(type, reporters)) | set(map(type, tasks))
+    return kinds == {str} and set(map(type, amounts)) == {int}
+
+
 def is_function(value: object) -> bool:
     return is_list(value) and all(
         type(point) is list and len(point) == 2 and type(point[0]) is type(point[1]) is int
@@ -87,6 +131,14 @@ class Shape:
         )
 
     def group(self, group: object) -> bool:
+        return self.frame(group) and self.are_tasks(tasks_of([group]))
+
+    def groups(self, groups: list[Any]) -> bool:
+        """Whether all are groups."""
+        return all(map(self.frame, groups)) and self.are_tasks(tasks_of(groups))
+
+    def frame(self, group: object) -> TypeGuard[Members]:
+        """Whether it is a group, but for its tasks."""
         return (
             has(group, GROUP, FUNCTION)
             and are_texts(group["name"], group["from"], group["to"])
@@ -107,6 +159,7 @@ class Shape:
         )
 
     def user(self, user: object) -> bool:
+        """Whether it is a user, but for its tasks."""
         return (
             has(user, USER, FUNCTION)
             and are_texts(user["name"])
@@ -115,14 +168,31 @@ class Shape:
             and all(map(self.job, user["jobs"]))
         )
 
+    def are_tasks(self, tasks: Iterator[Any]) -> bool:
+        """Whether all are tasks, many of which are asked about at once: there may be a million."""
+        may_have_weight = bool(self.task_options)
+        return all(
+            are_plain_tasks(piece, may_have_weight)
+            or all(is_plain_task(task) or self.task(task) for task in piece)
+            for piece in pieces_of(tasks)
+        )
+
+    def are_reports(self, script: list[Any]) -> bool:
+        """Whether all are reports."""
+        return all(
+            are_plain_demands(piece)
+            or all(is_plain_demand(report) or self.report(report) for report in piece)
+            for piece in pieces_of(iter(script))
+        )
+
     def job(self, job: object) -> bool:
+        """Whether it is a job, but for its tasks."""
         return (
             has(job, JOB, FUNCTION)
             and are_texts(job["name"])
             and is_function(job.get("function", []))
             and is_function(job["task"])
             and is_list(job["tasks"])
-            and all(is_plain_task(task) or self.task(task) for task in job["tasks"])
         )
 
     def task(self, task: object) -> bool:
@@ -145,6 +215,14 @@ class Shape:
     def closing(closing: object) -> bool:
         return has(closing, CLOSING) and are_texts(closing["link"]) and is_whole(closing["share"])
 
+    def are_of_list(self, key: str, entries: list[Any]) -> bool:
+        """Whether all entries of a list of the root have their shape."""
+        if key == "script":
+            return self.are_reports(entries)
+        if key == "groups":
+            return self.groups(entries)
+        return all(map(self.check_of(key), entries))
+
     def check_of(self, key: str) -> Callable[[object], bool]:
         """What tells whether an entry of a list of the root has its shape."""
         checks: dict[str, Callable[[object], bool]] = {
@@ -165,8 +243,7 @@ def is_shaped(raw: object) -> TypeGuard[RawDocument]:
         return False
     shape = Shape(raw["version"])
     return all(
-        is_list(raw.get(key, [])) and all(map(shape.check_of(key), raw.get(key, [])))
-        for key in LISTS
+        is_list(raw.get(key, [])) and shape.are_of_list(key, raw.get(key, [])) for key in LISTS
     )
 
 

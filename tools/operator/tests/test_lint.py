@@ -504,6 +504,64 @@ def test_places_are_found_in_the_text():
     assert places.offset_of(("a", 1, "b"), is_key=True) == text.rindex('"b"')
 
 
+@pytest.mark.parametrize(
+    "text",
+    [
+        '{"a": [1, {"b": "x"}], "c": "\u00e4\u4e16", "d": []}',
+        '{"a": "[", "b": ["]", "}{"], "c": 5}',
+        '{"a": "x\\"[", "b": [[1]]}',
+        '["- 1", ", -2", "00000000000000000000"]',
+        '{"a": [-5]}',
+        '[1,\n-5]',
+        "-5",
+        '{"a": 18446744073709551616}',
+        "[" * 126 + "]" * 126,
+        "[" * 127 + "]" * 127,
+        "[" * 128 + "]" * 128,
+        '["]", ' * 128 + '"["]' * 128,
+        "[1, 2",
+    ],
+)
+def test_a_quick_look_at_a_text_says_what_the_long_one_does(text, monkeypatch):
+    def told():
+        try:
+            offsets = [json_text.Places(text).offset_of((key,)) for key in members]
+            return json_text.look_outside(text), offsets
+        except json_text.NotJson as fault:
+            return str(fault), fault.offset
+
+    members = json.loads(text) if text[0] == "{" else {}
+    quick = told()
+    monkeypatch.setattr(json_text, "plain_brackets", lambda _: None)
+    assert told() == quick
+
+
+def test_faults_far_down_in_long_lists_are_found():
+    """Long lists are looked at many entries at a time."""
+    document = json.loads(DOCUMENT)
+    job = document["groups"][0]["users"][0]["jobs"][0]
+    job["tasks"] = [{"name": f"t{at}", "reporter": "hosts"} for at in range(9_000)]
+    document["script"] = [
+        {"reporter": "hosts", "task": f"t{at}", "demand": 1} for at in range(9_000)
+    ]
+    assert "fault" not in run("lint", given=json.dumps(document).encode()).out
+    document["script"][2] = {"reporter": "noc", "link": "fra-ams", "capacity": 5}
+    document["script"][4_100]["reporter"] = "noc"
+    document["script"][4_101]["task"] = "t9000"
+    document["script"][8_500]["demand"] = 2 * 10**12
+    job["tasks"][8_600]["weight"] = 0
+    job["tasks"][8_700]["name"] = "t1 "
+    told = run("lint", given=json.dumps(document, indent=0).encode()).out
+    assert re.findall(r"fault: (.{24})", told) == [
+        '"weight" is 0, and has t',
+        '"t1 " is no name: those ',
+        '"demand" is 200000000000',
+        'there is no task "t9000"',
+        'there is no task "t8700"',
+        'task "t4100" is owned by',
+    ]
+
+
 def test_a_trace_of_python_is_never_shown():
     """The launcher itself, on arguments and files that are at fault."""
     tool = ROOT / "bwe-tools"

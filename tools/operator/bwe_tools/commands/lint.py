@@ -41,6 +41,11 @@ def command(file: str, is_all: bool) -> None:
 
     Example: bwe-tools lint examples/maintenance.json
     """
+    with json_text.collector_at_rest():
+        lint(file, is_all)
+
+
+def lint(file: str, is_all: bool) -> None:
     text, size = read_text(file)
     progress = Stages(size)
     progress.stage("reading")
