@@ -17,7 +17,7 @@ from bwe_tools.table import Table, parse_table
 from bwe_tools.units import MOST
 
 AHEAD = 64  # matrices that are sent before the first answer is taken
-MOST_UNREAD = 256  # changes that wait until the table is asked for
+MOST_UNREAD = 1 << 25  # bytes of changes that wait until the table is asked for
 
 
 class UnknownName(ToolError):
@@ -56,10 +56,14 @@ class Live:
     ) -> None:
         self.document = document
         self.demands, self.capacities = document.demands(), document.capacities()
-        self._task_owners = {task.name: task.reporter for task in document.tasks()}
+        # Of each task how a row that reports its demand begins.
+        self._demand_rows = {
+            task.name: f"demand {task.reporter} {task.name} " for task in document.tasks()
+        }
         self._link_owners = {link.name: link.owner for link in document.links}
         self._rows: list[str] = []
         self._unread: list[Change] = []
+        self._unread_size = 0
         self._child = LiveProgram(document_text(document).encode(), program, timeout)
         self._kept = KeptTable(parse_table(self._child.first, "the answer of `bwe-live`"))
 
@@ -94,8 +98,10 @@ class Live:
             for change in self._unread:
                 self._kept.put_in(change.parsed)
         else:
-            self._kept.put_in(parse_change(merged([change.text for change in self._unread])))
+            texts = [change.text for change in self._unread]
+            self._kept.put_in(parse_change(merged(texts, self._kept.things)))
         self._unread.clear()
+        self._unread_size = 0
         return self._kept
 
     @property
@@ -105,11 +111,13 @@ class Live:
 
     def demand(self, task: str, amount: int) -> None:
         """Reports a task's demand in kb/s with the next post."""
-        owner = self._task_owners.get(task)
-        if owner is None:
+        start = self._demand_rows.get(task)
+        if start is None:
             raise UnknownName(f"the document has no task {task}")
-        self.demands[task] = _in_range(amount)
-        self._rows.append(f"demand {owner} {task} {amount}\n")
+        if not 0 <= amount <= MOST:
+            raise _out_of_range(amount)
+        self.demands[task] = amount
+        self._rows.append(f"{start}{amount}\n")
 
     def capacity(self, link: str, amount: int) -> None:
         """Reports a link's capacity in kb/s with the next post; 0 is a drain."""
@@ -118,7 +126,9 @@ class Live:
         owner = self._link_owners[link]
         if owner is None:
             raise UnknownName(f"link {link} has no owner who could report its capacity")
-        self.capacities[link] = _in_range(amount)
+        if not 0 <= amount <= MOST:
+            raise _out_of_range(amount)
+        self.capacities[link] = amount
         self._rows.append(f"capacity {owner} {link} {amount}\n")
 
     def post(self) -> Change:
@@ -157,12 +167,11 @@ class Live:
                 raise RefusedReport(int(text.split("\n", 1)[0].rsplit(" ", 1)[1]))
             change = Change(text)
             self._unread.append(change)
-            if len(self._unread) == MOST_UNREAD:
+            self._unread_size += len(text)
+            if self._unread_size > MOST_UNREAD:
                 _ = self.kept
             yield change
 
 
-def _in_range(amount: int) -> int:
-    if not 0 <= amount <= MOST:
-        raise ToolError(f"{amount} is no rate from 0 to {MOST:,} kb/s")
-    return amount
+def _out_of_range(amount: int) -> ToolError:
+    return ToolError(f"{amount} is no rate from 0 to {MOST:,} kb/s")

@@ -65,25 +65,35 @@ def parse_change(text: str) -> TableChange:
     return TableChange(reports, total, closings, loads, groups, limits)
 
 
-def merged(texts: list[str]) -> str:
-    """One change text for several, the oldest first: of each link, group and task its last rows."""
+def merged(texts: list[str], things: int) -> str:
+    """One change text for several, the oldest first: of each link, group and task its last rows.
+    `things` is how many of these there are: texts before the last rows of all are not read.
+    """
     seen: set[tuple[str, str]] = set()
     rows: list[str] = []
-    closings: list[str] | None = None
-    head, *_, total = texts[-1].splitlines()
+    closings: list[str] = next(filter(None, map(closing_rows, reversed(texts))), [])
     for text in reversed(texts):
-        is_new, own_closings = False, list[str]()
+        if len(seen) == things:
+            break
+        is_new = False
         for row in text.splitlines():
             kind, name = row.split(" ", 2)[:2]
             if kind in ("link", "group", "task"):
                 is_new = (kind, name) not in seen
                 seen.add((kind, name))
-            if kind in ("closings", "closing"):
-                own_closings.append(row)
-            elif is_new and kind not in ("change", "total"):
+            if is_new and kind != "total":
                 rows.append(row)
-        closings = closings or own_closings
-    return "\n".join([head, *(closings or []), *rows, total]) + "\n"
+    head, newest = texts[-1].partition("\n")[0], texts[-1]
+    return "\n".join([head, *closings, *rows, newest[newest.rindex("total ") :]])
+
+
+def closing_rows(text: str) -> list[str]:
+    """The row `closings` of a change with those behind it; none where the list is as it was."""
+    rest = text.partition("\n")[2]
+    if not rest.startswith("closings "):
+        return []
+    count = int(rest[: rest.index("\n")].split(" ")[1])
+    return rest.split("\n", count + 1)[: count + 1]
 
 
 class KeptTable:
@@ -94,6 +104,11 @@ class KeptTable:
         self.loads = table.load_of()
         self.groups = {group.name: group for group in table.groups}
         self.limits = table.limit_of()
+
+    @property
+    def things(self) -> int:
+        """How many links, groups and tasks there are."""
+        return len(self.loads) + len(self.groups) + len(self.limits)
 
     def put_in(self, change: TableChange) -> None:
         self.reports, self.total = change.reports, change.total

@@ -15,7 +15,8 @@ import pytest
 import bwe
 from bwe_tools import live as live_module
 from bwe_tools.document import of_raw, to_raw
-from bwe_tools.live_change import parse_change
+from bwe_tools.live_change import merged, parse_change
+from bwe_tools.live_program import LiveProgram
 from tool_runs import EXAMPLES, ROOT, needs_live, needs_program, stand_in
 
 DOCUMENTS = sorted(EXAMPLES.glob("*.json"))
@@ -87,7 +88,7 @@ def test_a_table_that_is_kept_is_the_one_that_solve_writes(path):
 @needs_live
 @pytest.mark.parametrize("path", DOCUMENTS, ids=lambda path: path.stem)
 def test_many_changes_that_nobody_read_come_to_the_same_table(path, monkeypatch):
-    monkeypatch.setattr(live_module, "MOST_UNREAD", 7)
+    monkeypatch.setattr(live_module, "MOST_UNREAD", 30_000)
     document = bwe.read(path)
     matrices = by_chance(document, 17)
     with bwe.Live(document) as live, bwe.Live(document) as other:
@@ -207,6 +208,46 @@ def test_a_change_that_is_cut_short_is_an_error():
     for text in ("change 1\ngroup a share", "change x\ntotal 1\n", "change 1\nnonsense 1\n"):
         with pytest.raises(bwe.Error):
             parse_change(text)
+
+
+def test_changes_that_are_merged_are_the_last_of_each_thing():
+    rows = "link l load 3\ngroup g share 5 amount 3\nplace 0 amount 3 closed by l\ntask t limit 3\n"
+    first = f"change 1\nclosings 1\nclosing l at 5\n{rows}total 3\n"
+    later = "change 2\ngroup g share 6 amount 4\nplace 0 amount 4 open\ntotal 4\n"
+    whole = parse_change(merged([first, later], 3))
+    assert whole == replace(
+        parse_change(first), reports=2, total=4, groups=parse_change(later).groups
+    )
+    # Where the last texts have all things, nothing of those before them is read but closings.
+    all_again = f"change 3\n{rows}total 3\n"
+    assert parse_change(merged(["change 0\nnonsense", first, all_again], 3)) == replace(
+        parse_change(first), reports=3
+    )
+
+
+CHILD = """#!/usr/bin/python3
+import os, sys
+def write(answer):
+    for at in range(0, len(answer), SIZE):
+        os.write(1, answer[at : at + SIZE])
+sys.stdin.buffer.read(int(sys.stdin.buffer.readline()))
+write(b"table 0\\ntotal 0\\n")
+for number, _ in enumerate(filter(b"post\\n".__eq__, sys.stdin.buffer), 1):
+    write(b"change %d\\ntotal %d\\n" % (number, 7 * number))
+"""
+
+
+@pytest.mark.parametrize("size", [1, 6, 7, 8, 9, 100])
+def test_answers_are_taken_whole_however_they_come(tmp_path, size):
+    """The child writes pieces of so many bytes, which cut the last rows of answers."""
+    program = tmp_path / "child"
+    program.write_text(CHILD.replace("SIZE", str(size)))
+    program.chmod(0o755)
+    child = LiveProgram(b"{}", program, 60)
+    assert child.first == "table 0\ntotal 0\n"
+    totals = [int(answer.split()[-1]) for answer in child.answers([b"post\n"] * 90, 8)]
+    assert totals == [7 * number for number in range(1, 91)]
+    child.close()
 
 
 # ---- readers and documents
