@@ -64,6 +64,16 @@ def test_members_that_do_not_answer_have_a_sentence_and_status_4(tmp_path, words
     assert one_sentence(one)
 
 
+def test_who_waits_is_told_that_the_store_went_away_behind_its_put(own):
+    own.init()
+    one = own.start("report", "hosts", "--wait", log="report.log")
+    own.wait(lambda: "put 2" in own.log("report"))
+    (own.folder / "control").rename(own.folder / "gone")
+    assert one.wait(timeout=60) == 5
+    sentence = "the report was put, and whether a table holds it is not known: there is no store"
+    assert sentence in own.log("report") and own.log("report").count("\n") == 2
+
+
 @needs_live
 def test_an_allocator_waits_for_a_document_and_a_store(own):
     own.allocate("a")

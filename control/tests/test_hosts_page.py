@@ -13,6 +13,7 @@ import subprocess
 import tempfile
 import time
 from concurrent.futures import ThreadPoolExecutor
+from importlib.util import find_spec
 from pathlib import Path
 
 import pytest
@@ -22,6 +23,7 @@ HERE = Path(__file__).resolve().parent
 HOSTS = ("h1", "h2", "h3")
 PACKAGES = ("etcd", "etcdctl", "openssl", "ip", "nsenter", "unshare", "setpriv")
 PATIENCE = 90.0  # seconds that a command of the page may take
+PROBE = "mount -t tmpfs none /run; ip link add br0 type bridge; hostname h1"
 APT = """#!/bin/sh
 [ "$1" = install ] && shift && exec dpkg -s "$@" >/dev/null
 """
@@ -33,9 +35,11 @@ def why_not():
         return f"there is no {', '.join(missing)}: tools/build/packages"
     if os.geteuid() != 0:
         return "hosts are namespaces, which takes root"
-    words = ["unshare", "--pid", "--net", "--mount", "--uts", "--fork", "true"]
+    if missing := [it for it in ("grpc", "etcd3") if find_spec(it) is None]:
+        return f"Python has no {', '.join(missing)}: tools/build/packages"
+    words = ["unshare", "--pid", "--net", "--mount", "--uts", "--fork", "sh", "-ec", PROBE]
     if subprocess.run(words, capture_output=True, check=False).returncode:
-        return "this kernel or container lets nobody make namespaces"
+        return "this kernel or container lets nobody make namespaces, mounts or bridges"
     return None
 
 

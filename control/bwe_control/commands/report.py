@@ -7,7 +7,7 @@ import sys
 import click
 
 from bwe_control.client import put_report, read_limits, read_refusals, wait_posted
-from bwe_control.errors import Refused
+from bwe_control.errors import OutcomeUnknown, Refused, StoreError
 from bwe_control.keys import Keys, plain_name
 from bwe_control.session import Session, standard_input
 from bwe_control.store.interface import Store
@@ -38,7 +38,11 @@ def command(session: Session, reporter: str, waits: bool) -> None:
     revision = put_report(store, session.keys, reporter, value)
     print(f"put {revision}", flush=True)
     if waits:
-        sys.exit(_outcome(store, session.keys, reporter, revision))
+        try:
+            sys.exit(_outcome(store, session.keys, reporter, revision))
+        except StoreError as fault:
+            sentence = "the report was put, and whether a table holds it is not known"
+            raise OutcomeUnknown(f"{sentence}: {fault}") from fault
 
 
 def _outcome(store: Store, keys: Keys, reporter: str, revision: int) -> int:
