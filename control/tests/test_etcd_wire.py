@@ -68,6 +68,9 @@ def test_a_member_that_is_slow_has_ever_more_time(wire):
     reads(wire, grpc.StatusCode.DEADLINE_EXCEEDED, 10)
     assert wire.given[0] == SHORTEST and wire.given[-1] == SLOWEST
     assert wire.given == sorted(wire.given)
+    for _ in range(2):
+        wire.read(calls(wire, Answer(10)))
+    assert wire.given[-1] == pytest.approx(LONGEST, abs=0.01)
 
 
 def test_a_member_that_is_not_there_is_left_soon(wire):

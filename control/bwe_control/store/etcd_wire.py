@@ -123,7 +123,7 @@ class Wire:
                 is_slow = fault.code() == grpc.StatusCode.DEADLINE_EXCEEDED
                 self.move_on(SLOWEST if is_slow else LONGEST)
             raise meaning from None
-        self._patience = max(SHORTEST, self._patience * 0.9)
+        self._patience = max(SHORTEST, min(LONGEST, self._patience * 0.9))
         if answer is not None:
             self._greatest = max(self._greatest, answer.ByteSize())
         return answer
