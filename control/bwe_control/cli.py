@@ -86,4 +86,5 @@ def main() -> None:
 
 def _write_no_more() -> None:
     """Throws away what standard output has not taken."""
-    os.dup2(os.open(os.devnull, os.O_WRONLY), sys.stdout.fileno())
+    if sys.stdout is not None:
+        os.dup2(os.open(os.devnull, os.O_WRONLY), sys.stdout.fileno())

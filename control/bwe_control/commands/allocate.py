@@ -22,7 +22,6 @@ from bwe_control.service import Service, Settings
 from bwe_control.session import Session, log_to_standard_error
 from bwe_control.trouble import Trouble
 
-
 log = logging.getLogger(__name__)
 
 PAUSE = 1.0  # seconds between two tries to make the store
