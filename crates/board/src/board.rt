@@ -24,13 +24,13 @@ use std::sync::{Mutex, Wait};
 
 /// A log under a lock, whose tables are published. End it by `close`, which waits for the readers.
 ///
-/// In each call `OutOfMemory` stands also for comparisons of logs that no clause can tell to hold,
-/// though in a run they always do.
+/// A call answers `OutOfMemory` also where one log does not begin with another. In a run each does,
+/// but no clause says so.
 pub struct Board<M: Maker, N: Profile<M::Table>, B: Bases> {
-    // It is taken before the log lock, and never inside it.
+    // Where tables are made. This lock is taken before the log lock, and never inside it.
     shop: Mutex<Workshop<M, N, B>>,
     state: Mutex<LogState<M, N, B>>,
-    // It is taken while no other lock is.
+    // This lock is taken while no other is.
     newest: NewestAck<B>,
 }
 
@@ -47,15 +47,16 @@ impl<M: Maker, N: Profile<M::Table>, B: Bases> Board<M, N, B> {
         }
     }
 
-    /// The place where acknowledgements are left for readers. There is one of a board.
+    /// Where the newest acknowledgement is left for readers. A board has one such place.
     pub fn newest(&self) -> &NewestAck<B> {
         &self.newest
     }
 
     /// Adds the reports of a pass at the end of the log, and answers the place of the first.
     ///
-    /// All of them enter at one step, or none does. A full log is refused before memory can run
-    /// out. It costs by the piece, and waits for the log lock alone.
+    /// All of them enter at one step, or none does. Whether the log has room is looked at before
+    /// memory can run out. Its time grows with the piece and not with the log. It waits for the log
+    /// lock alone.
     pub fn report<R: Wait>(
         &self,
         rt: &R,
@@ -83,10 +84,10 @@ impl<M: Maker, N: Profile<M::Table>, B: Bases> Board<M, N, B> {
         self.state.lock(rt).append(alloc, pass, reports)
     }
 
-    /// An ack that holds all that the pass has seen, and so each of its reports: a table of all
-    /// these has been posted.
+    /// An acknowledgement that holds all that the pass has seen, and so each of its reports: a
+    /// table of all these has been posted.
     ///
-    /// Where no posted table covers that, it solves and posts one.
+    /// Where no posted table covers that, it makes and posts one.
     pub fn settle<R: Wait>(
         &self,
         rt: &R,
@@ -101,10 +102,10 @@ impl<M: Maker, N: Profile<M::Table>, B: Bases> Board<M, N, B> {
     }
 
     /// Posts the table of the log as it stands, and answers how many reports the posted table
-    /// covers. The pass then has the ack of these.
+    /// covers. The pass then has the acknowledgement of these.
     ///
-    /// Where a table was posted that covers the whole log it solves nothing. The log lock is free
-    /// while it solves.
+    /// Where a table was posted that covers the whole log it makes none. The log lock is free while
+    /// a table is made.
     pub fn round<R: Wait>(
         &self,
         rt: &R,
@@ -125,8 +126,8 @@ impl<M: Maker, N: Profile<M::Table>, B: Bases> Board<M, N, B> {
     /// Ends the log, and gives the whole of it and the table of it, which has then been posted. It
     /// takes the passes of all reporters, in the order of their numbers.
     ///
-    /// The ack is that of a log that has ended: what any pass saw or will see of the log is a
-    /// beginning of it.
+    /// The acknowledgement is that of a log that has ended: what any pass saw or will see of the
+    /// log is a beginning of it.
     pub fn finish<R: Wait>(
         &self,
         rt: &R,
@@ -135,8 +136,8 @@ impl<M: Maker, N: Profile<M::Table>, B: Bases> Board<M, N, B> {
     ) -> Result<Ended<M::Table, B>, FinishRefused<B>>
         requires count { length passes.items ≡ N.reporters }
         requires order { AreInOrder passes.items }
-        // The ack has the whole log: each pass's own list, and nothing else. It begins with all
-        // that each pass had seen.
+        // The acknowledgement has the whole log: each pass's own list, and nothing else. It begins
+        // with all that each pass had seen.
         ensures history { IfOk result (λ ended. ended.history.items ≡ ended.ack) }
         ensures seen { IfOk result (λ ended. All (λ pass. IsPrefix pass.seen ended.ack)
             passes.items) }
@@ -157,7 +158,7 @@ impl<M: Maker, N: Profile<M::Table>, B: Bases> Board<M, N, B> {
         self.state.lock(rt).finish(rt, alloc, shop, passes)
     }
 
-    /// Ends the board, whose writer can't be dropped. It waits for readers to leave.
+    /// Ends the board and frees its published copies. It waits for readers to leave these.
     pub fn close<R: Wait>(self, rt: &R) {
         let Board {
             shop,
@@ -169,7 +170,7 @@ impl<M: Maker, N: Profile<M::Table>, B: Bases> Board<M, N, B> {
         state.into_inner().close(rt);
     }
 
-    // An ack of the log as it stands, which holds what is known.
+    // An acknowledgement of the log as it stands, which holds what is known.
     fn newest_ack<R: Wait>(
         &self,
         rt: &R,
@@ -185,7 +186,7 @@ impl<M: Maker, N: Profile<M::Table>, B: Bases> Board<M, N, B> {
         self.posted_ack(rt, known)
     }
 
-    // An ack that holds what is known.
+    // An acknowledgement that holds what is known.
     fn ack_of<R: Wait>(
         &self,
         rt: &R,
@@ -200,7 +201,7 @@ impl<M: Maker, N: Profile<M::Table>, B: Bases> Board<M, N, B> {
         }
     }
 
-    // The ack of what is posted, if that holds what is known.
+    // The acknowledgement of what is posted, if that holds what is known.
     fn posted_ack<R: Wait>(&self, rt: &R, known: &Beginning<B>) -> Result<Ack<B>, OutOfMemory>
         ensures known { IfOk result (λ ack. IsPrefix known.now ack) }
     {
@@ -208,8 +209,8 @@ impl<M: Maker, N: Profile<M::Table>, B: Bases> Board<M, N, B> {
     }
 }
 
-// Sees the log, makes the table of it while the log lock is free, and posts it. The ack of what is
-// then posted holds what is known.
+// Sees the log, makes the table of it while the log lock is free, and posts it. The acknowledgement
+// of what is then posted holds what is known.
 fn solve_and_post<M: Maker, N: Profile<M::Table>, B: Bases, R: Wait>(
     rt: &R,
     alloc: Global,

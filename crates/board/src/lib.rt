@@ -19,7 +19,7 @@
 //! what nobody told it, waiting, fairness, and that memory is there.
 //!
 //! Some bodies meet every clause and are wrong: a `read` that enters no published copy, a `round`
-//! or a `settle` that posts nothing, a solve under the log lock, a call that always answers want of
+//! or a `settle` that posts nothing, a solve under the log lock, a call that always answers out of
 //! memory. Each was tried by hand, and a test of `service_cases` refuses it; its page names which.
 //! A `close` that frees nothing is refused by nothing: no clause and no test counts memory. The
 //! program opens one board and then ends.

@@ -6,8 +6,7 @@ use Rattle.board.specs.Reporting.{Reporting}
 use Rattle.board.specs.declared.refusal.ReportError.{ReportError}
 use Rattle.board.specs.declared.refusal.ReportError.TheVariants.{Full, OutOfMemory}
 
--- full where the pass has seen a full log and has not sent its whole script; else memory was
--- wanting
+-- full where the pass has seen a full log and has not sent its whole script; else memory ran out
 abbrev pub IsCutShort : List Report → Reporting → ReportError → Type 0
 IsCutShort script pass (Full held) = (MAX_REPORTS ≤ length pass.seen)
     × (length pass.own < length script)
