@@ -38,6 +38,6 @@ pub fn parts_are_too_long(alloc: Global, input: &[u8]) -> Result<bool, OutOfMemo
     let Some(parts) = find_parts(input) else {
         return Ok(true);
     };
-    let of_version_4 = is_of_version_4(alloc, parts.document(input))?;
-    Ok(!of_version_4)
+    let is_of_4 = is_of_version_4(alloc, parts.document(input))?;
+    Ok(!is_of_4)
 }
