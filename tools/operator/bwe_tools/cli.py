@@ -2,6 +2,7 @@
 
 from __future__ import annotations
 
+import gc
 import importlib
 import os
 import pkgutil
@@ -58,6 +59,8 @@ def group() -> None:
 
 
 def main() -> None:
+    # A great document is a million objects, none of them in a ring: the collector looks seldom.
+    gc.set_threshold(1_000_000)
     try:
         try:
             group(prog_name="bwe-tools")

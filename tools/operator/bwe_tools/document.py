@@ -172,9 +172,8 @@ def read_bytes(path: str) -> bytes:
 
 def parse(data: bytes, path: str = "-") -> Document:
     """The document of some bytes; `path` is how a fault names where they come from."""
-    raw = parse_raw(data, path)
     with json_text.collector_at_rest():
-        return _of_raw(raw, is_given_up=True)
+        return _of_raw(parse_raw(data, path), is_given_up=True)
 
 
 def parse_raw(data: bytes, path: str = "-") -> RawDocument:

@@ -7,6 +7,7 @@ from collections.abc import Iterator
 from dataclasses import dataclass, field, replace
 
 from bwe_tools.document import ToolError
+from bwe_tools.json_text import collector_at_rest
 
 NAME = r"([A-Za-z0-9._-]{1,64})"
 NUMBER = r"(0|[1-9][0-9]{0,19})"
@@ -200,7 +201,11 @@ def parse_table(text: str | bytes, source: str = "the table") -> Table:
             text = text.decode("ascii")
         except UnicodeDecodeError:
             raise ToolError(f"{source}: this is no table: it is not plain ASCII text") from None
-    lines = _Lines(text, source)
+    with collector_at_rest():
+        return _table_of(_Lines(text, source))
+
+
+def _table_of(lines: _Lines) -> Table:
     has_tiers = lines.is_next("tiers")
     (reports,) = lines.take("tiers" if has_tiers else "table")
     closings, tiers = _take_tiers(lines) if has_tiers else (_take_closings(lines, None), None)
