@@ -13,6 +13,7 @@ import click
 
 from bwe_tools.measures import Measures
 from bwe_tools.program import ROOT
+from study.cases import LARGE
 from study.held import all_held
 from study.measured import as_json
 from study.parts import PARTS
@@ -59,11 +60,12 @@ def references(parts: tuple[str, ...]) -> None:
 @group.command()
 def check() -> None:
     """Hold the stored cases against their references: status 1 where a total differs."""
-    found = all_held(read("stored"), lambda name: None)
-    for network in NETWORKS:
+    found = all_held(read("stored") | read("large")["references"], lambda name: None)
+    for network in (*NETWORKS, *LARGE):
         own = [one.measures for one in found if one.case.traffic.network == network]
         through, fair = (sum(values) / len(own) for values in zip(*map(_two, own)))
-        click.echo(f"{network:8} {len(own)} cases: {through:.4f} of max-min, fairness {fair:.4f}")
+        count = f"{len(own)} case{'s' if len(own) > 1 else ''}"
+        click.echo(f"{network:8} {count}: {through:.4f} of max-min, fairness {fair:.4f}")
     faults = [one for one in found if one.fault]
     for one in faults:
         click.echo(f"study: {one.case.name}: {one.fault}", err=True)

@@ -12,6 +12,7 @@ from dataclasses import dataclass, replace
 from functools import lru_cache
 
 from bwe_tools.document import Document, Group, Job, Link, Path, Report, Task, User
+from bwe_tools.limits import BEFORE_4, NEWEST, PLAIN
 from bwe_tools.routes import Routes
 from study.demands import KINDS, Demands, Pair, drifted
 from study.networks import Network, known, made
@@ -88,10 +89,8 @@ def ways_of(network: str, paths: int) -> Ways:
     """The shortest paths of each pair of sites, by the number of their links."""
     links = network_of(network).links()
     routes = Routes([(name, source, target) for name, source, target, _ in links])
-    return {
-        (source, target): routes.between(source, target, paths)
-        for source, target in network_of(network).pairs()
-    }
+    pairs = network_of(network).pairs()
+    return dict(zip(pairs, routes.of_all(pairs, paths)))
 
 
 def ordered(ways: list[list[str]], order: str, chance: random.Random) -> list[list[str]]:
@@ -123,7 +122,8 @@ def document_of(case: Case, network: Network, demands: dict[Pair, int]) -> Docum
             Report(OWNER, None, link.name, 0)
             for link in links[2 * case.drained : 2 * case.drained + 2]
         ]
-    return Document(3, case.top, links, tuple(groups), (HOSTS, OWNER), tuple(script))
+    version = PLAIN if len(groups) <= BEFORE_4.groups else NEWEST
+    return Document(version, case.top, links, tuple(groups), (HOSTS, OWNER), tuple(script))
 
 
 # ---- the lists of cases
@@ -133,6 +133,7 @@ PATHS = (1, 2, 4, 8, 16)
 TOPS = (100, 1_000, 10_000, 100_000, 1_000_000)
 ORDERS = ("shortest", "longest", "chance")
 MADE = ("made16", "made32")
+LARGE = ("made40", "made64")  # 1,560 and 4,032 groups
 
 
 SEEDS = (1, 2, 3)
@@ -174,6 +175,11 @@ def by_top(traffic: Traffic) -> list[Case]:
 
 def by_size() -> list[Case]:
     return [Case(traffic, 2.0, 4) for traffic in traffics(MADE)[::2]]
+
+
+def large() -> list[Case]:
+    """Networks with more groups than a document had before version 4; `make study` holds them too."""
+    return [Case(Traffic(network, "gravity", 1), 2.0, 4) for network in LARGE]
 
 
 def drains(case: Case) -> Iterator[Case]:

@@ -44,9 +44,9 @@ def held(case: Case, reference: dict[str, Any]) -> Held:
 
 
 def all_held(references: dict[str, Any], told: Callable[[str], None]) -> list[Held]:
-    """All stored cases; a case without a reference is at fault."""
+    """All stored cases and the large ones; a case without a reference is at fault."""
     found = []
-    for case in cases.stored():
+    for case in [*cases.stored(), *cases.large()]:
         told(case.name)
         if case.name in references:
             found.append(held(case, references[case.name]))

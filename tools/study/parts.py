@@ -26,22 +26,39 @@ def stored(told: Told) -> dict[str, Any]:
     found: dict[str, Any] = {}
     for case in cases.stored():
         told(case.name)
-        measured = Measured(case)
-        text = text_of(measured.document)
-        table = solve(text)
-        beside = measured.optimum.measures(amounts_of(table))
-        found[case.name] = {
-            "seed": case.traffic.seed,
-            "load": case.load,
-            "of_fair": round(beside.of_fair, 5),
-            "fairness": round(beside.fairness, 5),
-            "fits": fits_of(case.traffic),
-            "document": digest(text),
-            "total": table.total,
-            "most": round(measured.optimum.most),
-            "max_min": [round(amount) for amount in measured.optimum.fair.amounts],
-        }
+        found[case.name] = reference_of(Measured(case))
     return found
+
+
+def reference_of(measured: Measured) -> dict[str, Any]:
+    case, text = measured.case, text_of(measured.document)
+    table = solve(text)
+    beside = measured.optimum.measures(amounts_of(table))
+    return {
+        "seed": case.traffic.seed,
+        "load": case.load,
+        "of_fair": round(beside.of_fair, 5),
+        "fairness": round(beside.fairness, 5),
+        "fits": fits_of(case.traffic),
+        "document": digest(text),
+        "total": table.total,
+        "most": round(measured.optimum.most),
+        "max_min": [round(amount) for amount in measured.optimum.fair.amounts],
+    }
+
+
+def large(told: Told) -> dict[str, Any]:
+    """Networks of more than 1,024 groups: rows of the methods, and what `make study` needs."""
+    rows, references = list[Row](), dict[str, Any]()
+    for case in cases.large():
+        told(case.name)
+        measured = Measured(case)
+        rows += measured.others()
+        rows.append(measured.bwe())
+        rows.append(measured.split(case.traffic, "split of these"))
+        rows.append(measured.split(measured.drifted(), "split of drifted"))
+        references[case.name] = reference_of(measured)
+    return {"rows": rows, "references": references}
 
 
 def load(told: Told) -> dict[str, Any]:
@@ -148,4 +165,5 @@ PARTS: dict[str, Callable[[Told], dict[str, Any]]] = {
     "top": top,
     "drains": drains,
     "size": size,
+    "large": large,
 }

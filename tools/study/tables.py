@@ -141,6 +141,17 @@ def by_size(part: dict[str, Any]) -> str:
     return markdown(heads, lines)
 
 
+def by_large(part: dict[str, Any]) -> str:
+    """The methods on each large network, with their seconds of one processor."""
+    heads = ["network, groups", "method", "throughput / max-min's", "fairness", "seconds"]
+    lines = []
+    for row in part["rows"]:
+        named = f"{row['network']}, {row['groups']:,}"
+        parts = [f"{row[of]:.3f}" for of in ("of_fair", "fairness")]
+        lines.append([named, METHODS[row["method"]], *parts, f"{row['seconds']:.2f}"])
+    return markdown(heads, lines)
+
+
 def claims(part: dict[str, Any]) -> str:
     """In how many cases each method keeps what B4 and SWAN say of theirs."""
     rows: Rows = part["rows"]
@@ -196,6 +207,7 @@ TABLES: dict[str, tuple[str, Callable[[dict[str, Any]], str]]] = {
     "top": ("top", lambda part: by_method(part, "`top`", TOPS)),
     "drains": ("drains", lambda part: by_method(part, "a fibre drained", DRAINS)),
     "size": ("size", by_size),
+    "large": ("large", by_large),
 }
 
 

@@ -64,6 +64,13 @@ def test_there_are_ninety_stored_cases_and_each_makes_the_document_of_its_refere
         assert digest(text_of(document)) == references[case.name]["document"]
 
 
+def test_large_cases_have_more_groups_than_a_document_had_before_version_4():
+    references = read("large")["references"]
+    assert [case.name for case in cases.large()] == list(references)
+    assert [len(one["max_min"]) for one in references.values()] == [1_560, 4_032]
+    assert {row["network"] for row in read("large")["rows"]} == set(cases.LARGE)
+
+
 @needs_program
 def test_a_total_that_differs_by_one_is_a_fault():
     case = small()
