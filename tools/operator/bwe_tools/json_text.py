@@ -119,9 +119,9 @@ def value_of(text: str) -> Any:
 
 
 def one_of_each() -> Callable[[dict[str, Any]], dict[str, Any]]:
-    """A hook that keeps of each name of a reporter and of a link of a path one text, however often
-    it stands: of a long document they may be most of what its value takes. It is called for each
-    object of a document, and does little.
+    """A hook that keeps of each name of a reporter, a task and a link of a path one text, however
+    often it stands: of a long document they may be most of what its value takes. It is called for
+    each object of a document, and does little.
     """
     known: dict[str, str] = {}
     keep = known.setdefault
@@ -130,6 +130,10 @@ def one_of_each() -> Callable[[dict[str, Any]], dict[str, Any]]:
         reporter = found.get("reporter")
         if type(reporter) is str:
             found["reporter"] = keep(reporter, reporter)
+            key = "task" if "task" in found else "name"
+            name = found.get(key)
+            if type(name) is str:
+                found[key] = keep(name, name)
         elif "weight" in found:
             links = found.get("links")
             if type(links) is list and all(type(link) is str for link in links):

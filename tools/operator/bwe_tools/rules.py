@@ -118,10 +118,6 @@ class Walk:
             kind: plain_names(names) if unread or self.odd[kind] else names
             for kind, names in self.known.items()
         }
-        # The reports, so many at a time, together where all are of demands.
-        self.pieces = [
-            (start, piece, demands_of(piece)) for start, piece in pieces_of_script(raw["script"])
-        ]
         self.values = list(self._values())
 
     def _values(self) -> Iterator[Value]:
@@ -144,7 +140,8 @@ class Walk:
             yield from self._number(("closings", at, "share"), closing["share"], 0, MOST_SHARE)
 
     def _script(self) -> Iterator[Value]:
-        for start, piece, demands in self.pieces:
+        for start, piece in pieces_of_script(self.raw["script"]):
+            demands = demands_of(piece)
             if demands is None or not self._are_known(demands):
                 yield from self._reports(start, piece)
 
@@ -560,7 +557,8 @@ def not_owners(walk: Walk) -> Iterator[Fault]:
     links = {link["name"]: link.get("owner") for _, link in entries(walk.raw["links"])}
     names = map(NAME_OF, tasks(walk.raw))
     of_tasks: dict[str, str | None] = dict(zip(names, map(REPORTER_OF, tasks(walk.raw))))
-    for start, piece, demands in walk.pieces:
+    for start, piece in pieces_of_script(walk.raw["script"]):
+        demands = demands_of(piece)
         if demands is None or not all(
             map(eq, map(of_tasks.get, demands.tasks, demands.reporters), demands.reporters)
         ):
