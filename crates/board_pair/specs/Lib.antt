@@ -1,4 +1,5 @@
 pub mod Plan
 pub mod Pair
 pub mod Reading
+pub mod CoreReads
 pub mod Desk

@@ -1,5 +1,5 @@
 -- What contracts see of a reader's pass.
-use Rattle.std.specs.Prelude.{ℕ, ◌≡◌, ◌≢◌, ◌+◌, max, List, [], Option, Some, None}
+use Rattle.std.specs.Prelude.{ℕ, ◌≡◌, ◌+◌, List, [], Option, Some, None}
 use Rattle.bwe_specs.specs.declared.report.Report.{Report}
 use Rattle.board_pair.specs.declared.visits.Visits.{Visits}
 
@@ -35,9 +35,3 @@ pub record IsNewReader {T : Type 0} (covers : T → ℕ) (belongs : List Report 
   pub fresh : pass.fresh ≡ 0
   pub learnt : pass.learnt ≡ 0
   pub visits : pass.visits ≡ no_visits
-
--- a read that counts as fresh has entered once more, and from what the pass covered before it has
--- come to what was published at that step, if that is more
-abbrev pub IsReadStep : {T : Type 0} → ℕ → ℕ → Reading T → Reading T → Type 0
-IsReadStep floor covered old new = (new.fresh ≢ old.fresh)
-    → (new.visits.count ≡ old.visits.count + 1) × (covered ≡ max floor new.visits.covers)

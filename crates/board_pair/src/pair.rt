@@ -187,6 +187,7 @@ impl<T: Posted, N: Profile<T>, B: Bases> Pair<T, N, B> {
     pub(crate) fn refresh(&mut self, alloc: Global, published: &Pair<T, N, B>) -> bool
         ensures fresh { OnTrue result (T.covers self.new.table ≡ max (T.covers self.old.table)
             (T.covers published.now.table)) }
+        ensures again { OnFalse result (self.new ≡ self.old) }
         ensures log { IsPrefix self.old.log self.new.log }
         ensures floor { T.covers self.old.table ≤ T.covers self.new.table }
     {
@@ -223,7 +224,7 @@ impl<T: Posted, N: Profile<T>, B: Bases> Pair<T, N, B> {
         requires behind { T.covers self.old.table < length ack.now }
         ensures told { OnOk result (IsPrefix ack.now self.new.log) }
         ensures covers { OnOk result (length ack.now ≤ T.covers self.new.table) }
-        ensures fresh { OnOk result (T.covers later.now.table ≤ T.covers self.new.table) }
+        ensures table { OnOk result (self.new.table ≡ later.now.table) }
         ensures log { IsPrefix self.old.log self.new.log }
         ensures floor { T.covers self.old.table ≤ T.covers self.new.table }
         ensures refused { OnErr result (self.new ≡ self.old) }

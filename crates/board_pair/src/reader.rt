@@ -4,9 +4,10 @@ ghost use Rattle.std.specs.List.{All};
 ghost use mathlib.Core.List.{IsPrefix};
 ghost use Rattle.demand_book.specs.Fit.{IsFit};
 ghost use Rattle.board_core.specs.Core.{IsAllowed};
-ghost use Rattle.std.specs.Bool.{OnTrue};
+ghost use Rattle.std.specs.Bool.{OnTrue, OnFalse};
 ghost use Rattle.left_right.specs.Sides.{view};
-ghost use Rattle.board_pair.specs.Reading.{IsReadStep, no_visits};
+ghost use Rattle.board_pair.specs.Reading.{no_visits};
+ghost use Rattle.board_pair.specs.CoreReads.{IsReadStep, IsTellStep, IsToldAndReads};
 
 use crate::ack::{Ack, FinalAck};
 use crate::pair::Pair;
@@ -69,7 +70,8 @@ impl<T: Posted, N: Profile<T>, B: Bases> ReaderPass<T, N, B> {
     ghost use Rattle.demand_book.specs.Fit.{IsFit};
     ghost use Rattle.board_core.specs.Core.{IsAllowed};
     ghost use Rattle.left_right.specs.Sides.{view};
-    ghost use Rattle.board_pair.specs.Reading.{IsReadStep, no_visits};
+    ghost use Rattle.board_pair.specs.Reading.{no_visits};
+    ghost use Rattle.board_pair.specs.CoreReads.{IsReadStep, IsTellStep, IsToldAndReads};
     ghost use Rattle.board_pair.specs.contracts.reader.ReaderPass.{the_row};
 
     // A pass that has read nothing yet.
@@ -128,7 +130,8 @@ impl<T: Posted, N: Profile<T>, B: Bases> ReaderPass<T, N, B> {
     /// shares the published log, of which it copies no report, and makes and applies one change of
     /// the table.
     pub fn read(&mut self, alloc: Global) -> View<'_, T, N, B>
-        // The pass has the log and the table that are shown, and one read more.
+        // The pass has the log and the table that are shown, and one read more. By Core run this is
+        // one read, or nothing where what was published could not be taken over.
         ensures* after { sem 𝓛
             (follows_so (the_row T.row N.row B.row T.Frame.row T.Change.row T.Posted
             N.Profile B.Bases) (the_row T.row N.row B.row T.Frame.row T.Change.row T.Posted
@@ -136,7 +139,7 @@ impl<T: Posted, N: Profile<T>, B: Bases> ReaderPass<T, N, B> {
             (λ pass. (pass.log ≡ result.copy.now.log) × (pass.table ≡ result.copy.now.table)
             × (pass.reads ≡ min (self.old.reads + 1) (2 ^ 64 - 1))
             × (pass.learnt ≡ self.old.learnt)
-            × IsReadStep (T.covers self.old.table) (T.covers pass.table) self.old pass)) }
+            × IsReadStep T.covers T.total_of N.belongs self.old pass)) }
         // Of the headline (docs/DEFINITIONS.md): "a reader's prefixes never fall" ..
         ensures log { IsPrefix self.old.log result.copy.now.log }
         ensures floor { T.covers self.old.table ≤ T.covers result.copy.now.table }
@@ -166,6 +169,9 @@ impl<T: Posted, N: Profile<T>, B: Bases> ReaderPass<T, N, B> {
         ensures copy { OnErr result ((self.new.log ≡ self.old.log)
             × (self.new.table ≡ self.old.table) × (self.new.learnt ≡ self.old.learnt)) }
         ensures reads { (self.new.reads ≡ self.old.reads) × (self.new.fresh ≡ self.old.fresh) }
+        // By Core run the reader is told of so many reports, and then reads where it enters.
+        ensures run { OnOk result (IsTellStep T.covers T.total_of N.belongs (length ack.now)
+            self.old self.new) }
     {
         if self.copy.covers(ack) {
             self.count_told();
@@ -197,6 +203,8 @@ impl<T: Posted, N: Profile<T>, B: Bases> ReaderPass<T, N, B> {
             × (self.new.table ≡ self.old.table)) }
         ensures counts { (self.new.reads ≡ self.old.reads) × (self.new.fresh ≡ self.old.fresh)
             × (self.new.learnt ≡ self.old.learnt) }
+        ensures run { OnOk result (IsToldAndReads T.covers T.total_of N.belongs (length ack.now)
+            self.old self.new) }
     {
         let Some(reader) = self.home.take() else {
             unreachable!()
@@ -209,6 +217,8 @@ impl<T: Posted, N: Profile<T>, B: Bases> ReaderPass<T, N, B> {
             Err(reader) => (reader, Err(OutOfMemory)),
         };
         self.home = Some(reader);
+        // The table belongs to the log's first reports.
+        let _ = self.floor();
         learnt
     }
 
@@ -218,13 +228,15 @@ impl<T: Posted, N: Profile<T>, B: Bases> ReaderPass<T, N, B> {
         ensures floor { T.covers self.old.table ≤ T.covers self.new.table }
         ensures reads { self.new.reads ≡ min (self.old.reads + 1) (2 ^ 64 - 1) }
         ensures learnt { self.new.learnt ≡ self.old.learnt }
-        ensures step { IsReadStep (T.covers self.old.table) (T.covers self.new.table) self.old self.new }
+        ensures run { IsReadStep T.covers T.total_of N.belongs self.old self.new }
     {
         let Some(reader) = self.home.take() else {
             unreachable!()
         };
         let (reader, is_fresh) = enter_and_leave(alloc, reader, &mut self.copy);
         self.home = Some(reader);
+        // The table belongs to the log's first reports.
+        let _ = self.floor();
         self.reads = self.reads.saturating_add(1);
         if is_fresh {
             self.fresh = self.fresh.saturating_add(1);
@@ -257,6 +269,7 @@ fn enter_and_leave<T: Posted, N: Profile<T>, B: Bases>(
     ensures visits { OnTrue result.1 ((view result.0.place).count ≡ (view reader.place).count + 1) }
     ensures fresh { OnTrue result.1 (T.covers copy.new.table ≡ max (T.covers copy.old.table)
         (view result.0.place).covers) }
+    ensures again { OnFalse result.1 (copy.new ≡ copy.old) }
 {
     match reader.enter_as::<Enters>() {
         Ok(reading) => {
