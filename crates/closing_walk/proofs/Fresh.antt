@@ -1,5 +1,5 @@
 -- Before any value was asked for, each group has nothing at share 0.
-use Rattle.std.proofs.Common.{◌≡◌, ℕ, List, length, replicate, sym, ◌∙◌, ap, subst}
+use Rattle.std.proofs.Common.{◌≡◌, ℕ, List, length, sym, ◌∙◌, ap, subst}
 use Rattle.std.proofs.lemmas.List.{length-replicate, get_or-replicate}
 use Rattle.bwe_specs.specs.Filling.{Wan}
 use Rattle.mpfa_fill.specs.declared.growth.ValueAt.{ValueAt}

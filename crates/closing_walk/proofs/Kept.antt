@@ -1,19 +1,18 @@
 -- A link to whose path groups no group comes, and that none leaves, has the same load.
-use Rattle.std.proofs.Common.{◌≡◌, ℕ, suc, ◌+◌, ◌<◌, ◌≤◌, Bool, true, false, List, [], ◌∷◌, length, replicate, Option, Some, None, refl, sym, ◌∙◌, ap, ap₂, arith, le_refl, subst, inl, inr, nat_lt, slice_index, slice_index_or, eqb-true}
+use Rattle.std.proofs.Common.{◌≡◌, ℕ, suc, ◌+◌, ◌<◌, ◌≤◌, Bool, true, false, List, [], ◌∷◌, length, replicate, refl, sym, ◌∙◌, ap, arith, le_refl, subst, inl, inr, slice_index}
 use Rattle.std.proofs.lemmas.Bool.{cases_eq, cases_lt}
 use Rattle.std.proofs.lemmas.List.{length-replicate, get_or-replicate}
 use Rattle.std.proofs.Math.ListN.{get_or-eq_default}
 use Rattle.bwe_specs.specs.declared.network.Closing.{Closing}
-use Rattle.bwe_specs.specs.Bounded.{sum_below}
-use Rattle.bwe_specs.specs.Paths.{PathGroups, path_group_at, path_group_count, load_on, link_load, uses, is_over}
-use Rattle.bwe_specs.specs.Filling.{Wan, closed_links, current_path_group_of, is_at, growth}
+use Rattle.bwe_specs.specs.Paths.{path_group_at, path_group_count, load_on, link_load, uses, is_over}
+use Rattle.bwe_specs.specs.Filling.{Wan, current_path_group_of, is_at, growth}
 use Rattle.bwe_specs.specs.RightClosings.{last_share, amounts_at, AreRightToTop}
 use Rattle.bwe_specs.specs.Values.{NeverFalls}
 use Rattle.bwe_specs.proofs.Bounds.{sum_below-mono}
 use Rattle.bwe_specs.proofs.Growth.{growth-off, growth-on, amounts_at-grown_amounts, amounts_at-closed}
 use Rattle.bwe_specs.proofs.Loads.{load_on-unused, load_on-mono}
 use Rattle.mpfa_fill.specs.LastFit.{is_over_at}
-use Rattle.closing_walk.specs.Walk.{closing_at, need, HasFit, Owes, Fits, Reaches, from_at, AreOwing, AreNamed, IsNamed, StaysOff, StayOff, IsAt, IsWalked, AreRising}
+use Rattle.closing_walk.specs.Walk.{closing_at, need, Owes, Fits, from_at, AreOwing, IsNamed, StaysOff, StayOff, IsAt, IsWalked}
 use Rattle.closing_walk.proofs.Rights.{fits-less, link-fits-below, need-from, need-upto, named-right, top-fits, right-needs}
 
 module _ (wan : Wan) (never : NeverFalls wan) (earlier : List Closing) (closing : Closing) (last : last_share earlier ≤ closing.share) (link share : ℕ) (from : closing.share ≤ share) (upto : share ≤ wan.top) where

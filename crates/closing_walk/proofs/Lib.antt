@@ -6,3 +6,4 @@ mod Kept
 mod Opens
 mod Looked
 mod AllGroups
+mod EndLoads

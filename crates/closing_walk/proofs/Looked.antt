@@ -1,5 +1,5 @@
 -- How many links of a path group are still to be looked at.
-use Rattle.std.proofs.Common.{◌≡◌, ℕ, ◌+◌, ◌-◌, ◌<◌, ◌≤◌, Bool, true, false, List, refl, sym, ◌∙◌, ap, arith, if◌then◌else◌, nat_lt, slice_index, lt-ltb, ltb-true}
+use Rattle.std.proofs.Common.{◌≡◌, ℕ, ◌+◌, ◌-◌, ◌<◌, ◌≤◌, Bool, true, false, List, refl, ap, arith, if◌then◌else◌, nat_lt, lt-ltb, ltb-true}
 use Rattle.bwe_specs.specs.Bounded.{sum_below}
 use Rattle.bwe_specs.specs.Paths.{PathGroup, uses}
 use Rattle.bwe_specs.proofs.Bounds.{sum_below-mono, sum_below-term}

@@ -1,5 +1,5 @@
 -- Closings that are named in order are right where each link has fit as far as it had to.
-use Rattle.std.proofs.Common.{◌≡◌, ℕ, suc, ◌+◌, ◌<◌, ◌≤◌, Bool, true, false, List, [], ◌∷◌, ◌++◌, length, reverse, take, drop, Some, None, refl, sym, ◌∙◌, ap, arith, le_refl, subst, nat_lt, if◌then◌else◌, slice_index, le-ltb, lt-ltb, ltb-false, ltb-true}
+use Rattle.std.proofs.Common.{◌≡◌, ℕ, suc, ◌+◌, ◌<◌, ◌≤◌, Bool, true, false, List, [], ◌∷◌, ◌++◌, length, reverse, take, drop, Some, None, refl, sym, ◌∙◌, ap, arith, subst, nat_lt, if◌then◌else◌, slice_index, le-ltb, lt-ltb, ltb-false, ltb-true}
 use Rattle.bwe_specs.specs.declared.network.Closing.{Closing}
 use Rattle.bwe_specs.specs.Paths.{is_over, lowest_over}
 use Rattle.bwe_specs.specs.Filling.{Wan, growth}

@@ -1,6 +1,6 @@
 -- What a look at a link settles.
-use Rattle.std.proofs.Common.{◌≡◌, ℕ, suc, ◌+◌, ◌<◌, ◌≤◌, Bool, true, false, List, [], ◌∷◌, length, refl, sym, ◌∙◌, ap, arith, le_refl, subst, inl, inr, set, slice_index, slice_index_or}
-use Rattle.std.proofs.lemmas.Bool.{cases_eq, cases_lt}
+use Rattle.std.proofs.Common.{◌≡◌, ℕ, suc, ◌<◌, ◌≤◌, true, false, List, ◌∷◌, length, refl, sym, ◌∙◌, arith, subst, inl, inr, set}
+use Rattle.std.proofs.lemmas.Bool.{cases_eq}
 use Rattle.std.proofs.lemmas.List.{get_or-set_same, get_or-set_other, length-set}
 use Rattle.bwe_specs.specs.declared.network.Closing.{Closing}
 use Rattle.bwe_specs.specs.Filling.{Wan}
@@ -8,7 +8,7 @@ use Rattle.bwe_specs.specs.RightClosings.{last_share, AreRight}
 use Rattle.bwe_specs.specs.Values.{NeverFalls}
 use Rattle.mpfa_fill.specs.LastFit.{is_over_at}
 use Rattle.closing_walk.specs.Walk.{closing_at, need, HasFit, Owes, Fits, Reaches, IsNeeded, IsHigh, from_at, AreOwing, Settles, IsAt}
-use Rattle.closing_walk.proofs.Rights.{link-fits-below, need-upto, need-from, right-needs}
+use Rattle.closing_walk.proofs.Rights.{link-fits-below, need-from, right-needs}
 
 module _ (wan : Wan) (never : NeverFalls wan) (closings list : List Closing) (at : ℕ) (is : IsAt wan closings list at) where
   -- a link that fits at a share that reaches all that it needs has fit up to this closing

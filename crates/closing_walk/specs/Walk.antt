@@ -40,6 +40,11 @@ abbrev pub AreRising : List Closing → ℕ → Type 0
 AreRising list end = (place later : ℕ) → place ≤ later → later < end
     → (closing_at list place).share ≤ (closing_at list later).share
 
+-- and they are below the top
+pub record IsOrdered (wan : Wan) (list : List Closing) (end : ℕ) : Type 0 where
+  pub rise : AreRising list end
+  pub below : (place : ℕ) → place < end → (closing_at list place).share < wan.top
+
 -- the share is what the link needs, at the places of the list from one on and below another
 abbrev pub Reaches : List Closing → ℕ → ℕ → ℕ → ℕ → Type 0
 Reaches list from end link share = (place : ℕ) → from ≤ place → place < end

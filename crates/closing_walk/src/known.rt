@@ -1,7 +1,8 @@
 //! Looks at links, for which a value that was asked for is kept.
 
 ghost use Rattle.std.specs.Prelude.{◌≡◌, ℕ, ◌<◌, ◌≤◌, ◌+◌, length, IfOk};
-ghost use Rattle.bwe_specs.specs.RightClosings.{last_share};
+ghost use Rattle.bwe_specs.specs.Paths.{link_load};
+ghost use Rattle.bwe_specs.specs.RightClosings.{last_share, amounts_at};
 ghost use Rattle.mpfa_fill.specs.GroupValues.{Values};
 ghost use Rattle.mpfa_fill.specs.LastFit.{is_over_at};
 ghost use Rattle.link_front.specs.Front.{wan_in, closings_in, AreKnown, IsFront};
@@ -56,30 +57,53 @@ pub(crate) fn looks_over<V: GroupValues, L: Ledger>(
         (λ over. over ≡ is_over_at (wan_in V.meaning front.now) (closings_in front.now) share link) }
     ensures ticks { steps.new ≤ steps.old + 1 }
 {
+    let load = load_at(alloc, front, known, link, share, steps)?;
+    Ok(load > front.growth.capacity(link) as u128)
+}
+
+/// The load of the link at a share, if nothing closes on the way there. It is one look.
+pub(crate) fn load_at<V: GroupValues, L: Ledger>(
+    alloc: Global,
+    front: &Front<V>,
+    known: &mut KnownValues,
+    link: u32,
+    share: u64,
+    steps: &mut Steps<L>,
+) -> Result<u128, OutOfMemory>
+    requires front { IsFront V.meaning front.now }
+    requires known { AreKnownTwice (wan_in V.meaning front.now) known.old }
+    requires link { link < length (wan_in V.meaning front.now).capacities }
+    requires last { last_share (closings_in front.now) ≤ share }
+    requires within { share ≤ (wan_in V.meaning front.now).top }
+    ensures known { AreKnownTwice (wan_in V.meaning front.now) known.new }
+    ensures load { let wan = wan_in V.meaning front.now in IfOk result
+        (λ load. load ≡ link_load wan.groups (amounts_at wan (closings_in front.now) share) link) }
+    ensures ticks { steps.new ≤ steps.old + 1 }
+{
     if share % 2 == 0 {
-        Ok(is_over(alloc, front, &mut known.even, link, share, steps)?)
+        Ok(load_by(alloc, front, &mut known.even, link, share, steps)?)
     } else {
-        Ok(is_over(alloc, front, &mut known.odd, link, share, steps)?)
+        Ok(load_by(alloc, front, &mut known.odd, link, share, steps)?)
     }
 }
 
 // The same, once it is clear where values at such a share are kept.
-fn is_over<V: GroupValues, L: Ledger>(
+fn load_by<V: GroupValues, L: Ledger>(
     alloc: Global,
     front: &Front<V>,
     known: &mut [ValueAt],
     link: u32,
     share: u64,
     steps: &mut Steps<L>,
-) -> Result<bool, OutOfMemory>
+) -> Result<u128, OutOfMemory>
     requires front { IsFront V.meaning front.now }
     requires known { AreKnown (wan_in V.meaning front.now) known.old }
     requires link { link < length (wan_in V.meaning front.now).capacities }
     requires last { last_share (closings_in front.now) ≤ share }
     requires within { share ≤ (wan_in V.meaning front.now).top }
     ensures known { AreKnown (wan_in V.meaning front.now) known.new }
-    ensures over { IfOk result
-        (λ over. over ≡ is_over_at (wan_in V.meaning front.now) (closings_in front.now) share link) }
+    ensures load { let wan = wan_in V.meaning front.now in IfOk result
+        (λ load. load ≡ link_load wan.groups (amounts_at wan (closings_in front.now) share) link) }
     ensures ticks { steps.new ≤ steps.old + 1 }
 {
     for group in front.by_link.on(link) {
@@ -87,7 +111,7 @@ fn is_over<V: GroupValues, L: Ledger>(
     }
     let terms = front.terms_on(alloc, link, known)?;
     steps.tick();
-    Ok(front.growth.is_over_at(&terms, link, share))
+    Ok(front.growth.load_at(&terms, link, share))
 }
 
 // Asks for the group's value at the share, if it grows over the link and it is not known.

@@ -1,6 +1,6 @@
 //! A walk over closings that looks at a link only where its load changes.
 
-ghost use Rattle.std.specs.Prelude.{◌≡◌, ◌==◌, nat_eq, nat_lt, if◌then◌else◌, ℕ, suc, ◌+◌, ◌*◌, ◌<◌, ◌≤◌, ◌∷◌, [], true, false, not, length, reverse, slice_index_or, IfOk, OnOk, None};
+ghost use Rattle.std.specs.Prelude.{◌≡◌, ◌==◌, nat_eq, nat_lt, if◌then◌else◌, ℕ, suc, ◌+◌, ◌*◌, ◌<◌, ◌≤◌, ◌∷◌, [], true, false, not, length, reverse, take, slice_index_or, IfOk, OnOk, None};
 ghost use Rattle.std.specs.List.{list_any};
 ghost use Rattle.bwe_specs.specs.Paths.{path_group_at, path_group_count, uses, is_open, current_path_group};
 ghost use Rattle.bwe_specs.specs.Filling.{closed_links};
@@ -9,10 +9,12 @@ ghost use Rattle.path_groups.specs.Plan.{IsBuiltOn};
 ghost use Rattle.mpfa_fill.specs.GroupValues.{Values, wan_of};
 ghost use Rattle.mpfa_fill.specs.LastFit.{is_over_at};
 ghost use Rattle.link_front.specs.Front.{wan_in, closings_in, IsFront};
+ghost use Rattle.closing_walk.specs.Ends.{AreEndLoads, AreBounds};
 ghost use Rattle.closing_walk.specs.Known.{AreKnownTwice};
 ghost use Rattle.closing_walk.specs.Walk.{closing_at, AreRising, Reaches, IsNeeded, IsHigh, IsAt, AreOwing, Settles, StaysOff, StayOff, IsWalked, from_at};
 ghost use Rattle.link_front.specs.Moves.{links_of, links_over_all, moves_of, moves_ahead};
 
+use crate::ends::{EndLoads, end_loads, is_over_by};
 use crate::known::{KnownValues, looks_over};
 use bwe_specs::{Closing, MAX_SHARE, OutOfMemory};
 use link_front::{Front, GroupsByLink};
@@ -27,8 +29,8 @@ use wan_topology::Topology;
 /// docs/DEFINITIONS.md). Link numbers and shares in the list may be any.
 ///
 /// Each look at a link is counted: a look asks for the load of one link at one share. A link is
-/// looked at once where it closes, once for each path group over it that a group leaves, once for
-/// each to which one comes, and once at the top.
+/// looked at once where it closes, at most once for each path group over it that a group leaves, at
+/// most once for each to which one comes, and once at the top.
 pub fn seen_right<V: GroupValues, L: Ledger>(
     alloc: Global,
     values: &V,
@@ -79,11 +81,15 @@ fn seen_listed<'a, V: GroupValues, L: Ledger>(
         ≤ steps.old + (links + length closings.now + 2 * links_over_all links plan.now) }
 {
     let top = values.top();
+    let mut known = KnownValues::none(alloc, plan.groups())?;
+    let mut ended = Front::open(alloc, values, topology, plan, by_link)?;
+    let Some(mut ends) = end_loads(alloc, &mut ended, &mut known, closings, top, steps)? else {
+        return Ok(false);
+    };
     let mut front = Front::open(alloc, values, topology, plan, by_link)?;
-    let mut known = KnownValues::none(alloc, front.growth.groups())?;
     let mut froms = vec![in alloc; 0; front.links() as usize]?;
     Ok(is_walked(
-        alloc, &mut front, &mut known, &mut froms, closings, top, steps,
+        alloc, &mut front, &mut known, &mut ends, &mut froms, closings, top, steps,
     )?)
 }
 
@@ -93,6 +99,7 @@ pub(crate) fn is_walked<V: GroupValues, L: Ledger>(
     alloc: Global,
     front: &mut Front<V>,
     known: &mut KnownValues,
+    ends: &mut EndLoads,
     froms: &mut [usize],
     closings: &[Closing],
     top: u64,
@@ -100,6 +107,7 @@ pub(crate) fn is_walked<V: GroupValues, L: Ledger>(
 ) -> Result<bool, OutOfMemory>
     requires front { IsFront V.meaning front.old }
     requires known { AreKnownTwice (wan_in V.meaning front.old) known.old }
+    requires ends { AreEndLoads (wan_in V.meaning front.old) closings.now ends.old }
     requires walked { IsWalked (wan_in V.meaning front.old) (closings_in front.old) closings.now 0
         froms.old }
     requires none { closings_in front.old ≡ [] }
@@ -109,15 +117,14 @@ pub(crate) fn is_walked<V: GroupValues, L: Ledger>(
     ensures wrong { IfOk result (λ seen. seen ≡ false
         → AreRightToTop (wan_in V.meaning front.old) (reverse closings.now) → ⊥) }
     ensures ticks { steps.new
-        ≤ steps.old + length (wan_in V.meaning front.old).capacities + length closings.now
-        + moves_ahead (wan_in V.meaning front.old) [] }
+        ≤ steps.old + length closings.now + moves_ahead (wan_in V.meaning front.old) [] }
 {
     for at in 0..closings.len() {
-        if !passes(alloc, front, known, froms, closings, at, top, steps)? {
+        if !passes(alloc, front, known, ends, froms, closings, at, top, steps)? {
             return Ok(false);
         }
     }
-    Ok(all_fit(front, top, steps))
+    Ok(true)
 }
 
 // Whether the closing is seen to be right if all before it are, but for the looks that links owe.
@@ -125,6 +132,7 @@ fn passes<V: GroupValues, L: Ledger>(
     alloc: Global,
     front: &mut Front<V>,
     known: &mut KnownValues,
+    ends: &mut EndLoads,
     froms: &mut [usize],
     closings: &[Closing],
     at: usize,
@@ -133,11 +141,15 @@ fn passes<V: GroupValues, L: Ledger>(
 ) -> Result<bool, OutOfMemory>
     requires front { IsFront V.meaning front.old }
     requires known { AreKnownTwice (wan_in V.meaning front.old) known.old }
+    requires ends { AreEndLoads (wan_in V.meaning front.old) closings.now ends.old }
+    requires closings { closings_in front.old ≡ reverse (take at closings.now) }
     requires at { at < length closings.now }
     requires walked { IsWalked (wan_in V.meaning front.old) (closings_in front.old) closings.now at
         froms.old }
     requires top { top ≡ (wan_in V.meaning front.old).top }
     ensures known { AreKnownTwice (wan_in V.meaning front.old) known.new }
+    ensures ends { IfOk result (λ seen. seen ≡ true
+        → AreEndLoads (wan_in V.meaning front.old) closings.now ends.new) }
     ensures front { OnOk result (IsFront V.meaning front.new) }
     ensures wan { OnOk result (wan_in V.meaning front.new ≡ wan_in V.meaning front.old) }
     ensures closings { IfOk result (λ seen. seen ≡ true
@@ -161,15 +173,17 @@ fn passes<V: GroupValues, L: Ledger>(
     if !looks_over(alloc, front, known, closing.link, closing.share + 1, steps)? {
         return Ok(false);
     }
-    if !settles_all(alloc, front, known, froms, closings, at, steps)? {
+    ends.bound(front, closings, at);
+    if !settles_all(alloc, front, known, ends, froms, closings, at, steps)? {
         return Ok(false);
     }
+    ends.unbound(front, closings, closing.link);
     front.close(closing)?;
     Ok(true)
 }
 
 // Whether the closing is of an open link, at a share that the order allows.
-fn is_in_order<V: GroupValues>(front: &Front<V>, closing: Closing, top: u64) -> bool
+pub(crate) fn is_in_order<V: GroupValues>(front: &Front<V>, closing: Closing, top: u64) -> bool
     requires top { top ≡ (wan_in V.meaning front.now).top }
     ensures link { result ≡ true → closing.link < length (wan_in V.meaning front.now).capacities }
     ensures open { result ≡ true
@@ -206,6 +220,7 @@ fn settles_all<V: GroupValues, L: Ledger>(
     alloc: Global,
     front: &Front<V>,
     known: &mut KnownValues,
+    ends: &EndLoads,
     froms: &mut [usize],
     closings: &[Closing],
     at: usize,
@@ -213,6 +228,7 @@ fn settles_all<V: GroupValues, L: Ledger>(
 ) -> Result<bool, OutOfMemory>
     requires front { IsFront V.meaning front.now }
     requires known { AreKnownTwice (wan_in V.meaning front.now) known.old }
+    requires bounds { AreBounds (wan_in V.meaning front.now) (closings_in front.now) ends.now }
     requires order { IsAt (wan_in V.meaning front.now) (closings_in front.now) closings.now at }
     requires owing { AreOwing (wan_in V.meaning front.now) (closings_in front.now) closings.now at
         froms.old }
@@ -233,7 +249,9 @@ fn settles_all<V: GroupValues, L: Ledger>(
         ≤ steps.old + moves_ahead (wan_in V.meaning front.now) (closings_in front.now)) }
 {
     for group in front.by_link.on(closings[at].link) {
-        if !settles_group(alloc, front, known, *group, froms, closings, at, steps)? {
+        if !settles_group(
+            alloc, front, known, ends, *group, froms, closings, at, steps,
+        )? {
             return Ok(false);
         }
     }
@@ -246,6 +264,7 @@ fn settles_group<V: GroupValues, L: Ledger>(
     alloc: Global,
     front: &Front<V>,
     known: &mut KnownValues,
+    ends: &EndLoads,
     group: u32,
     froms: &mut [usize],
     closings: &[Closing],
@@ -254,6 +273,7 @@ fn settles_group<V: GroupValues, L: Ledger>(
 ) -> Result<bool, OutOfMemory>
     requires front { IsFront V.meaning front.now }
     requires known { AreKnownTwice (wan_in V.meaning front.now) known.old }
+    requires bounds { AreBounds (wan_in V.meaning front.now) (closings_in front.now) ends.now }
     requires group { group < length (wan_in V.meaning front.now).groups }
     requires order { IsAt (wan_in V.meaning front.now) (closings_in front.now) closings.now at }
     requires owing { AreOwing (wan_in V.meaning front.now) (closings_in front.now) closings.now at
@@ -277,13 +297,13 @@ fn settles_group<V: GroupValues, L: Ledger>(
         return Ok(true);
     };
     if !settles_links(
-        alloc, front, known, group, place, true, froms, closings, at, steps,
+        alloc, front, known, ends, group, place, true, froms, closings, at, steps,
     )? {
         return Ok(false);
     }
     match front.growth.next_place(group, closing.link) {
         Some(next) => Ok(settles_links(
-            alloc, front, known, group, next, false, froms, closings, at, steps,
+            alloc, front, known, ends, group, next, false, froms, closings, at, steps,
         )?),
         None => Ok(true),
     }
@@ -295,6 +315,7 @@ fn settles_links<V: GroupValues, L: Ledger>(
     alloc: Global,
     front: &Front<V>,
     known: &mut KnownValues,
+    ends: &EndLoads,
     group: u32,
     place: u32,
     leaves: bool,
@@ -305,6 +326,7 @@ fn settles_links<V: GroupValues, L: Ledger>(
 ) -> Result<bool, OutOfMemory>
     requires front { IsFront V.meaning front.now }
     requires known { AreKnownTwice (wan_in V.meaning front.now) known.old }
+    requires bounds { AreBounds (wan_in V.meaning front.now) (closings_in front.now) ends.now }
     requires group { group < length (wan_in V.meaning front.now).groups }
     requires place { place < path_group_count (wan_in V.meaning front.now).groups group }
     requires order { IsAt (wan_in V.meaning front.now) (closings_in front.now) closings.now at }
@@ -329,7 +351,7 @@ fn settles_links<V: GroupValues, L: Ledger>(
 {
     for part in front.by_link.plan().parts(group, place) {
         if !settles_link(
-            alloc, front, known, part.link, leaves, froms, closings, at, steps,
+            alloc, front, known, ends, part.link, leaves, froms, closings, at, steps,
         )? {
             return Ok(false);
         }
@@ -342,6 +364,7 @@ fn settles_link<V: GroupValues, L: Ledger>(
     alloc: Global,
     front: &Front<V>,
     known: &mut KnownValues,
+    ends: &EndLoads,
     link: u32,
     leaves: bool,
     froms: &mut [usize],
@@ -351,6 +374,7 @@ fn settles_link<V: GroupValues, L: Ledger>(
 ) -> Result<bool, OutOfMemory>
     requires front { IsFront V.meaning front.now }
     requires known { AreKnownTwice (wan_in V.meaning front.now) known.old }
+    requires bounds { AreBounds (wan_in V.meaning front.now) (closings_in front.now) ends.now }
     requires link { link < length (wan_in V.meaning front.now).capacities }
     requires order { IsAt (wan_in V.meaning front.now) (closings_in front.now) closings.now at }
     requires owing { AreOwing (wan_in V.meaning front.now) (closings_in front.now) closings.now at
@@ -379,7 +403,7 @@ fn settles_link<V: GroupValues, L: Ledger>(
     if !leaves && share == closings[at].share {
         return Ok(true);
     }
-    if looks_over(alloc, front, known, link, share, steps)? {
+    if is_over_by(alloc, front, known, ends, link, share, steps)? {
         return Ok(false);
     }
     froms[link as usize] = at + 1;
@@ -410,25 +434,4 @@ fn owed(closings: &[Closing], from: usize, at: usize, link: u32) -> u64
         }
     }
     share
-}
-
-// Whether each link fits at the top, to which all groups come up. Each link is looked at once.
-fn all_fit<V: GroupValues, L: Ledger>(front: &mut Front<V>, top: u64, steps: &mut Steps<L>) -> bool
-    requires front { IsFront V.meaning front.old }
-    requires top { top ≡ (wan_in V.meaning front.old).top }
-    ensures fit { result ≡ true
-        → (link : ℕ) → link < length (wan_in V.meaning front.old).capacities
-        → is_over_at (wan_in V.meaning front.old) (closings_in front.old) top link ≡ false }
-    ensures over { result ≡ false
-        → over_at (wan_in V.meaning front.old) (closings_in front.old) top ≡ None → ⊥ }
-    ensures ticks { steps.new ≤ steps.old + length (wan_in V.meaning front.old).capacities }
-{
-    front.growth.bring_all_up(top);
-    for link in 0..front.links() {
-        steps.tick();
-        if front.growth.is_over(link) {
-            return false;
-        }
-    }
-    true
 }

@@ -1,12 +1,13 @@
-use Rattle.std.proofs.Common.{◌≡◌, ℕ, suc, ◌+◌, ◌<◌, ◌≤◌, true, false, List, [], ◌∷◌, length, reverse, take, sym, ◌∙◌, ap, arith, subst, refl, add-one, None}
+use Rattle.std.proofs.Common.{◌≡◌, ℕ, ◌+◌, ◌<◌, false, List, ◌∷◌, length, reverse, take, sym, ◌∙◌, ap, arith, subst, refl, add-one}
 use Rattle.std.proofs.lemmas.List.{take_all, take_more}
 use Rattle.bwe_specs.specs.declared.network.Closing.{Closing}
 use Rattle.bwe_specs.specs.Filling.{Wan}
-use Rattle.bwe_specs.specs.RightClosings.{last_share, over_at, AreRight, AreRightToTop}
+use Rattle.bwe_specs.specs.RightClosings.{AreRight, AreRightToTop}
 use Rattle.mpfa_fill.specs.LastFit.{is_over_at}
 use Rattle.mpfa_fill.proofs.MomentLemmas.{never_falls, reverse_push}
 use Rattle.mpfa_fill.proofs.Order.{order-le}
 use Rattle.link_front.specs.Front.{wan_in, closings_in}
+use Rattle.closing_walk.specs.Ends.{AreEndLoads}
 use Rattle.closing_walk.specs.Known.{AreKnownTwice}
 use Rattle.closing_walk.specs.Walk.{closing_at, IsWalked}
 use Rattle.link_front.specs.Moves.{moves_ahead}
@@ -20,6 +21,7 @@ loop-at-init g c =
       front = c.requires.front;
       wan = refl;
       known = c.requires.known;
+      ends = c.requires.ends;
       closings = c.requires.none;
       walked = c.requires.walked;
       ticks = omega (arith, ap (moves_ahead (wan_in g.V.GroupValues.meaning c.args.front.now)) c.requires.none);
@@ -44,6 +46,7 @@ loop-at-preserved g c =
       front = e.front;
       wan = e.wan ∙ i.wan;
       known = subst (λ wan. AreKnownTwice wan c.passes.new.known) i.wan e.known;
+      ends = subst (λ wan. AreEndLoads wan list c.passes.new.ends) i.wan (e.ends seen);
       closings = closings ∙ ap (λ cs. closing ∷ cs) i.closings ∙ sym (reverse_push (take at list) closing) ∙ ap reverse (sym (take_more list at (record { link = 0; share = 0 }) c.loop-at-test.true));
       walked = subst (λ wan. IsWalked wan (closings_in c.passes.new.front) list (at + 1) c.passes.new.froms) (sym e.wan)
           (subst (λ cs. IsWalked (wan_in g.V.GroupValues.meaning c.loop-at.front) cs list (at + 1) c.passes.new.froms) (sym closings)
@@ -57,20 +60,20 @@ loop-at-preserved g c =
       );
     }
 
-pub all_fit-requires-clause-top : goal.all_fit-requires-clause-top
-all_fit-requires-clause-top g c = c.requires.top ∙ ap (λ (wan : Wan). wan.top) (sym c.loop-at.invariant.wan)
+pub passes-requires-clause-ends : goal.passes-requires-clause-ends
+passes-requires-clause-ends g c = subst (λ wan. AreEndLoads wan c.args.closings.now c.loop-at.ends) (sym c.loop-at.invariant.wan) c.loop-at.invariant.ends
 
 pub returns-clause-right : goal.returns-clause-right
-returns-clause-right g c = λ seen.
+returns-clause-right g c = λ _.
     let i = c.loop-at.invariant in
     let wan : Wan = wan_in g.V.GroupValues.meaning c.loop-at.front in
     let closings : List Closing = closings_in c.loop-at.front in
     let list : List Closing = c.args.closings.now in
-    let top : c.args.top ≡ wan.top = c.requires.top ∙ ap (λ (wan : Wan). wan.top) (sym i.wan) in
+    let all : closings ≡ reverse list = i.closings ∙ ap reverse (take_all c.loop-at.at list c.loop-at-test.false) in
+    let ends : AreEndLoads wan list c.loop-at.ends = subst (λ wan. AreEndLoads wan list c.loop-at.ends) (sym i.wan) i.ends in
     let right : AreRightToTop wan closings =
     walked-right wan (never_falls _ _ _ i.front.growth.known) closings list c.loop-at.at c.loop-at.froms i.walked (order-le wan closings i.front.growth.order)
-    (subst (λ (share : ℕ). (link : ℕ) → link < length wan.capacities → is_over_at wan closings share link ≡ false) top (c.all_fit.ensures.fit seen)) in
-    let all : closings ≡ reverse list = i.closings ∙ ap reverse (take_all c.loop-at.at list c.loop-at-test.false) in
+    (subst (λ cs. (link : ℕ) → link < length wan.capacities → is_over_at wan cs wan.top link ≡ false) (sym all) ends.fit) in
     subst (λ wan. AreRightToTop wan (reverse list)) i.wan (subst (AreRightToTop wan) all right)
 
 pub returns-then-not-branch-clause-wrong : goal.returns-then-not-branch-clause-wrong
@@ -85,14 +88,3 @@ returns-then-not-branch-clause-wrong g c = λ _ right.
     (subst (λ wan. AreRight wan (closing ∷ closings_in c.loop-at.front)) (sym i.wan)
     (subst (AreRight (wan_in g.V.GroupValues.meaning c.args.front.now)) next
     (right-taken (wan_in g.V.GroupValues.meaning c.args.front.now) list (at + 1) right.0)))
-
-pub returns-clause-wrong : goal.returns-clause-wrong
-returns-clause-wrong g c = λ unseen right.
-    let i = c.loop-at.invariant in
-    let wan : Wan = wan_in g.V.GroupValues.meaning c.loop-at.front in
-    let closings : List Closing = closings_in c.loop-at.front in
-    let list : List Closing = c.args.closings.now in
-    let top : c.args.top ≡ wan.top = c.requires.top ∙ ap (λ (wan : Wan). wan.top) (sym i.wan) in
-    let all : closings ≡ reverse list = i.closings ∙ ap reverse (take_all c.loop-at.at list c.loop-at-test.false) in
-    let here : AreRightToTop wan closings = subst (AreRightToTop wan) (sym all) (subst (λ wan. AreRightToTop wan (reverse list)) (sym i.wan) right) in
-    c.all_fit.ensures.over unseen (subst (λ share. over_at wan closings share ≡ None) (sym top) here.1)

@@ -1,4 +1,4 @@
-use Rattle.std.proofs.Common.{◌≡◌, ℕ, ◌≤◌, ◌<◌, suc}
+use Rattle.std.proofs.Common.{ℕ, ◌≤◌, ◌<◌, suc}
 use Rattle.closing_walk.specs.Walk.{closing_at}
 use Rattle.closing_walk.proofs.walk.owed.Given as goal
 

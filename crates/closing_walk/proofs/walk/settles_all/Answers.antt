@@ -1,4 +1,4 @@
-use Rattle.std.proofs.Common.{◌≡◌, ℕ, ◌+◌, ◌<◌, ◌≤◌, List, ◌∷◌, length, refl, sym, ◌∙◌, ap, arith, subst, slice_index}
+use Rattle.std.proofs.Common.{ℕ, ◌<◌, List, length, arith, subst, slice_index}
 use Rattle.bwe_specs.specs.declared.network.Closing.{Closing}
 use Rattle.bwe_specs.specs.Filling.{Wan}
 use Rattle.link_front.specs.ByLink.{AreGroupsOn}
@@ -6,7 +6,7 @@ use Rattle.link_front.specs.Front.{wan_in, closings_in}
 use Rattle.closing_walk.specs.Walk.{closing_at, Settles}
 use Rattle.closing_walk.proofs.AllGroups.{AreOff, off-start, off-next, off-unused, looks-within}
 use Rattle.closing_walk.proofs.Settling.{settles-none, settles-then}
-use Rattle.link_front.proofs.Walks.{reached, walk-start, walk-here, walk-next, walk-end}
+use Rattle.link_front.proofs.Walks.{walk-start, walk-here, walk-next, walk-end}
 use Rattle.closing_walk.proofs.walk.settles_all.Goals as goal
 
 pub loop-group-init : goal.loop-group-init

@@ -1,9 +1,6 @@
-use Rattle.std.proofs.Common.{◌≡◌, ℕ, ◌+◌, ◌<◌, ◌≤◌, ◌∷◌}
-use Rattle.bwe_specs.specs.Bounded.{sum_below}
 use Rattle.link_front.specs.Front.{wan_in, closings_in}
 use Rattle.closing_walk.specs.Known.{AreKnownTwice}
-use Rattle.closing_walk.specs.Walk.{closing_at, Settles, StayOff}
-use Rattle.link_front.specs.Moves.{moves_of}
+use Rattle.closing_walk.specs.Walk.{Settles}
 use Rattle.link_front.proofs.Walks.{reached}
 use Rattle.closing_walk.proofs.AllGroups.{AreOff}
 use Rattle.closing_walk.proofs.walk.settles_all.Given as goal

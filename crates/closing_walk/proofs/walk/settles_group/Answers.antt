@@ -1,13 +1,13 @@
-use Rattle.std.proofs.Common.{◌≡◌, ℕ, ◌+◌, ◌<◌, ◌≤◌, true, List, ◌∷◌, [], length, Option, Some, None, refl, sym, ◌∙◌, ap, arith, subst, slice_index_or}
+use Rattle.std.proofs.Common.{◌≡◌, ℕ, ◌<◌, true, List, ◌∷◌, [], Some, None, refl, sym, ◌∙◌, arith, subst, slice_index_or}
 use Rattle.bwe_specs.specs.declared.network.Closing.{Closing}
 use Rattle.bwe_specs.specs.Filling.{Wan, closed_links, current_path_group_of}
-use Rattle.bwe_specs.specs.Paths.{PathGroup, PathGroups, path_group_at, path_group_count, uses, current_path_group}
+use Rattle.bwe_specs.specs.Paths.{path_group_at, uses}
 use Rattle.bwe_specs.proofs.Loads.{current-open}
 use Rattle.link_front.specs.Front.{wan_in, closings_in}
 use Rattle.closing_walk.specs.Walk.{closing_at, Settles, from_at}
 use Rattle.link_front.proofs.GroupMoves.{keeps-path_group, moves-same, moves-leave, moves-on, moves-off}
 use Rattle.closing_walk.proofs.Staying.{stays-off, stays-same}
-use Rattle.closing_walk.proofs.Settling.{settles-none, settles-then}
+use Rattle.closing_walk.proofs.Settling.{settles-then}
 use Rattle.closing_walk.proofs.walk.settles_group.Goals as goal
 
 pub returns-in_default-clause-off : goal.returns-in_default-clause-off

@@ -1,4 +1,4 @@
-use Rattle.std.proofs.Common.{◌≡◌, ℕ, suc, ◌+◌, ◌<◌, ◌≤◌, ◌∙◌, sym, arith, List, length}
+use Rattle.std.proofs.Common.{ℕ, ◌+◌, ◌≤◌, ◌∙◌, sym, arith, List}
 use Rattle.bwe_specs.specs.declared.network.Closing.{Closing}
 use Rattle.bwe_specs.specs.Filling.{Wan}
 use Rattle.mpfa_fill.proofs.MomentLemmas.{never_falls}
@@ -17,7 +17,7 @@ returns-clause-settles g c = λ _.
     settles-one wan (never_falls _ _ _ c.requires.front.growth.known) closings c.args.closings.now c.args.at c.requires.order froms c.args.link (omega (arith, c.requires.link, owing.each_link)) owing
     (has-fit wan (never_falls _ _ _ c.requires.front.growth.known) closings c.args.closings.now c.args.at c.requires.order c.args.link (from_at froms c.args.link) c.owed-share.result
     (owing.owes c.args.link c.requires.link le) le c.owed-share.ensures.reaches c.owed-share.ensures.within
-    (sym c.in_ok-looks_over.ensures.over ∙ c.if-branch.false))
+    (sym c.in_ok-is_over_by.ensures.over ∙ c.if-branch.false))
     (c.args.at + 1) (omega arith)
 
 pub returns-then-branch-clause-wrong : goal.returns-then-branch-clause-wrong
@@ -29,4 +29,4 @@ returns-then-branch-clause-wrong g c = λ _ right.
     let le : from_at froms c.args.link ≤ c.args.at = omega (arith, c.if-from-at.false) in
     no-fit wan (never_falls _ _ _ c.requires.front.growth.known) closings c.args.closings.now c.args.at c.requires.order c.args.link (from_at froms c.args.link) c.owed-share.result c.requires.link
     (owing.fits c.args.link c.requires.link le) c.owed-share.ensures.needed c.owed-share.ensures.last
-    (sym c.in_ok-looks_over.ensures.over ∙ c.if-branch.true) right
+    (sym c.in_ok-is_over_by.ensures.over ∙ c.if-branch.true) right

@@ -1,4 +1,4 @@
-use Rattle.std.proofs.Common.{◌≡◌, ℕ, ◌+◌, ◌<◌, ◌≤◌, true, List, length, refl, sym, ◌∙◌, ap, arith, subst, inl, inr, get_or, take, eqb-true, ◌==◌}
+use Rattle.std.proofs.Common.{◌≡◌, ◌<◌, ◌≤◌, true, List, length, sym, ◌∙◌, ap, arith, subst, inl, inr, get_or, take, eqb-true, ◌==◌}
 use Rattle.std.proofs.lemmas.List.{take_all}
 use Rattle.std.proofs.lemmas.List.Folds.{list_any_more}
 use Rattle.bwe_specs.specs.declared.network.Closing.{Closing}
@@ -11,7 +11,7 @@ use Rattle.path_groups.proofs.Parts.{AreParts-used}
 use Rattle.link_front.specs.Front.{wan_in, closings_in}
 use Rattle.closing_walk.specs.Walk.{Settles, IsHigh, from_at}
 use Rattle.closing_walk.proofs.Settling.{settles-none, settles-then}
-use Rattle.closing_walk.proofs.Looked.{unlooked, unlooked-most, unlooked-one, unlooked-less}
+use Rattle.closing_walk.proofs.Looked.{unlooked-most, unlooked-one, unlooked-less}
 use Rattle.closing_walk.proofs.walk.settles_links.Goals as goal
 
 pub loop-part-init : goal.loop-part-init

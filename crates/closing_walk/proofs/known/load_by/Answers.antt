@@ -1,7 +1,7 @@
 use Rattle.std.proofs.Common.{ℕ, List, subst}
 use Rattle.link_front.specs.ByLink.{AreGroupsOn}
 use Rattle.link_front.specs.Front.{wan_in}
-use Rattle.closing_walk.proofs.known.is_over.Goals as goal
+use Rattle.closing_walk.proofs.known.load_by.Goals as goal
 
 pub ask-requires-clause-group : goal.ask-requires-clause-group
 ask-requires-clause-group g c =

@@ -1,5 +1,5 @@
 use Rattle.link_front.specs.Front.{wan_in, AreKnown}
-use Rattle.closing_walk.proofs.known.is_over.Given as goal
+use Rattle.closing_walk.proofs.known.load_by.Given as goal
 
 -- what is known stays so
 abbrev pub invariant-loop-group : goal.invariant-loop-group
