@@ -1,3 +1,4 @@
 pub mod Sending
 pub mod Totals
 pub mod Posting
+pub mod CorePosts

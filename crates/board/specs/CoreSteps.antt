@@ -1,5 +1,5 @@
 -- The steps on the locked state, by Core run.
-use Rattle.std.specs.Prelude.{ℕ, ◌≡◌, List, Ok, Err, Result}
+use Rattle.std.specs.Prelude.{ℕ, ◌≡◌, ◌⊎◌, List, Ok, Err, Result, length}
 use Rattle.bwe_specs.specs.declared.report.Report.{Report}
 use Rattle.board_core.specs.declared.event.CoreEvent.{CoreEvent}
 use Rattle.board_core.specs.declared.event.CoreEvent.TheVariants as event
@@ -44,3 +44,17 @@ ArePostSteps old covers prefix new = (total : List Report → ℕ) (floors : Lis
     (state_after (core_state old floors) (event.Post old.pending))
     × Steps total (state_after (core_state old floors) (event.Post old.pending)) (event.Post covers)
     (Ok (Posted prefix)) (core_state new floors)
+
+-- the two posts of a table of the whole log
+abbrev pub ArePostStepsOfAll : Standing → Standing → Type 0
+ArePostStepsOfAll old new = ArePostSteps old (length old.log) (length old.log) new
+
+-- memory ran out at the first of the two posts, or at the second
+abbrev pub IsPostRefused : Standing → ℕ → Standing → Type 0
+IsPostRefused old covers new = (total : List Report → ℕ) (floors : List ℕ)
+    → Steps total (core_state old floors) (event.Post old.pending) (Err core_error.OutOfMemory)
+    (core_state new floors)
+    ⊎ (Steps total (core_state old floors) (event.Post old.pending) (Ok (Posted old.pending))
+    (state_after (core_state old floors) (event.Post old.pending))
+    × Steps total (state_after (core_state old floors) (event.Post old.pending))
+    (event.Post covers) (Err core_error.OutOfMemory) (core_state new floors))

@@ -10,7 +10,7 @@ ghost use Rattle.board_core.specs.Core.{IsAllowed};
 ghost use Rattle.board.specs.Refusals.{IsRefusalAt};
 ghost use Rattle.board.specs.Reporting.{AreInOrder};
 ghost use Rattle.board.specs.Standing.{IsRaised};
-ghost use Rattle.board.specs.CoreSteps.{IsReportStep, ArePostSteps};
+ghost use Rattle.board.specs.CoreSteps.{IsReportStep, ArePostSteps, ArePostStepsOfAll, IsPostRefused};
 
 use crate::ended::{Ended, FinishRefused};
 use crate::refusal::ReportError;
@@ -72,6 +72,7 @@ pub fn post<M: Maker, N: Profile<M::Table>, B: Bases, R: Wait>(
     // By Core run these are two posts: of the table that waits, and of this one.
     ensures run { IfOk result (λ prefix. ArePostSteps state.old (M.Table.covers table) prefix
         state.new) }
+    ensures cut { OnErr result (IsPostRefused state.old (M.Table.covers table) state.new) }
     ensures refused { OnErr result (IsRaised state.old.posted state.new.posted
         (max state.old.pending (M.Table.covers table))) }
     ensures waits { OnErr result (IsRaised state.old.pending state.new.pending
@@ -232,6 +233,9 @@ impl<M: Maker, N: Profile<M::Table>, B: Bases> LogState<M, N, B> {
         ensures within { self.new.posted ≤ length self.new.log }
         ensures covered { IfOk result (IsPrefix shop.now) }
         ensures raised { self.old.posted ≤ self.new.posted }
+        // By Core run these are the two posts of that table.
+        ensures run { IfOk result (λ ack. ArePostSteps self.old (length shop.now) (length ack)
+            self.new) }
     {
         if !self.begins_with(shop) {
             return Err(OutOfMemory);
@@ -280,6 +284,8 @@ impl<M: Maker, N: Profile<M::Table>, B: Bases> LogState<M, N, B> {
         ensures allowed { All (IsAllowed N.reporters (IsFit N.tasks N.links)) self.old.log }
         ensures covers { IfOk result (λ ended. M.Table.covers ended.table ≡ ended.length) }
         ensures table { IfOk result (λ ended. N.belongs self.old.log ended.table) }
+        // By Core run the table of the whole log is posted. That the log has ended is no event.
+        ensures run { OnOk result (ArePostStepsOfAll self.old self.new) }
         ensures refused { IfErr result (λ refused. refused.passes.items ≡ passes.items) }
     {
         let length = self.log.len() as u64;
