@@ -75,7 +75,7 @@ class Desk:
         return view, Reading(reading.revision, reading.found[6:])
 
     def _take(self, reading: Reading) -> bool:
-        """Takes what has changed; whether anything has. A fault in the middle drops nothing of it."""
+        """Takes what has changed; whether anything has. A fault on the way drops none of it."""
         document, accepted, reports = reading.found[3:6]
         changed = self.reports.take(self._store, reports, reading.revision)
         self._note(changed)

@@ -1,7 +1,7 @@
-# control/tests/hosts_cage.bash FOLDER TREE: the inside of a cage of test_hosts_page.py, which unshare has
-# made: a machine of its own at 10.0.0.254, and the hosts h1, h2 and h3 at 10.0.0.1 to 10.0.0.3, each with
-# a network, a name, and folders /etc, /run and /var/lib/etcd of its own. FOLDER/h1/pid is the process
-# whose namespaces are h1. All of it ends with this script, ten minutes later.
+# control/tests/hosts_cage.bash FOLDER TREE: the inside of a cage of test_hosts_page.py, which unshare
+# has made: a machine of its own at 10.0.0.254, and the hosts h1, h2 and h3 at 10.0.0.1 to 10.0.0.3,
+# each with a network, a name, and folders /etc, /run and /var/lib/etcd of its own. FOLDER/h1/pid is
+# the process whose namespaces are h1. All of it ends with this script, ten minutes later.
 set -e
 folder=$1 tree=$2
 mount -t tmpfs none /run

@@ -1,4 +1,4 @@
-"""Tables of many reporters on an etcd with the limits that it has by itself: in several transactions."""
+"""Tables of many reporters on an etcd with its own limits: they go in several transactions."""
 
 import json
 import shutil
@@ -14,7 +14,7 @@ from bwe_control.values import posted_of, report_text
 
 REPORTERS, EACH = 400, 32
 ECHO = ROOT / "control/bench/echo_live"  # answers each demand as the limit
-OF_ETCD = ["--max-request-bytes=1572864", "--max-txn-ops=128"]  # as it has them where none are named
+OF_ETCD = ["--max-request-bytes=1572864", "--max-txn-ops=128"]  # as where none are named
 
 pytestmark = pytest.mark.skipif(shutil.which("etcd") is None, reason="there is no etcd")
 

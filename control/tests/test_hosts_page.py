@@ -1,9 +1,9 @@
 """The commands of docs/OPERATING.md for three hosts with etcd, run as they stand there.
 
 A host is a network, a name and some folders of its own, all in a cage that ends with the test. The
-operator's machine stands beside them. What the page asks a person to do, as copying certificates to
-the hosts, the test does; in place of systemd stands the script `systemctl` beside it, and the packages
-that `apt-get` is asked for have to be there.
+operator's machine stands beside them. What the page asks a person to do, as copying certificates
+to the hosts, the test does; in place of systemd stands the script `systemctl` beside it, and the
+packages that `apt-get` is asked for have to be there.
 """
 
 import os

@@ -191,7 +191,7 @@ def _sentence(fault: Any, endpoint: str) -> str:
 
 
 def _credentials(tls: Tls) -> Any:
-    """What gRPC takes of the three files; InputError where they are none, of which it says nothing."""
+    """The three files as gRPC takes them; InputError where they are none, as gRPC does not say."""
     try:
         ca, key, cert = (path.read_bytes() for path in (tls.ca, tls.key, tls.cert))
     except OSError as fault:
