@@ -10,7 +10,7 @@ ghost use Rattle.plan_doc.specs.Plans.{plan_in};
 ghost use Rattle.opened_document.specs.Refused.{document_reply};
 ghost use Rattle.line_answers.specs.Replies.{check_accepted, check_reply, verdict_status};
 
-use allocator::Allocator;
+use allocator::{Allocator, TreeValues};
 use bottleneck_cert::Verdict;
 use bwe_specs::{Closing, OutOfMemory};
 use demand_book::Maker;
@@ -38,20 +38,26 @@ fn check_document(alloc: Global, document: Document) -> Result<Answer, OutOfMemo
         document.closings.items) }
 {
     let opened = open_after_script(alloc, document)?;
-    check_opened(alloc, &opened)
+    check_opened(alloc, opened)
 }
 
 // The verdict on a document's closings, under the reports that its allocator has taken in.
-fn check_opened(alloc: Global, opened: &OpenedDocument) -> Result<Answer, OutOfMemory>
+fn check_opened(alloc: Global, opened: OpenedDocument) -> Result<Answer, OutOfMemory>
     ensures { IfOk result (λ answer. (script : List Report)
-        → ⟦<Allocator as Maker>⟧.absorbed opened.now.allocator script
-        → answer ≡ check_reply (texts_of opened.now.names)
-        (⟦<Allocator as Maker>⟧.plan opened.now.allocator) script opened.now.closings.items) }
+        → ⟦<Allocator as Maker>⟧.absorbed opened.allocator script
+        → answer ≡ check_reply (texts_of opened.names)
+        (⟦<Allocator as Maker>⟧.plan opened.allocator) script opened.closings.items) }
 {
-    let verdict = verdict_after(alloc, &opened.allocator, &opened.closings)?;
+    let OpenedDocument {
+        allocator,
+        names,
+        closings,
+        ..
+    } = opened;
+    let verdict = verdict_after(alloc, allocator, &closings)?;
     Ok(Answer {
         status: status_of(verdict),
-        text: check_text(alloc, &verdict, &opened.names)?,
+        text: check_text(alloc, &verdict, &names)?,
     })
 }
 
@@ -59,16 +65,18 @@ fn check_opened(alloc: Global, opened: &OpenedDocument) -> Result<Answer, OutOfM
 // allocator has taken in.
 fn verdict_after(
     alloc: Global,
-    allocator: &Allocator,
+    allocator: Allocator,
     closings: &[Closing],
 ) -> Result<Verdict, OutOfMemory>
     ensures { IfOk result (λ verdict. (script : List Report)
-        → ⟦<Allocator as Maker>⟧.absorbed allocator.now script
-        → verdict ≡ verdict_of (wan_after (⟦<Allocator as Maker>⟧.plan allocator.now) script)
+        → ⟦<Allocator as Maker>⟧.absorbed allocator script
+        → verdict ≡ verdict_of (wan_after (⟦<Allocator as Maker>⟧.plan allocator) script)
         closings.now) }
 {
-    let (values, plan) = (allocator.values(), allocator.plan());
-    bottleneck_cert::check(alloc, &values, allocator.topology(), plan, closings)
+    let (mut tree, topology, plan) = allocator.into_parts();
+    tree.rematch();
+    let values = TreeValues { tree: &tree };
+    bottleneck_cert::check(alloc, &values, &topology, &plan, closings)
 }
 
 // The exit status of a verdict.

@@ -38,20 +38,20 @@ fn document_levels(alloc: Global, share: u64, document: Document) -> Result<Answ
         (demand_after document.script.items) document.tree.clusters) }
 {
     let opened = open_after_script(alloc, document)?;
-    opened_levels(alloc, share, &opened)
+    opened_levels(alloc, share, opened)
 }
 
 // What each group may have at the share under the demands of the allocator's tree.
-fn opened_levels(alloc: Global, share: u64, opened: &OpenedDocument) -> Result<Answer, OutOfMemory>
+fn opened_levels(alloc: Global, share: u64, opened: OpenedDocument) -> Result<Answer, OutOfMemory>
     ensures { IfOk result (λ answer. answer
-        ≡ levels_reply share (texts_of opened.now.names) opened.now.allocator.reported.tree.top
-        (demand_in opened.now.allocator.reported.tree)
-        opened.now.allocator.reported.tree.clusters) }
+        ≡ levels_reply share (texts_of opened.names) opened.allocator.reported.tree.top
+        (demand_in opened.allocator.reported.tree)
+        opened.allocator.reported.tree.clusters) }
 {
-    let tree = opened.allocator.values().tree;
+    let (tree, names) = matched_tree(opened);
     let share = share.min(tree.top());
-    let values = values_in_turn(alloc, tree, share)?;
-    levels_answer(alloc, tree, share, &values, &opened.names)
+    let values = values_in_turn(alloc, &tree, share)?;
+    levels_answer(alloc, &tree, share, &values, &names)
 }
 
 /// The answer to its input, of values that are worked out on threads.
@@ -82,7 +82,7 @@ fn document_levels_on_threads<R: Threads + Sync>(
         (demand_after document.script.items) document.tree.clusters) }
 {
     let opened = open_after_script(alloc, document)?;
-    opened_levels_on_threads(rt, alloc, share, &opened)
+    opened_levels_on_threads(rt, alloc, share, opened)
 }
 
 // The same, by `values_at`.
@@ -90,17 +90,32 @@ fn opened_levels_on_threads<R: Threads + Sync>(
     rt: &R,
     alloc: Global,
     share: u64,
-    opened: &OpenedDocument,
+    opened: OpenedDocument,
 ) -> Result<Answer, OutOfMemory>
     ensures { IfOk result (λ answer. answer
-        ≡ levels_reply share (texts_of opened.now.names) opened.now.allocator.reported.tree.top
-        (demand_in opened.now.allocator.reported.tree)
-        opened.now.allocator.reported.tree.clusters) }
+        ≡ levels_reply share (texts_of opened.names) opened.allocator.reported.tree.top
+        (demand_in opened.allocator.reported.tree)
+        opened.allocator.reported.tree.clusters) }
 {
-    let tree = opened.allocator.values().tree;
+    let (tree, names) = matched_tree(opened);
     let share = share.min(tree.top());
-    let values = values_at(rt, alloc, tree, share)?;
-    levels_answer(alloc, tree, share, &values, &opened.names)
+    let values = values_at(rt, alloc, &tree, share)?;
+    levels_answer(alloc, &tree, share, &values, &names)
+}
+
+// The tree under the demands of the script, with cheap values, and the names.
+fn matched_tree(opened: OpenedDocument) -> (PolicyTree, Names)
+    ensures tree { result.0 ≡ opened.allocator.reported.tree }
+    ensures names { result.1 ≡ opened.names }
+{
+    let OpenedDocument {
+        allocator,
+        names,
+        ..
+    } = opened;
+    let (mut tree, _topology, _plan) = allocator.into_parts();
+    tree.rematch();
+    (tree, names)
 }
 
 // What each group may have at the share.

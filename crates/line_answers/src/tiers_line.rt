@@ -62,7 +62,8 @@ fn fill(alloc: Global, document: Document, tiers: &[u8]) -> Result<Answer, OutOf
         ..
     } = open_after_script(alloc, document)?;
     let prefix = allocator.prefix();
-    let (tree, topology, plan) = allocator.into_parts();
+    let (mut tree, topology, plan) = allocator.into_parts();
+    tree.rematch();
     let table = fill_tiers(alloc, &tree, topology, &plan, tiers, prefix)?;
     Ok(Answer {
         status: 0,

@@ -12,4 +12,4 @@ pub returns : goal.returns
 returns c = λ script after.
     let found = rw (c.deref.ensures.value) at c.in_ok-verdict.ensures in
     let judged = found script after in
-    ap₂ reply_parts (c.status_of.ensures ∙ ap verdict_status judged) (c.in_ok-check_text.ensures ∙ ap (verdict_line (texts_of c.args.opened.now.names)) judged)
+    ap₂ reply_parts (c.status_of.ensures ∙ ap verdict_status judged) (c.in_ok-check_text.ensures ∙ ap (verdict_line (texts_of c.args.opened.names)) judged)

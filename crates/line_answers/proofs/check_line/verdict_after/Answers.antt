@@ -6,7 +6,8 @@ use Rattle.line_answers.proofs.check_line.verdict_after.Goals as goal
 
 pub returns : goal.returns
 returns c =
-    let reported = c.args.allocator.now.reported in
-    let groups = c.args.allocator.now.groups in
-    let judged = rw (c.values-values.ensures, c.plan-plan.ensures.same, c.topology.ensures) at c.check.ensures.verdict in
+    let reported = c.args.allocator.reported in
+    let groups = c.args.allocator.groups in
+    let parts = c.into_parts-tree.ensures in
+    let judged = rw (c.rematch.ensures, parts.tree, parts.network, parts.plan) at c.check.ensures.verdict in
     IfOk-weaker c.check.result _ _ (λ found e. λ script after. e ∙ ap (λ wan. verdict wan c.args.closings.now) (wan-after reported groups script after)) judged

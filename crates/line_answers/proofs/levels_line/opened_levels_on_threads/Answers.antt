@@ -6,7 +6,9 @@ use Rattle.line_answers.proofs.levels_line.opened_levels_on_threads.Goals as goa
 
 pub returns : goal.returns
 returns g c =
-    let tree = c.values.result.tree.now in
+    let matched = c.matched_tree-tree.ensures in
+    let tree = c.matched_tree-tree.result.0 in
+    let answered = rw (matched.names) at c.levels_answer.ensures in
     let lesser = c.min-share.ensures ∙ ap (min c.args.share) c.top.ensures.top in
-    let same = levels-lesser c.args.share c.min-share.result (texts_of c.args.opened.now.names) tree c.args.opened.now.allocator.reported.tree lesser c.values.ensures in
-    IfOk-weaker c.levels_answer.result _ _ (λ answer is. is ∙ same) c.levels_answer.ensures
+    let same = levels-lesser c.args.share c.min-share.result (texts_of c.args.opened.names) tree c.args.opened.allocator.reported.tree lesser matched.tree in
+    IfOk-weaker c.levels_answer.result _ _ (λ answer is. is ∙ same) answered
