@@ -1,12 +1,11 @@
 -- The nodes of a tree as the code keeps them: with the demands inside, and without numbers.
-use Rattle.std.specs.Prelude.{ℕ, ◌≤◌, List, length, map, Option, Some, None, All, option_map, sum_by}
+use Rattle.std.specs.Prelude.{ℕ, ◌≤◌, List, length, map, Option, Some, None, All, sum_by}
 use Rattle.bwe_specs.specs.declared.limits.TheConstants.{MAX_TASKS}
 use Rattle.bwe_specs.specs.Distribution.{children_sum}
 use Rattle.bwe_specs.specs.Tree.{inner_share}
 use Rattle.bw_function.specs.BwFunction.{Function, IsBwFunction}
 use Rattle.capped_sum.specs.Index.{AreInRange}
 use Rattle.capped_sum.specs.CappedSum.{Tasks, tasks_value}
-use Rattle.share_transform.specs.Transform.{Transformation}
 
 -- a job: its configured function, its tasks' function, and its tasks
 pub record JobState : Type 0 where
@@ -20,10 +19,6 @@ pub record UserState : Type 0 where
 pub record ClusterState : Type 0 where
   pub configured : Option Function
   pub users : List UserState
-
--- the configured function of a transformation
-abbrev pub configured_by : Option Transformation → Option Function
-configured_by transform = option_map (λ transformation. transformation.parent) transform
 
 -- how many tasks a node has
 abbrev pub job_tasks : JobState → ℕ

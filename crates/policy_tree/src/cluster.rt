@@ -8,36 +8,37 @@ ghost use Rattle.policy_tree.specs.Asked.{HasUserWeights, HasClusterWeights, use
 ghost use Rattle.policy_tree.specs.Seen.{value_at};
 ghost use Rattle.policy_tree.specs.Changes.{job_at, user_at, cluster_with};
 
-use crate::job::transform_of;
 use crate::siblings::Siblings;
 use crate::spec::{ClusterSpec, UserSpec};
 use crate::user::UserNode;
-use crate::value::{add_bends_of, last_share_at, look_at, near_at, stretch_of, value_at};
+use crate::value::{
+    add_bends_of, last_share_at, look_at, near_at, stretch_of, value_at, what_holds,
+};
+use bw_function::BwFunction;
 use bwe_specs::{MAX_AMOUNT, MAX_TASKS, OutOfMemory};
 use function_sum::{Look, Outline, ShareFunction, Stretch};
-use share_transform::Transform;
 use std::alloc::Global;
 use std::marker::Model;
 
-/// A cluster: its users, and its configured function's transformation.
+/// A cluster: its users, and its configured function.
 #[derive(Drop)]
 pub struct ClusterNode {
-    transform: Option<Transform>,
+    function: Option<BwFunction>,
     users: Vec<UserNode>,
     outline: Outline,
 }
 
 impl Model for ClusterNode {
-    ghost use Rattle.policy_tree.specs.States.{ClusterState, IsClusterState, configured_by};
+    ghost use Rattle.policy_tree.specs.States.{ClusterState, IsClusterState};
 
     ghost Value = { ClusterState };
 
     ghost view = { λ cluster.
-        record { configured = configured_by cluster.transform; users = cluster.users.items } };
+        record { configured = cluster.function; users = cluster.users.items } };
 
     ghost invariant = { λ cluster.
         IsClusterState
-        (record { configured = configured_by cluster.transform; users = cluster.users.items }) };
+        (record { configured = cluster.function; users = cluster.users.items }) };
 }
 
 impl ClusterNode {
@@ -49,11 +50,11 @@ impl ClusterNode {
         ensures is { IfOk result IsClusterState }
     {
         let ClusterSpec { function, users } = spec;
-        let transform = transform_of(alloc, function)?;
+        what_holds(&function);
         let users = user_nodes(alloc, users)?;
         let outline = Outline::new(alloc, users.as_slice())?;
         Ok(ClusterNode {
-            transform,
+            function,
             users,
             outline,
         })
@@ -130,27 +131,27 @@ impl ShareFunction for ClusterNode {
     ghost meaning = { cluster_meaning };
 
     fn value(&self, share: u64) -> u64 {
-        value_at(&self.transform, &self.siblings(), share)
+        value_at(&self.function, &self.siblings(), share)
     }
 
     fn look(&self, share: u64) -> Look {
-        look_at(&self.transform, &self.siblings(), share)
+        look_at(&self.function, &self.siblings(), share)
     }
 
     fn last_share_within(&self, amount: u64, top: u64) -> Option<u64> {
-        last_share_at(&self.transform, &self.siblings(), amount, top)
+        last_share_at(&self.function, &self.siblings(), amount, top)
     }
 
     fn near(&self, share: u64) -> u64 {
-        near_at(&self.transform, &self.siblings(), share)
+        near_at(&self.function, &self.siblings(), share)
     }
 
     fn add_bends(&self, outline: &mut Outline) {
-        add_bends_of(&self.transform, &self.siblings(), outline);
+        add_bends_of(&self.function, &self.siblings(), outline);
     }
 
     fn stretch(&self, amount: u64) -> Option<Stretch> {
-        stretch_of(&self.transform, &self.siblings(), amount)
+        stretch_of(&self.function, &self.siblings(), amount)
     }
 }
 

@@ -3,37 +3,38 @@
 ghost use Rattle.std.specs.Prelude.{◌≡◌, ℕ, ◌<◌, ◌≤◌, length, IfOk, OnOk, OnErr};
 ghost use Rattle.capped_sum.specs.Index.{AreInRange};
 ghost use Rattle.capped_sum.specs.CappedSum.{task_at};
-ghost use Rattle.policy_tree.specs.States.{job_meaning, job_tasks, configured_by, IsKeptFunction, IsJobState};
+ghost use Rattle.policy_tree.specs.States.{job_meaning, job_tasks, IsJobState};
 ghost use Rattle.policy_tree.specs.Asked.{AreWeights, idle_job};
 ghost use Rattle.policy_tree.specs.Changes.{job_with};
 ghost use Rattle.policy_tree.specs.Seen.{value_at};
 
 use crate::spec::JobSpec;
-use crate::value::{add_bends_of, last_share_at, look_at, near_at, stretch_of, value_at};
+use crate::value::{
+    add_bends_of, last_share_at, look_at, near_at, stretch_of, value_at, what_holds,
+};
 use bw_function::BwFunction;
 use bwe_specs::{MAX_AMOUNT, MAX_TASKS, OutOfMemory};
 use capped_sum::CappedSum;
 use function_sum::{Look, Outline, ShareFunction, Stretch};
-use share_transform::Transform;
 use std::alloc::Global;
 use std::marker::Model;
 
-/// A job: the sum of its tasks, and its configured function's transformation.
+/// A job: the sum of its tasks, and its configured function.
 #[derive(Drop)]
 pub struct JobNode {
-    transform: Option<Transform>,
+    function: Option<BwFunction>,
     sum: CappedSum,
 }
 
 impl Model for JobNode {
-    ghost use Rattle.policy_tree.specs.States.{JobState, IsJobState, configured_by};
+    ghost use Rattle.policy_tree.specs.States.{JobState, IsJobState};
 
     ghost Value = { JobState };
 
-    ghost view = { λ job. record { configured = configured_by job.transform; sum = job.sum } };
+    ghost view = { λ job. record { configured = job.function; sum = job.sum } };
 
     ghost invariant = { λ job.
-        IsJobState (record { configured = configured_by job.transform; sum = job.sum }) };
+        IsJobState (record { configured = job.function; sum = job.sum }) };
 }
 
 impl JobNode {
@@ -50,9 +51,9 @@ impl JobNode {
             weights,
         } = spec;
         task.what_holds();
-        let transform = transform_of(alloc, function)?;
+        what_holds(&function);
         let sum = CappedSum::new(alloc, task, weights.as_slice())?;
-        Ok(JobNode { transform, sum })
+        Ok(JobNode { function, sum })
     }
 
     /// The sum of the tasks' values, with their weights and demands.
@@ -98,9 +99,7 @@ impl JobNode {
         most.min(self.sum.demand(task) as u128) as u64
     }
 
-    /// Makes the value cheap again.
-    ///
-    /// Over a fresh index the sum tells each inner share itself, so no pair is looked up.
+    /// Makes the value cheap again: over a fresh index the sum tells each inner share itself.
     pub(crate) fn rematch(&mut self)
         ensures { self.new ≡ self.old }
     {
@@ -112,43 +111,26 @@ impl ShareFunction for JobNode {
     ghost meaning = { job_meaning };
 
     fn value(&self, share: u64) -> u64 {
-        value_at(&self.transform, &self.sum, share)
+        value_at(&self.function, &self.sum, share)
     }
 
     fn look(&self, share: u64) -> Look {
-        look_at(&self.transform, &self.sum, share)
+        look_at(&self.function, &self.sum, share)
     }
 
     fn last_share_within(&self, amount: u64, top: u64) -> Option<u64> {
-        last_share_at(&self.transform, &self.sum, amount, top)
+        last_share_at(&self.function, &self.sum, amount, top)
     }
 
     fn near(&self, share: u64) -> u64 {
-        near_at(&self.transform, &self.sum, share)
+        near_at(&self.function, &self.sum, share)
     }
 
     fn add_bends(&self, outline: &mut Outline) {
-        add_bends_of(&self.transform, &self.sum, outline);
+        add_bends_of(&self.function, &self.sum, outline);
     }
 
     fn stretch(&self, amount: u64) -> Option<Stretch> {
-        stretch_of(&self.transform, &self.sum, amount)
-    }
-}
-
-/// The transformation of a configured function.
-pub(crate) fn transform_of(
-    alloc: Global,
-    function: Option<BwFunction>,
-) -> Result<Option<Transform>, OutOfMemory>
-    ensures same { IfOk result (λ transform. configured_by transform ≡ function) }
-    ensures kept { IfOk result (λ transform. IsKeptFunction (configured_by transform)) }
-{
-    match function {
-        None => Ok(None),
-        Some(function) => {
-            let top = function.top();
-            Ok(Some(Transform::new(alloc, function, top)?))
-        }
+        stretch_of(&self.function, &self.sum, amount)
     }
 }

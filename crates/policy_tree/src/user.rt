@@ -8,35 +8,37 @@ ghost use Rattle.policy_tree.specs.Asked.{HasJobWeights, HasUserWeights, job_wei
 ghost use Rattle.policy_tree.specs.Seen.{value_at};
 ghost use Rattle.policy_tree.specs.Changes.{job_at, user_with};
 
-use crate::job::{JobNode, transform_of};
+use crate::job::JobNode;
 use crate::siblings::Siblings;
 use crate::spec::{JobSpec, UserSpec};
-use crate::value::{add_bends_of, last_share_at, look_at, near_at, stretch_of, value_at};
+use crate::value::{
+    add_bends_of, last_share_at, look_at, near_at, stretch_of, value_at, what_holds,
+};
+use bw_function::BwFunction;
 use bwe_specs::{MAX_AMOUNT, MAX_TASKS, OutOfMemory};
 use function_sum::{Look, Outline, ShareFunction, Stretch};
-use share_transform::Transform;
 use std::alloc::Global;
 use std::marker::Model;
 
-/// A user: its jobs, and its configured function's transformation.
+/// A user: its jobs, and its configured function.
 #[derive(Drop)]
 pub struct UserNode {
-    transform: Option<Transform>,
+    function: Option<BwFunction>,
     jobs: Vec<JobNode>,
     outline: Outline,
 }
 
 impl Model for UserNode {
-    ghost use Rattle.policy_tree.specs.States.{UserState, IsUserState, configured_by};
+    ghost use Rattle.policy_tree.specs.States.{UserState, IsUserState};
 
     ghost Value = { UserState };
 
     ghost view = { λ user.
-        record { configured = configured_by user.transform; jobs = user.jobs.items } };
+        record { configured = user.function; jobs = user.jobs.items } };
 
     ghost invariant = { λ user.
         IsUserState
-        (record { configured = configured_by user.transform; jobs = user.jobs.items }) };
+        (record { configured = user.function; jobs = user.jobs.items }) };
 }
 
 impl UserNode {
@@ -48,11 +50,11 @@ impl UserNode {
         ensures is { IfOk result IsUserState }
     {
         let UserSpec { function, jobs } = spec;
-        let transform = transform_of(alloc, function)?;
+        what_holds(&function);
         let jobs = job_nodes(alloc, jobs)?;
         let outline = Outline::new(alloc, jobs.as_slice())?;
         Ok(UserNode {
-            transform,
+            function,
             jobs,
             outline,
         })
@@ -119,27 +121,27 @@ impl ShareFunction for UserNode {
     ghost meaning = { user_meaning };
 
     fn value(&self, share: u64) -> u64 {
-        value_at(&self.transform, &self.siblings(), share)
+        value_at(&self.function, &self.siblings(), share)
     }
 
     fn look(&self, share: u64) -> Look {
-        look_at(&self.transform, &self.siblings(), share)
+        look_at(&self.function, &self.siblings(), share)
     }
 
     fn last_share_within(&self, amount: u64, top: u64) -> Option<u64> {
-        last_share_at(&self.transform, &self.siblings(), amount, top)
+        last_share_at(&self.function, &self.siblings(), amount, top)
     }
 
     fn near(&self, share: u64) -> u64 {
-        near_at(&self.transform, &self.siblings(), share)
+        near_at(&self.function, &self.siblings(), share)
     }
 
     fn add_bends(&self, outline: &mut Outline) {
-        add_bends_of(&self.transform, &self.siblings(), outline);
+        add_bends_of(&self.function, &self.siblings(), outline);
     }
 
     fn stretch(&self, amount: u64) -> Option<Stretch> {
-        stretch_of(&self.transform, &self.siblings(), amount)
+        stretch_of(&self.function, &self.siblings(), amount)
     }
 }
 

@@ -3,8 +3,7 @@ use Rattle.std.proofs.Math.Path.{fun_ext}
 use Rattle.bwe_specs.specs.Bounded.{greatest_upto}
 use Rattle.bwe_specs.specs.Tree.{inner_share}
 use Rattle.bw_function.specs.BwFunction.{Function}
-use Rattle.share_transform.specs.Transform.{Transformation}
-use Rattle.policy_tree.specs.States.{transformed, configured_by}
+use Rattle.policy_tree.specs.States.{transformed}
 use Rattle.policy_tree.proofs.Transforms.{transformed-meaning, transformed-none, transformed-some}
 use Rattle.policy_tree.proofs.Inverses.{if-some-same}
 use Rattle.policy_tree.proofs.value.last_share_at.Goals as goal
@@ -17,8 +16,8 @@ pub returns-in-None-clause-last : goal.returns-in-None-clause-last
 returns-in-None-clause-last g c =
     let meaning = g.P.ShareFunction.meaning c.args.sum.now in
     if-some-same c.last_share_within.result _ _
-    (same_last c.args.top c.args.amount meaning (transformed (configured_by c.args.transform.now) meaning)
-    (λ share. sym (transformed-none meaning share) ∙ ap (λ (t : Option Transformation). transformed (configured_by t) meaning share) (sym c.in-None.is)))
+    (same_last c.args.top c.args.amount meaning (transformed c.args.function.now meaning)
+    (λ share. sym (transformed-none meaning share) ∙ ap (λ (t : Option Function). transformed t meaning share) (sym c.in-None.is)))
     c.last_share_within.ensures.last
 
 pub returns-in-None-clause-meaning : goal.returns-in-None-clause-meaning
@@ -27,12 +26,11 @@ returns-in-None-clause-meaning g c = transformed-meaning _ _ c.requires c.last_s
 pub returns-in-Some-clause-last : goal.returns-in-Some-clause-last
 returns-in-Some-clause-last g c =
     let meaning = g.P.ShareFunction.meaning c.args.sum.now in
-    let parent = c.in-Some.transform.parent in
+    let parent = c.in-Some.parent in
     if-some-same c.last_by_parent.result _ _
-    (same_last c.args.top c.args.amount (λ share. meaning (inner_share c.parent.result.now.top c.parent.result.now.points meaning share)) (transformed (configured_by c.args.transform.now) meaning)
+    (same_last c.args.top c.args.amount (λ share. meaning (inner_share parent.top parent.points meaning share)) (transformed c.args.function.now meaning)
     (λ share.
-    ap (λ (function : Function). meaning (inner_share function.top function.points meaning share)) c.parent.ensures
-    ∙ sym (transformed-some parent meaning share) ∙ ap (λ (t : Option Transformation). transformed (configured_by t) meaning share) (sym c.in-Some.is)))
+    sym (transformed-some parent meaning share) ∙ ap (λ (t : Option Function). transformed t meaning share) (sym c.in-Some.is)))
     c.last_by_parent.ensures.last
 
 pub returns-in-Some-clause-meaning : goal.returns-in-Some-clause-meaning

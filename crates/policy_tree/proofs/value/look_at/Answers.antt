@@ -1,6 +1,6 @@
 use Rattle.std.proofs.Common.{◌∙◌, ap, sym, Option}
-use Rattle.share_transform.specs.Transform.{Transformation}
-use Rattle.policy_tree.specs.States.{transformed, configured_by}
+use Rattle.bw_function.specs.BwFunction.{Function}
+use Rattle.policy_tree.specs.States.{transformed}
 use Rattle.policy_tree.proofs.Transforms.{transformed-meaning, transformed-none}
 use Rattle.policy_tree.proofs.value.look_at.Goals as goal
 
@@ -9,7 +9,7 @@ returns-in-None-clause-value g c =
     let meaning = g.P.ShareFunction.meaning c.args.sum.now in
     c.look.ensures.value
     ∙ sym (transformed-none meaning c.args.share)
-    ∙ ap (λ (t : Option Transformation). transformed (configured_by t) meaning c.args.share) (sym c.in-None.is)
+    ∙ ap (λ (t : Option Function). transformed t meaning c.args.share) (sym c.in-None.is)
 
 pub returns-in-None-clause-meaning : goal.returns-in-None-clause-meaning
 returns-in-None-clause-meaning g c = transformed-meaning _ _ c.requires c.look.ensures.meaning
@@ -17,7 +17,7 @@ returns-in-None-clause-meaning g c = transformed-meaning _ _ c.requires c.look.e
 pub returns-in-Some-clause-value : goal.returns-in-Some-clause-value
 returns-in-Some-clause-value g c =
     let meaning = g.P.ShareFunction.meaning c.args.sum.now in
-    c.transformed_look.ensures.value ∙ ap (λ (t : Option Transformation). transformed (configured_by t) meaning c.args.share) (sym c.in-Some.is)
+    c.look_by_parent.ensures.value ∙ ap (λ (t : Option Function). transformed t meaning c.args.share) (sym c.in-Some.is)
 
 pub returns-in-Some-clause-meaning : goal.returns-in-Some-clause-meaning
-returns-in-Some-clause-meaning g c = transformed-meaning _ _ c.requires c.transformed_look.ensures.meaning
+returns-in-Some-clause-meaning g c = transformed-meaning _ _ c.requires c.look_by_parent.ensures.meaning

@@ -1,8 +1,6 @@
 use Rattle.std.proofs.Common.{◌∙◌, ap, sym, Option}
-use Rattle.bwe_specs.specs.Tree.{inner_share}
 use Rattle.bw_function.specs.BwFunction.{Function}
-use Rattle.share_transform.specs.Transform.{Transformation}
-use Rattle.policy_tree.specs.States.{transformed, configured_by}
+use Rattle.policy_tree.specs.States.{transformed}
 use Rattle.policy_tree.proofs.Transforms.{transformed-meaning, transformed-none, transformed-some}
 use Rattle.policy_tree.proofs.value.value_at.Goals as goal
 
@@ -11,7 +9,7 @@ returns-in-None-clause-value g c =
     let meaning = g.P.ShareFunction.meaning c.args.sum.now in
     c.value.ensures.value
     ∙ sym (transformed-none meaning c.args.share)
-    ∙ ap (λ (t : Option Transformation). transformed (configured_by t) meaning c.args.share) (sym c.in-None.is)
+    ∙ ap (λ (t : Option Function). transformed t meaning c.args.share) (sym c.in-None.is)
 
 pub returns-in-None-clause-meaning : goal.returns-in-None-clause-meaning
 returns-in-None-clause-meaning g c = transformed-meaning _ _ c.requires c.value.ensures.meaning
@@ -20,9 +18,8 @@ pub returns-in-Some-clause-value : goal.returns-in-Some-clause-value
 returns-in-Some-clause-value g c =
     let meaning = g.P.ShareFunction.meaning c.args.sum.now in
     c.value_by_parent.ensures.value
-    ∙ ap (λ (function : Function). meaning (inner_share function.top function.points meaning c.args.share)) c.parent.ensures
-    ∙ sym (transformed-some c.in-Some.transform.parent meaning c.args.share)
-    ∙ ap (λ (t : Option Transformation). transformed (configured_by t) meaning c.args.share) (sym c.in-Some.is)
+    ∙ sym (transformed-some c.in-Some.parent meaning c.args.share)
+    ∙ ap (λ (t : Option Function). transformed t meaning c.args.share) (sym c.in-Some.is)
 
 pub returns-in-Some-clause-meaning : goal.returns-in-Some-clause-meaning
 returns-in-Some-clause-meaning g c = transformed-meaning _ _ c.requires c.value_by_parent.ensures.meaning

@@ -1,13 +1,9 @@
 use Rattle.std.proofs.Common.{◌∙◌, ap}
 use Rattle.share_transform.specs.Transform.{Transformation, inner_share_of}
-use Rattle.share_transform.proofs.Meets.{inner_share-met}
 use Rattle.share_transform.proofs.transform.Transform.look.Goals as goal
 
 pub returns-clause-value : goal.returns-clause-value
 returns-clause-value g c =
     let sum = g.P.ShareFunction.meaning c.args.sum.now in
-    let met = c.ends_at-met in
-    c.look_from.ensures
-    ∙ met.ensures.value
-    ∙ ap sum (inner_share-met c.self.inside.parent sum c.args.share c.top.result c.value.result met.result.low met.ensures.meets c.value.ensures.value c.top.ensures.top)
+    c.look_by.ensures.value
     ∙ ap (λ (transformation : Transformation). sum (inner_share_of transformation.parent sum c.args.share)) c.self.view_is
