@@ -2,8 +2,8 @@
 //!
 //! A search over shares asks for one group's value at the same share for link after link.
 //! `KeptValues` stands between it and the values: it answers what they answer, and asks them for no
-//! value that it has. The closings of a check and the fillings of tiers go through it. Memory that
-//! is wanting for what is kept is no error. Nothing is promised of time.
+//! value that it has. The closings of a check and the fillings of tiers go through it. Out of
+//! memory, it keeps less, and answers the same. Nothing is promised of time.
 #![tactic(auto)]
 
 ghost use Rattle.std.specs.Prelude.{◌≡◌, ℕ, IfOk, IfSome};
