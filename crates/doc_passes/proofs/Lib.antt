@@ -1,6 +1,7 @@
 pub mod Loops
 pub mod Folds
 pub mod NameTables
+pub mod NamesInParts
 pub mod Readings
 pub mod RangeFacts
 pub mod NameFacts

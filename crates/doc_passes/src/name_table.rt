@@ -35,6 +35,12 @@ impl<'a> NameTable<'a> {
         }
     }
 
+    pub fn is_empty(&self) -> bool
+        ensures { IsTrue result → self.now ≡ [] }
+    {
+        self.names.as_slice().is_empty()
+    }
+
     /// Adds a name at the end, or answers a fault here where it stood before. Takes about the time
     /// of one hash.
     pub fn add(&mut self, alloc: Global, name: &'a str) -> Result<(), Fault>

@@ -6,6 +6,7 @@ ghost use Rattle.raw_document.specs.Raw.{name_view, link_view, task_view, job_vi
 ghost use Rattle.doc_passes.specs.Names as names;
 ghost use Rattle.raw_document.specs.declared.key.DocKey.TheVariants as keys;
 
+use crate::few_names::FewNames;
 use crate::name_table::NameTable;
 use raw_document::{
     DocKey, Fault, PathStep, RawDocument, RawGroup, RawJob, RawLink, RawTask, RawUser, under,
@@ -74,7 +75,7 @@ fn add_tasks<'a>(
 fn add_job<'a>(
     alloc: Global,
     job: &RawJob<'a>,
-    table: &mut NameTable<'a>,
+    table: &mut FewNames<'a>,
     tasks: &mut NameTable<'a>,
 ) -> Result<(), Fault>
     ensures { Gives (λ _. (table.new, tasks.new)) result
@@ -95,7 +96,7 @@ fn add_job<'a>(
 fn add_jobs<'a>(
     alloc: Global,
     jobs: &[RawJob<'a>],
-    table: &mut NameTable<'a>,
+    table: &mut FewNames<'a>,
     tasks: &mut NameTable<'a>,
 ) -> Result<(), Fault>
     ensures { Gives (λ _. (table.new, tasks.new)) result
@@ -116,7 +117,7 @@ fn add_jobs<'a>(
 fn add_user<'a>(
     alloc: Global,
     user: &RawUser<'a>,
-    table: &mut NameTable<'a>,
+    table: &mut FewNames<'a>,
     tasks: &mut NameTable<'a>,
 ) -> Result<(), Fault>
     ensures { Gives (λ _. (table.new, tasks.new)) result
@@ -126,7 +127,7 @@ fn add_user<'a>(
         PathStep::Key { name: DocKey::Name },
         table.add(alloc, user.name),
     )?;
-    let mut jobs = NameTable::new(alloc);
+    let mut jobs = FewNames::new(alloc);
     under(
         PathStep::Key { name: DocKey::Jobs },
         add_jobs(alloc, &user.jobs, &mut jobs, tasks),
@@ -136,7 +137,7 @@ fn add_user<'a>(
 fn add_users<'a>(
     alloc: Global,
     users: &[RawUser<'a>],
-    table: &mut NameTable<'a>,
+    table: &mut FewNames<'a>,
     tasks: &mut NameTable<'a>,
 ) -> Result<(), Fault>
     ensures { Gives (λ _. (table.new, tasks.new)) result
@@ -167,7 +168,7 @@ fn add_group<'a>(
         PathStep::Key { name: DocKey::Name },
         table.add(alloc, group.name),
     )?;
-    let mut users = NameTable::new(alloc);
+    let mut users = FewNames::new(alloc);
     under(
         PathStep::Key {
             name: DocKey::Users,
