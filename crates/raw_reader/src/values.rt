@@ -1,12 +1,12 @@
 //! Single tokens.
 
-ghost use Rattle.std.specs.Prelude.{◌≡◌, ◌==◌, false, slice_index, ◌<◌, ℕ, List, ◌∷◌, Some, IfSome, OnSome, IsTrue};
+ghost use Rattle.std.specs.Prelude.{◌≡◌, ◌==◌, slice_index, ◌<◌, ℕ, List, ◌∷◌, Some, IfSome, OnSome, IsTrue};
 ghost use Rattle.json.specs.Token.{begin_array, begin_object, string, number as number_token};
 ghost use Rattle.serde_json.specs.Data.{unsigned};
-ghost use Rattle.serde_json.specs.Read.{number_of, number_from};
+ghost use Rattle.serde_json.specs.Read.{number_of};
 ghost use Rattle.raw_document.specs.Words.{word};
 
-use fast_float::Numeral;
+use fast_float::parse_u64;
 use json::{Reader, Token};
 use raw_document::DocKey;
 
@@ -63,20 +63,18 @@ fn whole(digits: &str) -> Option<u64>
     ensures { IfSome result (λ n. number_of digits.now ≡ Some (unsigned n)) }
 {
     let bytes = digits.as_bytes();
-    if has_minus(bytes) {
+    if has_plus(bytes) {
         return None;
     }
-    without_sign(&Numeral::scan(bytes))
+    match parse_u64(bytes) {
+        Ok(number) => Some(number),
+        Err(_) => None,
+    }
 }
 
-fn has_minus(bytes: &[u8]) -> bool
-    ensures { result ≡ (slice_index bytes.now 0 == 45) }
+// No number begins with a plus, which `parse_u64` lets pass.
+fn has_plus(bytes: &[u8]) -> bool
+    ensures { result ≡ (slice_index bytes.now 0 == 43) }
 {
-    !bytes.is_empty() && bytes[0] == b'-'
-}
-
-fn without_sign(numeral: &Numeral<'_>) -> Option<u64>
-    ensures { IfSome result (λ n. number_from false numeral.now ≡ Some (unsigned n)) }
-{
-    numeral.to_u64()
+    !bytes.is_empty() && bytes[0] == b'+'
 }

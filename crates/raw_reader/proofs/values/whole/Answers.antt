@@ -1,20 +1,16 @@
-use Rattle.std.proofs.Common.{◌≡◌, ◌==◌, ℕ, List, get_or, false, Option, Some, None, sym, ap, ◌∙◌}
-use Rattle.std.specs.Prelude.{IfSome}
-use Rattle.fast_float.specs.Text.{scan}
+use Rattle.std.proofs.Common.{◌≡◌, ◌==◌, ℕ, ◌^◌, ◌<◌, List, get_or, drop, cond, false, Some, sym, ap, ◌∙◌}
+use Rattle.std.specs.Str.Parse.{IsNumeral, digits_value, without_leading_plus}
 use Rattle.serde_json.specs.Data.{unsigned}
-use Rattle.serde_json.specs.Read.{number_of, number_from}
+use Rattle.serde_json.specs.Read.{number_of}
+use Rattle.raw_reader.proofs.Digits.{number_of-digits}
 use Rattle.raw_reader.proofs.values.whole.Goals as goal
 
-carried : (s text : List ℕ) (r : Option ℕ) → number_from false (scan s) ≡ number_of text → IfSome r (λ n. number_from false (scan s) ≡ Some (unsigned n)) → IfSome r (λ n. number_of text ≡ Some (unsigned n))
-carried s text None e h = tt
-carried s text (Some n) e h = sym e ∙ h
+read : (text s : List ℕ) (n : ℕ) → s ≡ text → (IsNumeral 10 s × (digits_value 10 s < 2 ^ 64)) × (n ≡ digits_value 10 s) → number_of text ≡ Some (unsigned n)
+read text s n same given = ap number_of (sym same) ∙ number_of-digits s given.0.0 given.0.1 ∙ ap (λ n. Some (unsigned n)) (sym given.1)
 
-pub returns : goal.returns
-unfolding number_of
-returns c =
-    let s = c.as_bytes-bytes.result.now in
-    let unsigned : (get_or s 0 0 == 45) ≡ false = sym c.if-has_minus.ensures in
-    let plain : number_from false (scan s) ≡ number_of s = rw unsigned in
-    let parts : c.scan.result ≡ scan s = c.scan.ensures.parts in
-    let read : number_from false (scan s) ≡ number_of c.args.digits.now = plain ∙ ap number_of c.as_bytes-bytes.ensures.value in
-    carried s c.args.digits.now c.without_sign.result read (rw parts at c.without_sign.ensures)
+pub returns-in-Ok : goal.returns-in-Ok
+returns-in-Ok c =
+    let bytes = c.as_bytes-bytes.result.now in
+    let plain : (get_or bytes 0 0 == 43) ≡ false = sym c.if-has_plus.ensures in
+    let same : without_leading_plus bytes ≡ bytes = ap (λ b. drop (cond b 1 0) bytes) plain in
+    read c.args.digits.now (without_leading_plus bytes) c.in-Ok.number (same ∙ c.as_bytes-bytes.ensures.value) c.in-Ok.ensures
