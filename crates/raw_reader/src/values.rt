@@ -6,9 +6,9 @@ ghost use Rattle.serde_json.specs.Data.{unsigned};
 ghost use Rattle.serde_json.specs.Read.{number_of};
 ghost use Rattle.raw_document.specs.Words.{word};
 
-use fast_float::parse_u64;
 use json::{Reader, Token};
 use raw_document::DocKey;
+use version_scan::whole_number;
 
 /// Whether this is the key.
 pub fn is(text: &str, key: DocKey) -> bool
@@ -53,28 +53,7 @@ pub fn number(reader: &mut Reader<'_>) -> Option<u64>
         × (number_of s ≡ Some (unsigned n))) }
 {
     match reader.next()? {
-        Token::Number(digits) => whole(digits),
+        Token::Number(digits) => whole_number(digits),
         _ => None,
     }
-}
-
-// The number that a token's text writes.
-fn whole(digits: &str) -> Option<u64>
-    ensures { IfSome result (λ n. number_of digits.now ≡ Some (unsigned n)) }
-{
-    let bytes = digits.as_bytes();
-    if has_plus(bytes) {
-        return None;
-    }
-    match parse_u64(bytes) {
-        Ok(number) => Some(number),
-        Err(_) => None,
-    }
-}
-
-// No number begins with a plus, which `parse_u64` lets pass.
-fn has_plus(bytes: &[u8]) -> bool
-    ensures { result ≡ (slice_index bytes.now 0 == 43) }
-{
-    !bytes.is_empty() && bytes[0] == b'+'
 }

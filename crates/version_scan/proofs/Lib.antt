@@ -1,3 +1,4 @@
+pub mod Digits
 pub mod Loops
 pub mod Named
 pub mod Reading

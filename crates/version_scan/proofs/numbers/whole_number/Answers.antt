@@ -2,8 +2,8 @@ use Rattle.std.proofs.Common.{◌≡◌, ◌==◌, ℕ, ◌^◌, ◌<◌, List, 
 use Rattle.std.specs.Str.Parse.{IsNumeral, digits_value, without_leading_plus}
 use Rattle.serde_json.specs.Data.{unsigned}
 use Rattle.serde_json.specs.Read.{number_of}
-use Rattle.raw_reader.proofs.Digits.{number_of-digits}
-use Rattle.raw_reader.proofs.values.whole.Goals as goal
+use Rattle.version_scan.proofs.Digits.{number_of-digits}
+use Rattle.version_scan.proofs.numbers.whole_number.Goals as goal
 
 read : (text s : List ℕ) (n : ℕ) → s ≡ text → (IsNumeral 10 s × (digits_value 10 s < 2 ^ 64)) × (n ≡ digits_value 10 s) → number_of text ≡ Some (unsigned n)
 read text s n same given = ap number_of (sym same) ∙ number_of-digits s given.0.0 given.0.1 ∙ ap (λ n. Some (unsigned n)) (sym given.1)
