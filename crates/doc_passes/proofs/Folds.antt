@@ -1,6 +1,6 @@
 -- A loop that takes a state from item to item.
 use Rattle.std.proofs.Common.{◌≡◌, ℕ, ◌+◌, ◌<◌, ◌≤◌, List, [], length, drop, map, get_or, Result, Ok, Err, sym, ap, ◌∙◌, add-one}
-use Rattle.std.proofs.lemmas.List.{drop_all, get_or_default}
+use Rattle.std.proofs.lemmas.List.{drop_all}
 use Rattle.raw_document.specs.declared.doc_path.PathStep.{PathStep}
 use Rattle.raw_document.specs.declared.doc_path.PathStep.TheVariants.{Index}
 use Rattle.raw_document.specs.declared.doc_path.Fault.{Fault}
@@ -28,10 +28,3 @@ module _ {V A S : Type 0} (view_of : V → A) (step : S → A → Result S (List
 
   pub fold_whole : (vs : List V) (i : ℕ) (s : S) (whole : Result S (List PathStep)) → length vs ≤ i → fold_each step i s (map view_of (drop i vs)) ≡ whole → whole ≡ Ok s
   fold_whole vs i s whole past before = sym before ∙ fold_of_none (drop i vs) i s (drop_all i vs past)
-
-  -- the same, where the item was read with a default
-  pub fold_later_at : (vs : List V) (i : ℕ) (d : V) (s t : S) (whole : Result S (List PathStep)) → step s (view_of (get_or vs i d)) ≡ Ok t → i < length vs → fold_each step i s (map view_of (drop i vs)) ≡ whole → fold_each step (i + 1) t (map view_of (drop (i + 1) vs)) ≡ whole
-  fold_later_at vs i d s t whole gives within before = fold_later vs i (get_or vs i d) s t whole within (get_or_default vs i d (get_or vs i d) within) gives before
-
-  pub fold_fails_at : (vs : List V) (i : ℕ) (d : V) (s : S) (inner fault : Fault) (whole : Result S (List PathStep)) → Fails inner (step s (view_of (get_or vs i d))) → i < length vs → IsFaultUnder (Index i) inner fault → fold_each step i s (map view_of (drop i vs)) ≡ whole → Fails fault whole
-  fold_fails_at vs i d s inner fault whole fails within is_under before = fold_fails vs i (get_or vs i d) s inner fault whole within (get_or_default vs i d (get_or vs i d) within) fails is_under before

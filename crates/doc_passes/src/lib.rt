@@ -15,6 +15,7 @@ mod numbered;
 mod numbers;
 mod range;
 mod repeats;
+mod walk;
 
 pub use limit::{Overrun, What, find_overrun};
 pub use name_table::NameTable;

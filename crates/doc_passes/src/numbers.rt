@@ -1,7 +1,7 @@
 //! The document with numbers in place of the names that refer to others.
 
 ghost use Rattle.std.specs.Prelude.{◌≡◌, map};
-ghost use Rattle.raw_document.specs.Reading.{Gives, each_view, under, each, fold_each};
+ghost use Rattle.raw_document.specs.Reading.{Gives, each_view, under, each};
 ghost use Rattle.raw_document.specs.Raw as raw;
 ghost use Rattle.bwe_specs.specs.Paths as paths;
 ghost use Rattle.bwe_specs.specs.declared.network.Closing.{Closing};
@@ -15,6 +15,7 @@ ghost use Rattle.doc_passes.specs.NumbersView.{numbers_view};
 
 use crate::name_table::NameTable;
 use crate::numbered::{Numbered, each_numbers};
+use crate::walk::{Walked, walk_member};
 use bwe_specs::{Closing, Report, Target};
 use path_groups::{GroupSpec, PathSpec};
 use raw_document::{
@@ -171,178 +172,128 @@ fn path_groups_numbers(
     )
 }
 
-#[tactic(auto, unfolding(crate::specs::Numbers::add_task_owner))]
-fn add_task_owner(
-    alloc: Global,
-    task: &RawTask,
-    reporters: &NameTable,
-    owners: &mut Vec<u32>,
-) -> Result<(), Fault>
-    ensures { Gives (λ _. owners.new.items) result
-        (spec.add_task_owner reporters.now owners.old.items (task_view task.now)) }
-{
-    // The tasks of a job mostly have one owner.
-    let guess = owners.last().copied().unwrap_or(0);
-    let owner = reporter_near(alloc, reporters, task.reporter, guess)?;
-    owners.push(owner)?;
-    Ok(())
-}
+impl<'a, 'b> Walked<NameTable<'b>, Vec<u32>, ()> for RawTask<'a> {
+    ghost use Rattle.std.specs.Prelude.{ℕ, List};
 
-fn add_tasks_owners(
-    alloc: Global,
-    tasks: &[RawTask],
-    reporters: &NameTable,
-    owners: &mut Vec<u32>,
-) -> Result<(), Fault>
-    ensures { Gives (λ _. owners.new.items) result
-        (fold_each (spec.add_task_owner reporters.now) 0 owners.old.items
-        (map task_view tasks.now)) }
-{
-    for (place, task) in tasks.iter().enumerate() {
-        match add_task_owner(alloc, task, reporters, owners) {
-            Ok(()) => (),
-            Err(fault) => {
-                return Err(fault.under(PathStep::Index {
-                    place: place as u64,
-                }));
-            }
-        }
+    ghost Shown = { raw.Task };
+
+    ghost shown = { task_view };
+
+    ghost State = { List ℕ };
+
+    ghost state = { λ owners _. owners.items };
+
+    ghost after = { spec.add_task_owner };
+
+    #[tactic(auto, unfolding(crate::specs::Numbers::add_task_owner))]
+    fn walk(
+        &self,
+        alloc: Global,
+        reporters: &NameTable<'b>,
+        owners: &mut Vec<u32>,
+        _second: &mut (),
+    ) -> Result<(), Fault> {
+        // The tasks of a job mostly have one owner.
+        let guess = owners.last().copied().unwrap_or(0);
+        let owner = reporter_near(alloc, reporters, self.reporter, guess)?;
+        owners.push(owner)?;
+        Ok(())
     }
-    Ok(())
 }
 
-fn add_job_owners(
-    alloc: Global,
-    job: &RawJob,
-    reporters: &NameTable,
-    owners: &mut Vec<u32>,
-) -> Result<(), Fault>
-    ensures { Gives (λ _. owners.new.items) result
-        (spec.add_job_owners reporters.now owners.old.items (job_view job.now)) }
-{
-    under(
-        PathStep::Key {
-            name: DocKey::Tasks,
-        },
-        add_tasks_owners(alloc, &job.tasks, reporters, owners),
-    )
-}
+impl<'a, 'b> Walked<NameTable<'b>, Vec<u32>, ()> for RawJob<'a> {
+    ghost use Rattle.std.specs.Prelude.{ℕ, List};
 
-fn add_jobs_owners(
-    alloc: Global,
-    jobs: &[RawJob],
-    reporters: &NameTable,
-    owners: &mut Vec<u32>,
-) -> Result<(), Fault>
-    ensures { Gives (λ _. owners.new.items) result
-        (fold_each (spec.add_job_owners reporters.now) 0 owners.old.items (map job_view jobs.now)) }
-{
-    for (place, job) in jobs.iter().enumerate() {
-        match add_job_owners(alloc, job, reporters, owners) {
-            Ok(()) => (),
-            Err(fault) => {
-                return Err(fault.under(PathStep::Index {
-                    place: place as u64,
-                }));
-            }
-        }
+    ghost Shown = { raw.Job };
+
+    ghost shown = { job_view };
+
+    ghost State = { List ℕ };
+
+    ghost state = { λ owners _. owners.items };
+
+    ghost after = { spec.add_job_owners };
+
+    fn walk(
+        &self,
+        alloc: Global,
+        reporters: &NameTable<'b>,
+        owners: &mut Vec<u32>,
+        second: &mut (),
+    ) -> Result<(), Fault> {
+        walk_member(alloc, DocKey::Tasks, &self.tasks, reporters, owners, second)
     }
-    Ok(())
 }
 
-fn add_user_owners(
-    alloc: Global,
-    user: &RawUser,
-    reporters: &NameTable,
-    owners: &mut Vec<u32>,
-) -> Result<(), Fault>
-    ensures { Gives (λ _. owners.new.items) result
-        (spec.add_user_owners reporters.now owners.old.items (user_view user.now)) }
-{
-    under(
-        PathStep::Key { name: DocKey::Jobs },
-        add_jobs_owners(alloc, &user.jobs, reporters, owners),
-    )
-}
+impl<'a, 'b> Walked<NameTable<'b>, Vec<u32>, ()> for RawUser<'a> {
+    ghost use Rattle.std.specs.Prelude.{ℕ, List};
 
-fn add_users_owners(
-    alloc: Global,
-    users: &[RawUser],
-    reporters: &NameTable,
-    owners: &mut Vec<u32>,
-) -> Result<(), Fault>
-    ensures { Gives (λ _. owners.new.items) result
-        (fold_each (spec.add_user_owners reporters.now) 0 owners.old.items
-        (map user_view users.now)) }
-{
-    for (place, user) in users.iter().enumerate() {
-        match add_user_owners(alloc, user, reporters, owners) {
-            Ok(()) => (),
-            Err(fault) => {
-                return Err(fault.under(PathStep::Index {
-                    place: place as u64,
-                }));
-            }
-        }
+    ghost Shown = { raw.User };
+
+    ghost shown = { user_view };
+
+    ghost State = { List ℕ };
+
+    ghost state = { λ owners _. owners.items };
+
+    ghost after = { spec.add_user_owners };
+
+    fn walk(
+        &self,
+        alloc: Global,
+        reporters: &NameTable<'b>,
+        owners: &mut Vec<u32>,
+        second: &mut (),
+    ) -> Result<(), Fault> {
+        walk_member(alloc, DocKey::Jobs, &self.jobs, reporters, owners, second)
     }
-    Ok(())
+}
+
+/// The tables to which a group refers.
+#[derive(Drop)]
+struct GroupTables<'t, 'a> {
+    links: &'t NameTable<'a>,
+    reporters: &'t NameTable<'a>,
 }
 
 /// Adds the group over the numbers of its links to the groups, and the owners of its tasks to the
 /// owners.
-#[tactic(auto, unfolding(crate::specs::Numbers::add_group_numbers))]
-fn add_group_numbers(
-    alloc: Global,
-    group: &RawGroup,
-    links: &NameTable,
-    reporters: &NameTable,
-    specs: &mut Vec<GroupSpec>,
-    owners: &mut Vec<u32>,
-) -> Result<(), Fault>
-    ensures { Gives (λ _. (each_view group_of specs.new, owners.new.items)) result
-        (spec.add_group_numbers links.now reporters.now
-        (each_view group_of specs.old, owners.old.items) (group_view group.now)) }
-{
-    let path_groups = path_groups_numbers(alloc, &group.path_groups, links)?;
-    under(
-        PathStep::Key {
-            name: DocKey::Users,
-        },
-        add_users_owners(alloc, &group.users, reporters, owners),
-    )?;
-    let from = String::from_str(alloc, group.from)?;
-    let to = String::from_str(alloc, group.to)?;
-    specs.push(GroupSpec {
-        from,
-        to,
-        places: path_groups,
-    })?;
-    Ok(())
-}
+impl<'a, 't, 'b> Walked<GroupTables<'t, 'b>, Vec<GroupSpec>, Vec<u32>> for RawGroup<'a> {
+    ghost use Rattle.std.specs.Prelude.{ℕ, List};
+    ghost use Rattle.path_groups.specs.Given.{Group};
 
-fn add_groups_numbers(
-    alloc: Global,
-    groups: &[RawGroup],
-    links: &NameTable,
-    reporters: &NameTable,
-    specs: &mut Vec<GroupSpec>,
-    owners: &mut Vec<u32>,
-) -> Result<(), Fault>
-    ensures { Gives (λ _. (each_view group_of specs.new, owners.new.items)) result
-        (fold_each (spec.add_group_numbers links.now reporters.now) 0
-        (each_view group_of specs.old, owners.old.items) (map group_view groups.now)) }
-{
-    for (place, group) in groups.iter().enumerate() {
-        match add_group_numbers(alloc, group, links, reporters, specs, owners) {
-            Ok(()) => (),
-            Err(fault) => {
-                return Err(fault.under(PathStep::Index {
-                    place: place as u64,
-                }));
-            }
-        }
+    ghost Shown = { raw.Group };
+
+    ghost shown = { group_view };
+
+    ghost State = { List Group × List ℕ };
+
+    ghost state = { λ specs owners. (each_view group_of specs, owners.items) };
+
+    ghost after = { λ tables. spec.add_group_numbers tables.links.now tables.reporters.now };
+
+    #[tactic(auto, unfolding(crate::specs::Numbers::add_group_numbers))]
+    fn walk(
+        &self,
+        alloc: Global,
+        tables: &GroupTables<'t, 'b>,
+        specs: &mut Vec<GroupSpec>,
+        owners: &mut Vec<u32>,
+    ) -> Result<(), Fault> {
+        let places = path_groups_numbers(alloc, &self.path_groups, tables.links)?;
+        walk_member(
+            alloc,
+            DocKey::Users,
+            &self.users,
+            tables.reporters,
+            owners,
+            &mut (),
+        )?;
+        let from = String::from_str(alloc, self.from)?;
+        let to = String::from_str(alloc, self.to)?;
+        specs.push(GroupSpec { from, to, places })?;
+        Ok(())
     }
-    Ok(())
 }
 
 fn target_number(
@@ -476,18 +427,14 @@ pub fn document_numbers(
     let link_owners = link_owners(alloc, &raw.links, reporters)?;
     let mut groups = Vec::new(alloc);
     let mut task_owners = Vec::new(alloc);
-    under(
-        PathStep::Key {
-            name: DocKey::Groups,
-        },
-        add_groups_numbers(
-            alloc,
-            &raw.groups,
-            links,
-            reporters,
-            &mut groups,
-            &mut task_owners,
-        ),
+    let tables = GroupTables { links, reporters };
+    walk_member(
+        alloc,
+        DocKey::Groups,
+        &raw.groups,
+        &tables,
+        &mut groups,
+        &mut task_owners,
     )?;
     let script = script_numbers(alloc, &raw.script, links, tasks, reporters, &task_owners)?;
     let closings = closings_numbers(alloc, &raw.closings, links)?;

@@ -1,219 +1,180 @@
 //! Names that stand once, in the order of the walk.
 
-ghost use Rattle.std.specs.Prelude.{◌≡◌, [], map};
-ghost use Rattle.raw_document.specs.Reading.{Gives, fold_each};
+ghost use Rattle.std.specs.Prelude.{◌≡◌, []};
+ghost use Rattle.raw_document.specs.Reading.{Gives, IsUnder};
+ghost use Rattle.raw_document.specs.Raw as raw;
 ghost use Rattle.raw_document.specs.Raw.{name_view, link_view, task_view, job_view, user_view, group_view, raw_view};
-ghost use Rattle.doc_passes.specs.Names as names;
 ghost use Rattle.raw_document.specs.declared.key.DocKey.TheVariants as keys;
+ghost use Rattle.raw_document.specs.declared.doc_path.PathStep.TheVariants.{Key};
+ghost use Rattle.doc_passes.specs.Names as names;
 
 use crate::few_names::FewNames;
 use crate::name_table::NameTable;
+use crate::walk::{Walked, walk_member};
 use raw_document::{
     DocKey, Fault, PathStep, RawDocument, RawGroup, RawJob, RawLink, RawTask, RawUser, under,
 };
 use std::alloc::Global;
 
-fn add_link<'a>(alloc: Global, link: &RawLink<'a>, table: &mut NameTable<'a>) -> Result<(), Fault>
-    ensures { Gives (λ _. table.new) result (names.add_link table.old (link_view link.now)) }
+// What was added by the name of an object, told from the object.
+fn of_name(added: Result<(), Fault>) -> Result<(), Fault>
+    ensures { IsUnder (Key keys.Name) added result }
 {
-    under(
-        PathStep::Key { name: DocKey::Name },
-        table.add(alloc, link.name),
-    )
+    under(PathStep::Key { name: DocKey::Name }, added)
 }
 
-fn add_links<'a>(
-    alloc: Global,
-    links: &[RawLink<'a>],
-    table: &mut NameTable<'a>,
-) -> Result<(), Fault>
-    ensures { Gives (λ _. table.new) result
-        (fold_each names.add_link 0 table.old (map link_view links.now)) }
-{
-    for (place, link) in links.iter().enumerate() {
-        match add_link(alloc, link, table) {
-            Ok(()) => (),
-            Err(fault) => return Err(fault.under(PathStep::Index {
-                place: place as u64,
-            })),
-        }
+impl<'a> Walked<(), NameTable<'a>, ()> for &'a str {
+    ghost use Rattle.std.specs.Prelude.{ℕ, List};
+
+    ghost Shown = { List ℕ };
+
+    ghost shown = { name_view };
+
+    ghost State = { List (List ℕ) };
+
+    ghost state = { λ table _. table };
+
+    ghost after = { λ _. names.fresh };
+
+    fn walk(
+        &self,
+        alloc: Global,
+        _given: &(),
+        table: &mut NameTable<'a>,
+        _second: &mut (),
+    ) -> Result<(), Fault> {
+        table.add(alloc, *self)
     }
-    Ok(())
 }
 
-fn add_task<'a>(alloc: Global, task: &RawTask<'a>, table: &mut NameTable<'a>) -> Result<(), Fault>
-    ensures { Gives (λ _. table.new) result (names.add_task table.old (task_view task.now)) }
-{
-    under(
-        PathStep::Key { name: DocKey::Name },
-        table.add(alloc, task.name),
-    )
-}
+impl<'a> Walked<(), NameTable<'a>, ()> for RawLink<'a> {
+    ghost use Rattle.std.specs.Prelude.{ℕ, List};
 
-fn add_tasks<'a>(
-    alloc: Global,
-    tasks: &[RawTask<'a>],
-    table: &mut NameTable<'a>,
-) -> Result<(), Fault>
-    ensures { Gives (λ _. table.new) result
-        (fold_each names.add_task 0 table.old (map task_view tasks.now)) }
-{
-    for (place, task) in tasks.iter().enumerate() {
-        match add_task(alloc, task, table) {
-            Ok(()) => (),
-            Err(fault) => return Err(fault.under(PathStep::Index {
-                place: place as u64,
-            })),
-        }
+    ghost Shown = { raw.Link };
+
+    ghost shown = { link_view };
+
+    ghost State = { List (List ℕ) };
+
+    ghost state = { λ table _. table };
+
+    ghost after = { λ _. names.add_link };
+
+    fn walk(
+        &self,
+        alloc: Global,
+        _given: &(),
+        table: &mut NameTable<'a>,
+        _second: &mut (),
+    ) -> Result<(), Fault> {
+        of_name(table.add(alloc, self.name))
     }
-    Ok(())
+}
+
+impl<'a> Walked<(), NameTable<'a>, ()> for RawTask<'a> {
+    ghost use Rattle.std.specs.Prelude.{ℕ, List};
+
+    ghost Shown = { raw.Task };
+
+    ghost shown = { task_view };
+
+    ghost State = { List (List ℕ) };
+
+    ghost state = { λ table _. table };
+
+    ghost after = { λ _. names.add_task };
+
+    fn walk(
+        &self,
+        alloc: Global,
+        _given: &(),
+        table: &mut NameTable<'a>,
+        _second: &mut (),
+    ) -> Result<(), Fault> {
+        of_name(table.add(alloc, self.name))
+    }
 }
 
 /// Adds the name of a job to those of the user's jobs, and the names of its tasks to those of all
 /// tasks.
-#[tactic(auto, unfolding(crate::specs::Names::add_job))]
-fn add_job<'a>(
-    alloc: Global,
-    job: &RawJob<'a>,
-    table: &mut FewNames<'a>,
-    tasks: &mut NameTable<'a>,
-) -> Result<(), Fault>
-    ensures { Gives (λ _. (table.new, tasks.new)) result
-        (names.add_job (table.old, tasks.old) (job_view job.now)) }
-{
-    under(
-        PathStep::Key { name: DocKey::Name },
-        table.add(alloc, job.name),
-    )?;
-    under(
-        PathStep::Key {
-            name: DocKey::Tasks,
-        },
-        add_tasks(alloc, &job.tasks, tasks),
-    )
-}
+impl<'a> Walked<(), FewNames<'a>, NameTable<'a>> for RawJob<'a> {
+    ghost use Rattle.std.specs.Prelude.{ℕ, List};
 
-fn add_jobs<'a>(
-    alloc: Global,
-    jobs: &[RawJob<'a>],
-    table: &mut FewNames<'a>,
-    tasks: &mut NameTable<'a>,
-) -> Result<(), Fault>
-    ensures { Gives (λ _. (table.new, tasks.new)) result
-        (fold_each names.add_job 0 (table.old, tasks.old) (map job_view jobs.now)) }
-{
-    for (place, job) in jobs.iter().enumerate() {
-        match add_job(alloc, job, table, tasks) {
-            Ok(()) => (),
-            Err(fault) => return Err(fault.under(PathStep::Index {
-                place: place as u64,
-            })),
-        }
+    ghost Shown = { raw.Job };
+
+    ghost shown = { job_view };
+
+    ghost State = { List (List ℕ) × List (List ℕ) };
+
+    ghost state = { λ table tasks. (table, tasks) };
+
+    ghost after = { λ _. names.add_job };
+
+    #[tactic(auto, unfolding(crate::specs::Names::add_job))]
+    fn walk(
+        &self,
+        alloc: Global,
+        _given: &(),
+        table: &mut FewNames<'a>,
+        tasks: &mut NameTable<'a>,
+    ) -> Result<(), Fault> {
+        of_name(table.add(alloc, self.name))?;
+        walk_member(alloc, DocKey::Tasks, &self.tasks, &(), tasks, &mut ())
     }
-    Ok(())
 }
 
-#[tactic(auto, unfolding(crate::specs::Names::add_user))]
-fn add_user<'a>(
-    alloc: Global,
-    user: &RawUser<'a>,
-    table: &mut FewNames<'a>,
-    tasks: &mut NameTable<'a>,
-) -> Result<(), Fault>
-    ensures { Gives (λ _. (table.new, tasks.new)) result
-        (names.add_user (table.old, tasks.old) (user_view user.now)) }
-{
-    under(
-        PathStep::Key { name: DocKey::Name },
-        table.add(alloc, user.name),
-    )?;
-    let mut jobs = FewNames::new(alloc);
-    under(
-        PathStep::Key { name: DocKey::Jobs },
-        add_jobs(alloc, &user.jobs, &mut jobs, tasks),
-    )
-}
+impl<'a> Walked<(), FewNames<'a>, NameTable<'a>> for RawUser<'a> {
+    ghost use Rattle.std.specs.Prelude.{ℕ, List};
 
-fn add_users<'a>(
-    alloc: Global,
-    users: &[RawUser<'a>],
-    table: &mut FewNames<'a>,
-    tasks: &mut NameTable<'a>,
-) -> Result<(), Fault>
-    ensures { Gives (λ _. (table.new, tasks.new)) result
-        (fold_each names.add_user 0 (table.old, tasks.old) (map user_view users.now)) }
-{
-    for (place, user) in users.iter().enumerate() {
-        match add_user(alloc, user, table, tasks) {
-            Ok(()) => (),
-            Err(fault) => return Err(fault.under(PathStep::Index {
-                place: place as u64,
-            })),
-        }
+    ghost Shown = { raw.User };
+
+    ghost shown = { user_view };
+
+    ghost State = { List (List ℕ) × List (List ℕ) };
+
+    ghost state = { λ table tasks. (table, tasks) };
+
+    ghost after = { λ _. names.add_user };
+
+    #[tactic(auto, unfolding(crate::specs::Names::add_user))]
+    fn walk(
+        &self,
+        alloc: Global,
+        _given: &(),
+        table: &mut FewNames<'a>,
+        tasks: &mut NameTable<'a>,
+    ) -> Result<(), Fault> {
+        of_name(table.add(alloc, self.name))?;
+        let mut jobs = FewNames::new(alloc);
+        walk_member(alloc, DocKey::Jobs, &self.jobs, &(), &mut jobs, tasks)
     }
-    Ok(())
 }
 
-#[tactic(auto, unfolding(crate::specs::Names::add_group))]
-fn add_group<'a>(
-    alloc: Global,
-    group: &RawGroup<'a>,
-    table: &mut NameTable<'a>,
-    tasks: &mut NameTable<'a>,
-) -> Result<(), Fault>
-    ensures { Gives (λ _. (table.new, tasks.new)) result
-        (names.add_group (table.old, tasks.old) (group_view group.now)) }
-{
-    under(
-        PathStep::Key { name: DocKey::Name },
-        table.add(alloc, group.name),
-    )?;
-    let mut users = FewNames::new(alloc);
-    under(
-        PathStep::Key {
-            name: DocKey::Users,
-        },
-        add_users(alloc, &group.users, &mut users, tasks),
-    )
-}
+impl<'a> Walked<(), NameTable<'a>, NameTable<'a>> for RawGroup<'a> {
+    ghost use Rattle.std.specs.Prelude.{ℕ, List};
 
-fn add_groups<'a>(
-    alloc: Global,
-    groups: &[RawGroup<'a>],
-    table: &mut NameTable<'a>,
-    tasks: &mut NameTable<'a>,
-) -> Result<(), Fault>
-    ensures { Gives (λ _. (table.new, tasks.new)) result
-        (fold_each names.add_group 0 (table.old, tasks.old) (map group_view groups.now)) }
-{
-    for (place, group) in groups.iter().enumerate() {
-        match add_group(alloc, group, table, tasks) {
-            Ok(()) => (),
-            Err(fault) => return Err(fault.under(PathStep::Index {
-                place: place as u64,
-            })),
-        }
+    ghost Shown = { raw.Group };
+
+    ghost shown = { group_view };
+
+    ghost State = { List (List ℕ) × List (List ℕ) };
+
+    ghost state = { λ table tasks. (table, tasks) };
+
+    ghost after = { λ _. names.add_group };
+
+    #[tactic(auto, unfolding(crate::specs::Names::add_group))]
+    fn walk(
+        &self,
+        alloc: Global,
+        _given: &(),
+        table: &mut NameTable<'a>,
+        tasks: &mut NameTable<'a>,
+    ) -> Result<(), Fault> {
+        of_name(table.add(alloc, self.name))?;
+        let mut users = FewNames::new(alloc);
+        walk_member(alloc, DocKey::Users, &self.users, &(), &mut users, tasks)
     }
-    Ok(())
-}
-
-fn add_reporters<'a>(
-    alloc: Global,
-    reporters: &[&'a str],
-    table: &mut NameTable<'a>,
-) -> Result<(), Fault>
-    ensures { Gives (λ _. table.new) result
-        (fold_each names.fresh 0 table.old (map name_view reporters.now)) }
-{
-    for (place, reporter) in reporters.iter().enumerate() {
-        match table.add(alloc, reporter) {
-            Ok(()) => (),
-            Err(fault) => return Err(fault.under(PathStep::Index {
-                place: place as u64,
-            })),
-        }
-    }
-    Ok(())
 }
 
 /// Fills the tables with the names of the document, up to the first name that stood before.
@@ -239,22 +200,14 @@ pub fn fill_tables<'a>(
         })
         result (names.name_lists (raw_view raw.now)) }
 {
-    under(
-        PathStep::Key {
-            name: DocKey::Links,
-        },
-        add_links(alloc, &raw.links, links),
-    )?;
-    under(
-        PathStep::Key {
-            name: DocKey::Groups,
-        },
-        add_groups(alloc, &raw.groups, groups, tasks),
-    )?;
-    under(
-        PathStep::Key {
-            name: DocKey::Reporters,
-        },
-        add_reporters(alloc, &raw.reporters, reporters),
+    walk_member(alloc, DocKey::Links, &raw.links, &(), links, &mut ())?;
+    walk_member(alloc, DocKey::Groups, &raw.groups, &(), groups, tasks)?;
+    walk_member(
+        alloc,
+        DocKey::Reporters,
+        &raw.reporters,
+        &(),
+        reporters,
+        &mut (),
     )
 }
