@@ -1,6 +1,6 @@
 //! Names in the order in which they stand, each with its number.
 
-ghost use Rattle.std.specs.Prelude.{◌≡◌, [], map, string_bytes, IfOk, IsTrue, Ok};
+ghost use Rattle.std.specs.Prelude.{◌≡◌, ◌↔◌, [], map, string_bytes, IfOk, IsTrue, Ok};
 ghost use Rattle.raw_document.specs.Reading.{Gives};
 ghost use Rattle.raw_document.specs.Raw.{name_view};
 ghost use Rattle.doc_passes.specs.Names.{fresh, number_in};
@@ -36,7 +36,7 @@ impl<'a> NameTable<'a> {
     }
 
     pub fn is_empty(&self) -> bool
-        ensures { IsTrue result → self.now ≡ [] }
+        ensures { IsTrue result ↔ (self.now ≡ []) }
     {
         self.names.as_slice().is_empty()
     }
