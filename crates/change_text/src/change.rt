@@ -13,6 +13,9 @@ use limit_table::{GroupLine, LimitTable, total_in};
 use std::alloc::{AllocError, Global};
 use table_text::{end_with_number, push_closings, push_group, push_value};
 
+// So many bytes of memory a group's text begins with. Most have a path group or two.
+const GROUP_BYTES: usize = 256;
+
 /// The text of what has changed from the earlier table to the later one, which is of the same plan.
 ///
 /// A number that has no name is printed as an empty text; the names of a document have one for each
@@ -140,7 +143,7 @@ fn group_text(
     ensures { IfOk result
         (λ text. string_bytes text ≡ group_lines (texts_of names.now) lines.now group) }
 {
-    let mut text = String::new(alloc);
+    let mut text = String::with_capacity(alloc, GROUP_BYTES)?;
     push_group(&mut text, names, lines, group)?;
     Ok(text)
 }
