@@ -20,7 +20,7 @@ is_equal Less e = absurd cc
 is_equal Equal e = refl
 is_equal Greater e = absurd cc
 
-passed : {A : Type 0} (o : Ordering) (x y : A) → is_eq o ≡ false → match_ordering o x y x ≡ x
+pub passed : {A : Type 0} (o : Ordering) (x y : A) → is_eq o ≡ false → match_ordering o x y x ≡ x
 passed Less x y e = refl
 passed Equal x y e = absurd cc
 passed Greater x y e = refl
@@ -28,7 +28,7 @@ passed Greater x y e = refl
 same_key : (k : List ℕ) → slice_cmp nat_cmp k k ≡ Equal
 same_key k = is_equal (slice_cmp nat_cmp k k) (is_eq-slice_cmp k k ∙ nat_list_eq_equiv.refl k)
 
-differs : (q k : List ℕ) → bytes_eq q k ≡ false → is_eq (slice_cmp nat_cmp q k) ≡ false
+pub differs : (q k : List ℕ) → bytes_eq q k ≡ false → is_eq (slice_cmp nat_cmp q k) ≡ false
 differs q k e = is_eq-slice_cmp q k ∙ e
 
 equal_keys : (k l : List ℕ) → slice_cmp nat_cmp k l ≡ Equal → bytes_eq k l ≡ true
@@ -38,7 +38,7 @@ equal_keys k l e = sym (is_eq-slice_cmp k l) ∙ ap is_eq e
 differs_too : (q k l : List ℕ) → bytes_eq k l ≡ true → bytes_eq q k ≡ false → bytes_eq q l ≡ false
 differs_too q k l same e = nat_list_eq_equiv.symm q l ∙ sym (nat_list_eq_equiv.congr k l q same) ∙ nat_list_eq_equiv.symm k q ∙ e
 
-get_put : (k : List ℕ) (d : Data) (ms : Members) → get_member k (put k d ms) ≡ Some d
+pub get_put : (k : List ℕ) (d : Data) (ms : Members) → get_member k (put k d ms) ≡ Some d
 get_put k d no_members = rw (same_key k)
 get_put k d (member l e ms) = by (slice_cmp nat_cmp k l) refl (get_put k d ms) where
   by : (o : Ordering) → slice_cmp nat_cmp k l ≡ o → get_member k (put k d ms) ≡ Some d → get_member k (match_ordering o (member k d (member l e ms)) (member l d ms) (member l e (put k d ms))) ≡ Some d
@@ -46,7 +46,7 @@ get_put k d (member l e ms) = by (slice_cmp nat_cmp k l) refl (get_put k d ms) w
   by Equal is more = rw is
   by Greater is more = rw is more
 
-get_other : (q k : List ℕ) (d : Data) (ms : Members) → bytes_eq q k ≡ false → get_member q (put k d ms) ≡ get_member q ms
+pub get_other : (q k : List ℕ) (d : Data) (ms : Members) → bytes_eq q k ≡ false → get_member q (put k d ms) ≡ get_member q ms
 get_other q k d no_members apart = passed (slice_cmp nat_cmp q k) None (Some d) (differs q k apart)
 get_other q k d (member l e ms) apart = by (slice_cmp nat_cmp k l) refl (get_other q k d ms apart) where
   by : (o : Ordering) → slice_cmp nat_cmp k l ≡ o → get_member q (put k d ms) ≡ get_member q ms

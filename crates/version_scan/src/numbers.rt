@@ -31,7 +31,7 @@ fn has_plus(bytes: &[u8]) -> bool
 
 /// What a number token writes: `None` where it is above every float, and within, `None` where it is
 /// no whole number of 64 bits without a sign.
-pub(crate) fn number(digits: &str) -> Option<Option<u64>>
+pub fn number(digits: &str) -> Option<Option<u64>>
     ensures { result ≡ option_map as_u64 (number_of digits.now) }
 {
     match whole_number(digits) {

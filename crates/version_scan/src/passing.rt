@@ -13,7 +13,7 @@ use json::{Reader, Token};
 /// Passes over a value, in which arrays and objects may nest `depth` deep. It says what whole
 /// number the value is, if it is one.
 #[cycle(pass)]
-pub(crate) fn pass(reader: &mut Reader<'_>, depth: usize) -> Option<Option<u64>>
+pub fn pass(reader: &mut Reader<'_>, depth: usize) -> Option<Option<u64>>
     ensures passed { IfSome result (λ whole.
         Passes depth reader.old reader.new (λ d. whole ≡ number_of d)) }
     ensures refused { IsNone result → converted of_json (value depth reader.old) ≡ None }
