@@ -4,9 +4,10 @@
 //! `input_lengths` asks for version 4 where a document is longer than one of versions 1 to 3 may
 //! be. The answer is exact (`specs/Version.antt`): the bytes are a JSON object, and its last member
 //! `version` is the whole number 4. `raw_shape` asks whether bytes are JSON before it makes a tree
-//! of them, `fault_scan` passes over values by `pass` and reads numbers by `number`, and `raw_reader`
-//! reads numbers of digits alone by `whole_number`. A pass keeps nothing of the document: beside the bytes it takes as many for the strings
-//! that are written with escapes. Nothing is promised of time.
+//! of them. `fault_scan` passes over values by `pass` and reads numbers by `number`, `raw_reader`
+//! reads numbers of digits alone by `whole_number`. A pass keeps nothing of the document: beside the
+//! bytes it takes as many for the strings that are written with escapes. Nothing is promised of
+//! time.
 #![tactic(auto)]
 
 mod numbers;
