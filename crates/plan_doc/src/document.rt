@@ -1,6 +1,6 @@
 //! The reading of a document, pass by pass.
 
-ghost use Rattle.std.specs.Prelude.{◌≡◌, ◌≤◌, ◌<◌, ◌^◌, ◌&&◌, not, nat_lt, None, Ok, map, length, IfOk, IfSome};
+ghost use Rattle.std.specs.Prelude.{◌≡◌, ◌≤◌, ◌<◌, ◌^◌, ◌&&◌, not, nat_lt, None, Ok, Err, map, length, IfOk, IfSome};
 ghost use Rattle.bwe_specs.specs.DocumentLimits.{limits_of};
 ghost use Rattle.serde_json.specs.View.{view};
 ghost use Rattle.wan_topology.specs.Network.{network_of};
@@ -40,6 +40,7 @@ use crate::nodes::{has_childless, has_node_numbers};
 use bwe_specs::{Closing, DocumentLimits, MAX_GROUPS, MAX_SHARE, Report};
 use doc_names::{Names, find_not_owned};
 use doc_passes::{DocumentNumbers, check_ranges, document_numbers, find_overrun};
+use fault_scan::find_fault;
 use json::Scratch;
 use path_groups::{GroupSpec, PathError, PathPlan};
 use policy_tree::{ClusterSpec, PolicyTree, TreeError, TreeFault, TreeSpec};
@@ -446,12 +447,20 @@ fn document_by_tokens(alloc: Global, bytes: &[u8]) -> Option<Result<Document, Do
     Some(document_from_raw(alloc, &raw))
 }
 
+// Refusal 2, where one walk over the tokens finds the first fault.
+fn shape_refusal(alloc: Global, bytes: &[u8]) -> Option<DocError>
+    ensures { IfSome result (λ error. Answers (Err error) (document bytes.now)) }
+{
+    Some(DocError::shape(find_fault(alloc, bytes)?))
+}
+
 /// The document of the bytes ("The document" and "Refusals", docs/FORMAT.md), or its refusal of the
 /// lowest number.
 ///
 /// Names are lent by the text until the document is accepted. Each name is hashed once where it
-/// stands and at most once where it is referred to; nothing else is looked up. Only a text whose
-/// shape has a fault is read a second time, by its tree.
+/// stands and at most once where it is referred to; nothing else is looked up. Only a text that is
+/// not of the shape of a document is read again: by a walk that finds the first fault, and by its
+/// tree where that walk finds none, as in a text that is no JSON.
 pub fn read_document(alloc: Global, bytes: &[u8]) -> Result<Document, DocError>
     // The answer is the definition's, unless memory ran out.
     ensures exact { Answers result (document bytes.now) }
@@ -460,6 +469,9 @@ pub fn read_document(alloc: Global, bytes: &[u8]) -> Result<Document, DocError>
 {
     match document_by_tokens(alloc, bytes) {
         Some(found) => found,
-        None => document_by_tree(alloc, bytes),
+        None => match shape_refusal(alloc, bytes) {
+            Some(error) => Err(error),
+            None => document_by_tree(alloc, bytes),
+        },
     }
 }

@@ -1,0 +1,4 @@
+pub mod Kinds
+pub mod Tables
+pub mod Seen
+pub mod Faults
