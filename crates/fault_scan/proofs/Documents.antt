@@ -1,5 +1,5 @@
 -- A document whose version was taken to be this one, or none, has the fault of the definition.
-use Rattle.std.proofs.Common.{◌≡◌, ℕ, ◌==◌, Bool, true, false, List, [], ◌∷◌, Option, Some, None, Result, Ok, Err, refl, sym, ap, ◌∙◌, subst}
+use Rattle.std.proofs.Common.{◌≡◌, ℕ, ◌==◌, Bool, true, false, List, [], ◌∷◌, Option, Some, None, Result, Ok, Err, refl, sym, ap, ◌∙◌}
 use Rattle.std.specs.Prelude.{⊤, unwrap_or}
 use Rattle.std.specs.Str.{bytes_eq}
 use Rattle.std.proofs.lemmas.Bool.{eqb-true, false≢true}
@@ -12,7 +12,7 @@ use Rattle.raw_document.specs.declared.doc_path.PathStep.TheVariants.{Key}
 use Rattle.raw_document.specs.declared.doc_path.Fault.{Fault}
 use Rattle.raw_document.specs.declared.doc_path.Fault.TheVariants.{OutOfMemory, At}
 use Rattle.raw_document.specs.Words.{word}
-use Rattle.raw_document.specs.Raw.{Raw, Link, Group, Report, Closing}
+use Rattle.raw_document.specs.Raw.{Raw, Closing}
 use Rattle.raw_document.specs.Reading.{◌>>=◌, under, or_fault, check, Fails}
 use Rattle.raw_document.specs.Shape.{number_of, whole, text, field, optional, read_found, read_some, object as object_shape, list_of}
 use Rattle.raw_document.specs.Forms.{link_at, group_at, report_at, closing_at, closings_at, document_at}

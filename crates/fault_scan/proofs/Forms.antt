@@ -1,6 +1,6 @@
 -- What the table of each object says is what its definition says.
 use Rattle.std.proofs.Common.{◌≡◌, ℕ, ◌==◌, Bool, true, false, cond, List, [], ◌∷◌, Option, Some, None, Result, Ok, Err, refl, sym, ap, ◌∙◌}
-use Rattle.std.specs.Prelude.{◌||◌, ◌&&◌, not, is_some, unwrap_or, ⊤}
+use Rattle.std.specs.Prelude.{◌||◌, ◌&&◌, is_some, unwrap_or, ⊤}
 use Rattle.std.specs.Str.{bytes_eq}
 use Rattle.std.proofs.lemmas.Bool.{and_parts, false≢true}
 use Rattle.serde_json.specs.Data.{Data, Num, null, boolean, number, string, array, object, Items, Members, no_members, member}
@@ -13,7 +13,7 @@ use Rattle.raw_document.specs.Words.{word}
 use Rattle.raw_document.specs.Reading.{◌>>=◌, under, or_fault, each, check}
 use Rattle.raw_document.specs.Shape.{whole, text, point, function, field, optional, read_found, read_some, is_one_of, has_all, has_only, object as object_shape, list_items, list_of}
 use Rattle.raw_document.specs.Raw.{Link, Task}
-use Rattle.raw_document.specs.Forms.{link_others, task_others, weight_at, link_at, path_at, task_at, job_at, user_at, group_at, report_at, demand_at, capacity_at, is_of_link, closing_at}
+use Rattle.raw_document.specs.Forms.{weight_at, link_at, path_at, task_at, job_at, user_at, group_at, report_at, demand_at, capacity_at, is_of_link, closing_at}
 use Rattle.fault_scan.specs.declared.kinds.Kind.{Kind}
 use Rattle.fault_scan.specs.declared.kinds.Kind.TheVariants as kinds
 use Rattle.fault_scan.specs.declared.kinds.Many.{Many}
@@ -22,7 +22,7 @@ use Rattle.fault_scan.specs.declared.kinds.Form.{Form}
 use Rattle.fault_scan.specs.declared.kinds.Form.TheVariants as forms
 use Rattle.fault_scan.specs.declared.kinds.Field.{Field}
 use Rattle.fault_scan.specs.Kinds.{passed, any_whole, many_at, form_at, document_with, version_at, at, takes_text, takes_number, takes_all}
-use Rattle.fault_scan.specs.Tables.{needs, may_have, required_keys, other_keys, item_of, fields_of, member_at, followed_by, in_order, by_fields}
+use Rattle.fault_scan.specs.Tables.{needs, may_have, item_of, fields_of, followed_by, by_fields}
 use Rattle.fault_scan.proofs.Keys.{same_bytes, get_later}
 use Rattle.fault_scan.proofs.Lists.{passed_itself, list_passed}
 

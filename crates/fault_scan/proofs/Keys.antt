@@ -1,5 +1,5 @@
 -- The keys of a table, and the members that it knows.
-use Rattle.std.proofs.Common.{◌≡◌, ℕ, zero, suc, ◌<◌, ◌≤◌, Bool, true, false, cond, List, [], ◌∷◌, length, map, get_or, Option, Some, None, refl, sym, ap, ◌∙◌, arith}
+use Rattle.std.proofs.Common.{◌≡◌, ℕ, zero, suc, ◌<◌, ◌≤◌, Bool, true, false, cond, List, [], ◌∷◌, length, get_or, Some, None, refl, sym, ap, ◌∙◌, arith}
 use Rattle.std.specs.Prelude.{◌+◌, ◌||◌, ◌&&◌, not, nat_lt, is_some}
 use Rattle.std.specs.List.{list_any, remove, position, position_or_len}
 use Rattle.std.specs.Ordering.{is_eq, nat_cmp, match_ordering}
@@ -14,7 +14,7 @@ use Rattle.serde_json.specs.Data.{Data, Members, no_members, member, put}
 use Rattle.serde_json.specs.Find.{get_member}
 use Rattle.raw_document.specs.Words.{word}
 use Rattle.raw_document.specs.Shape.{is_one_of, has_only}
-use Rattle.version_scan.proofs.Named.{get_put, get_other, differs, passed as apart_from}
+use Rattle.version_scan.proofs.Named.{get_put, differs, passed as apart_from}
 use Rattle.fault_scan.specs.declared.kinds.Field.{Field}
 use Rattle.fault_scan.specs.Tables.{required_keys, other_keys}
 use Rattle.fault_scan.specs.Seen.{is_named, are_apart, only}

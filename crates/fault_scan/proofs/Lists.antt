@@ -1,5 +1,5 @@
 -- Items of a list, one after the other.
-use Rattle.std.proofs.Common.{◌≡◌, ℕ, zero, suc, List, [], ◌∷◌, ◌++◌, length, Option, Some, None, option_map, option_and_then, Result, Ok, Err, refl, sym, ap, ◌∙◌, arith, ne_eqb}
+use Rattle.std.proofs.Common.{◌≡◌, ℕ, suc, List, [], ◌∷◌, ◌++◌, length, Option, Some, None, option_map, option_and_then, Result, Ok, Err, refl, sym, ap, ◌∙◌, arith, ne_eqb}
 use Rattle.std.specs.Prelude.{◌+◌, ◌==◌, ⊤}
 use Rattle.serde_json.specs.Data.{Data, array, Items, no_items, item}
 use Rattle.raw_document.specs.declared.doc_path.PathStep.{PathStep}

@@ -1,7 +1,7 @@
 -- What the slots tell of an object's ms.
-use Rattle.std.proofs.Common.{◌≡◌, ℕ, zero, suc, ◌<◌, Bool, true, false, cond, List, [], ◌∷◌, ◌++◌, length, map, take, get_or, Option, Some, None, Result, Ok, Err, refl, sym, ap, ap₂, ◌∙◌, subst, arith}
+use Rattle.std.proofs.Common.{◌≡◌, ℕ, zero, suc, ◌<◌, Bool, true, false, cond, List, [], ◌∷◌, ◌++◌, length, take, get_or, Option, Some, None, Result, Ok, Err, refl, sym, ap, ap₂, ◌∙◌, subst, arith}
 use Rattle.std.specs.Prelude.{◌+◌, ◌||◌, ◌&&◌, not, is_some, is_none, slice_set, ⊤}
-use Rattle.std.specs.List.{list_any, list_all, remove, position, position_or_len}
+use Rattle.std.specs.List.{list_any, list_all, remove, position_or_len}
 use Rattle.std.proofs.lemmas.List.{take_more}
 use Rattle.std.proofs.lemmas.Bool.{and_parts, or_parts, not-true}
 use Rattle.serde_json.specs.Data.{Data, object, Members, no_members, put}
@@ -12,7 +12,7 @@ use Rattle.raw_document.specs.declared.doc_path.PathStep.TheVariants.{Key}
 use Rattle.raw_document.specs.declared.doc_path.Fault.{Fault}
 use Rattle.raw_document.specs.declared.doc_path.Fault.TheVariants.{OutOfMemory, At}
 use Rattle.raw_document.specs.Words.{word}
-use Rattle.raw_document.specs.Reading.{◌>>=◌, under, check, IsFaultUnder, IsUnder}
+use Rattle.raw_document.specs.Reading.{check, IsFaultUnder, IsUnder}
 use Rattle.raw_document.specs.Shape.{field, optional, has_all, object as object_shape}
 use Rattle.version_scan.proofs.Named.{get_other}
 use Rattle.fault_scan.specs.declared.kinds.Kind.{Kind}
@@ -20,7 +20,7 @@ use Rattle.fault_scan.specs.declared.kinds.Kind.TheVariants as kinds
 use Rattle.fault_scan.specs.declared.kinds.Field.{Field}
 use Rattle.fault_scan.specs.declared.seen.Slot.{Slot}
 use Rattle.fault_scan.specs.Kinds.{passed, at}
-use Rattle.fault_scan.specs.Tables.{required_keys, other_keys, member_at, followed_by, in_order, by_fields}
+use Rattle.fault_scan.specs.Tables.{required_keys, other_keys, member_at, followed_by}
 use Rattle.fault_scan.specs.Seen.{Tells, Sees, SlotIs, SlotsAre, fields_in, is_named, are_apart, only, kind_at, is_missing, earlier, empty_slot}
 use Rattle.fault_scan.proofs.Keys.{get_same, same_bytes}
 

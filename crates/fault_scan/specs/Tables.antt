@@ -1,11 +1,9 @@
 -- The table of keys of each object, and the kind of each list's items.
-use Rattle.std.specs.Prelude.{ℕ, ◌==◌, ◌||◌, Bool, true, false, List, [], ◌∷◌, Result, Ok, Err, if◌then◌else◌, cond, ⊤}
-use Rattle.std.specs.Str.{bytes_eq}
+use Rattle.std.specs.Prelude.{ℕ, ◌==◌, ◌||◌, true, false, List, [], ◌∷◌, Result, Ok, if◌then◌else◌, ⊤}
 use Rattle.serde_json.specs.Data.{Data}
 use Rattle.raw_document.specs.declared.key.DocKey.{DocKey}
 use Rattle.raw_document.specs.declared.key.DocKey.TheVariants as keys
 use Rattle.raw_document.specs.declared.doc_path.PathStep.{PathStep}
-use Rattle.raw_document.specs.Words.{word}
 use Rattle.raw_document.specs.Reading.{◌>>=◌}
 use Rattle.raw_document.specs.Shape.{field, optional, object}
 use Rattle.fault_scan.specs.declared.kinds.Kind.{Kind}

@@ -1,8 +1,8 @@
 //! A document straight from the tokens of its text, with no tree of values between.
 //!
 //! `plan_doc` above asks `read_straight` first. What it gives is what `raw_shape` reads of the same
-//! bytes by their tree; where it gives nothing, which is promised of no text, the tree is read, and
-//! finds the first fault.
+//! bytes by their tree. Where it gives nothing, which is promised of no text, `fault_scan` looks for
+//! the first fault.
 #![tactic(auto)]
 
 mod document;

@@ -1,10 +1,9 @@
-use Rattle.std.proofs.Common.{◌≡◌, ◌==◌, [], Ok, Err, sym, ap, ◌∙◌, subst}
+use Rattle.std.proofs.Common.{◌==◌, sym, ap, ◌∙◌, subst}
 use Rattle.raw_document.specs.Reading.{check, each}
 use Rattle.raw_document.specs.Shape.{list_items}
 use Rattle.fault_scan.specs.Kinds.{passed, any_whole}
 use Rattle.fault_scan.specs.Seen.{Tells}
 use Rattle.fault_scan.proofs.Lists.{point_fine, point_bad}
-use Rattle.fault_scan.proofs.Told.{here_tells}
 use Rattle.fault_scan.proofs.items.point_fault.Goals as goal
 
 pub returns-in-Ok : goal.returns-in-Ok

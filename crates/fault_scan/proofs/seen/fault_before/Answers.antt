@@ -1,4 +1,4 @@
-use Rattle.std.proofs.Common.{◌≡◌, Option, Some, None, Result, Err, sym, ◌∙◌, subst}
+use Rattle.std.proofs.Common.{◌≡◌, Option, Some, None, Result, Err, sym, subst}
 use Rattle.std.specs.Prelude.{⊤}
 use Rattle.serde_json.specs.Data.{object}
 use Rattle.raw_document.specs.declared.doc_path.Fault.{Fault}

@@ -1,17 +1,17 @@
-use Rattle.std.proofs.Common.{◌≡◌, ◌-◌, List, [], ◌∷◌, ◌++◌, None, Some, Option, IfSome, refl, sym, ap, ap₂, ◌∙◌, subst, arith}
+use Rattle.std.proofs.Common.{◌≡◌, [], ◌∷◌, ◌++◌, None, Some, refl, sym, ap, ◌∙◌, subst, arith}
 use Rattle.json.specs.Token.{Token}
 use Rattle.json.specs.Json.{parse_map, after_end_array, read_key, value}
 use Rattle.json.specs.Reads.{token_of}
 use Rattle.json.proofs.Grammar.{read_key-shorter}
-use Rattle.serde_json.specs.Data.{Data, null, boolean, string, number, array, object, no_items, no_members, put}
+use Rattle.serde_json.specs.Data.{Data, null, boolean, string, array, object, no_items}
 use Rattle.serde_json.specs.Read.{of_json, converted}
 use Rattle.raw_document.specs.Reading.{check}
 use Rattle.raw_document.specs.Shape.{list_items}
 use Rattle.raw_reader.proofs.Reading.{Amid-start, Amid-more, Amid-end, items_before, listed, Within-start, Within-more, Within-end}
 use Rattle.version_scan.proofs.Tokens.{array_is, object_is, string_is, boolean_is, null_is}
 use Rattle.fault_scan.specs.Kinds.{at}
-use Rattle.fault_scan.specs.Tables.{item_at, fields_at}
-use Rattle.fault_scan.specs.Seen.{Tells, Holds, ItemsAre, fields_in, are_apart}
+use Rattle.fault_scan.specs.Tables.{item_at}
+use Rattle.fault_scan.specs.Seen.{Tells, Holds, ItemsAre, are_apart}
 use Rattle.fault_scan.proofs.Forms.{text_at, boolean_at, null_at}
 use Rattle.fault_scan.proofs.Entries.{fields_apart}
 use Rattle.fault_scan.proofs.Tokens.{number_told, same_items}

@@ -1,9 +1,8 @@
-use Rattle.std.proofs.Common.{◌≡◌, Bool, true, false, cond, refl, sym, ap, ◌∙◌, subst}
+use Rattle.std.proofs.Common.{◌≡◌, true, false, sym, ap, ◌∙◌, subst}
 use Rattle.std.specs.List.{remove}
 use Rattle.serde_json.specs.Data.{object}
-use Rattle.fault_scan.specs.declared.kinds.Kind.TheVariants as kinds
 use Rattle.fault_scan.specs.Kinds.{at}
-use Rattle.fault_scan.specs.Tables.{entry_fields, by_fields}
+use Rattle.fault_scan.specs.Tables.{by_fields}
 use Rattle.fault_scan.specs.Seen.{Tells, are_apart, fields_in}
 use Rattle.fault_scan.proofs.Forms.{entry_by, capacity_fields, demand_fields}
 use Rattle.fault_scan.proofs.Entries.{entry_apart, less_apart}

@@ -1,4 +1,4 @@
-use Rattle.std.proofs.Common.{◌≡◌, ◌==◌, Bool, true, false, refl, sym, ap, ◌∙◌, ne_eqb}
+use Rattle.std.proofs.Common.{◌≡◌, ◌==◌, false, refl, sym, ap, ◌∙◌, ne_eqb}
 use Rattle.std.specs.Prelude.{◌&&◌, not}
 use Rattle.serde_json.specs.Data.{object}
 use Rattle.raw_document.specs.Forms.{is_of_link}

@@ -1,6 +1,5 @@
-use Rattle.std.proofs.Common.{◌≡◌, true, get_or, sym, ap, ◌∙◌}
+use Rattle.std.proofs.Common.{get_or, sym, ap, ◌∙◌}
 use Rattle.std.specs.Prelude.{◌||◌, is_some}
-use Rattle.fault_scan.specs.declared.seen.Slot.{Slot}
 use Rattle.fault_scan.proofs.Entries.{link_named, any_slot}
 use Rattle.fault_scan.proofs.walk.names_link.Goals as goal
 

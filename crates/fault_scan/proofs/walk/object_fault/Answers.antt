@@ -1,6 +1,5 @@
-use Rattle.std.proofs.Common.{◌≡◌, refl, sym, ap, ◌∙◌, subst}
+use Rattle.std.proofs.Common.{sym, ap, ◌∙◌, subst}
 use Rattle.serde_json.specs.Data.{object}
-use Rattle.fault_scan.specs.declared.kinds.Kind.TheVariants as kinds
 use Rattle.fault_scan.specs.Kinds.{at}
 use Rattle.fault_scan.specs.Tables.{by_fields, fields_at}
 use Rattle.fault_scan.specs.Seen.{Tells}

@@ -1,4 +1,4 @@
-use Rattle.std.proofs.Common.{◌≡◌, [], ◌∷◌, ◌++◌, length, sym, ap, ◌∙◌, subst, arith, length-append}
+use Rattle.std.proofs.Common.{[], ◌∷◌, ◌++◌, sym, subst, arith, length-append}
 use Rattle.raw_document.specs.Reading.{each}
 use Rattle.fault_scan.specs.Kinds.{passed, at}
 use Rattle.fault_scan.specs.Seen.{Tells}

@@ -1,7 +1,6 @@
-use Rattle.std.proofs.Common.{◌≡◌, [], Ok, Err, refl, sym, ap, ◌∙◌, subst}
+use Rattle.std.proofs.Common.{sym, ap, subst}
 use Rattle.serde_json.specs.Data.{array}
 use Rattle.raw_document.specs.Shape.{list_items}
-use Rattle.fault_scan.specs.declared.kinds.Kind.TheVariants as kinds
 use Rattle.fault_scan.specs.Kinds.{at}
 use Rattle.fault_scan.specs.Tables.{item_at}
 use Rattle.fault_scan.specs.Seen.{Tells, ItemsAre}

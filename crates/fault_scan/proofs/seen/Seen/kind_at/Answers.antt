@@ -1,5 +1,4 @@
-use Rattle.std.proofs.Common.{◌≡◌, Some, sym, ap, ◌∙◌}
-use Rattle.std.specs.List.{position}
+use Rattle.std.proofs.Common.{sym, ◌∙◌}
 use Rattle.fault_scan.specs.declared.seen.Slot.{Slot}
 use Rattle.fault_scan.specs.Seen.{is_named}
 use Rattle.fault_scan.proofs.Keys.{place_is, no_place}

@@ -1,4 +1,4 @@
-use Rattle.std.proofs.Common.{◌≡◌, arith}
+use Rattle.std.proofs.Common.{arith}
 use Rattle.fault_scan.specs.Seen.{fields_in}
 use Rattle.fault_scan.proofs.Keys.{only_none}
 use Rattle.fault_scan.proofs.Slots.{fields_more, empty_more}

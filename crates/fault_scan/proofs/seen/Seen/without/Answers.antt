@@ -1,6 +1,5 @@
-use Rattle.std.proofs.Common.{◌≡◌, ◌<◌, sym, ap, ap₂, ◌∙◌, subst, arith}
+use Rattle.std.proofs.Common.{◌≡◌, ◌<◌, sym, ap, ap₂, ◌∙◌, subst}
 use Rattle.std.specs.Prelude.{◌||◌, ◌&&◌, not, is_some}
-use Rattle.std.specs.List.{remove}
 use Rattle.serde_json.specs.Find.{get_member}
 use Rattle.raw_document.specs.Words.{word}
 use Rattle.fault_scan.specs.Seen.{SlotsAre, fields_in, only}
