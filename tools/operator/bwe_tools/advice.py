@@ -7,7 +7,8 @@ from collections import defaultdict
 from collections.abc import Iterable, Iterator
 from dataclasses import dataclass
 
-from bwe_tools.raw import Place, RawDocument, RawFunction, RawPath
+from bwe_tools.raw import Place, RawDocument, RawFunction, RawGroup, RawJob, RawPath, RawUser
+from bwe_tools.rules import tasks
 from bwe_tools.sound import NAME_OF
 
 # The rates of common lines, in kb/s.
@@ -22,6 +23,8 @@ class Advice:
 
 def unreported_tasks(raw: RawDocument) -> Iterator[Advice]:
     reported = {report["task"] for report in raw["script"] if "task" in report}
+    if reported.issuperset(map(NAME_OF, tasks(raw))):
+        return
     for group_at, group in enumerate(raw["groups"]):
         for user_at, user in enumerate(group["users"]):
             for job_at, job in enumerate(user["jobs"]):
@@ -113,16 +116,9 @@ def steps_below_a_function(raw: RawDocument) -> Iterator[Advice]:
     for at, group in enumerate(raw["groups"]):
         for user_at, user in enumerate(group["users"]):
             for job_at, job in enumerate(user["jobs"]):
-                above = next(
-                    (
-                        f'{kind} "{node["name"]}"'
-                        for kind, node in (("job", job), ("user", user), ("group", group))
-                        if "function" in node
-                    ),
-                    None,
-                )
-                step = steepest_step(job["task"])
-                if above and step:
+                above = function_above(group, user, job)
+                step = steepest_step(job["task"]) if above else None
+                if step:
                     place = ("groups", at, "users", user_at, "jobs", job_at, "task")
                     sentence = (
                         f'the task function of job "{job["name"]}" rises from {step[0]} to'
@@ -130,6 +126,15 @@ def steps_below_a_function(raw: RawDocument) -> Iterator[Advice]:
                         " tasks nothing in between"
                     )
                     yield Advice(place, sentence)
+
+
+def function_above(group: RawGroup, user: RawUser, job: RawJob) -> str | None:
+    """Whose function stands next above that of a job's tasks."""
+    if "function" in job:
+        return f'job "{job["name"]}"'
+    if "function" in user:
+        return f'user "{user["name"]}"'
+    return f'group "{group["name"]}"' if "function" in group else None
 
 
 def steepest_step(points: RawFunction) -> tuple[int, int] | None:

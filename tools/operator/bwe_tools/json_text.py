@@ -24,14 +24,14 @@ TEXT = re.compile(r'"(?:[^"\\]|\\.)*"', re.DOTALL)
 PIECE, PARTS, LONG = 1 << 20, 1 << 16, 4_000_000
 NO_BRACKET = bytes(set(range(256)) - set(b"[]{}"))
 NO_MARK = bytes(set(range(256)) - set(b'[]{}"'))
-# How a number with a sign begins behind what may stand before a value.
-SIGNED = tuple(before + "-" for before in ":,[ \t\n\r")
-# A number that Python reads as another whole number than bwe has a sign or is so long.
-DIGITS_AS_0 = bytes(48 if 48 <= byte < 58 else byte for byte in range(256))
-LONG_NUMBER = b"0" * 20
+# A number that Python reads as another whole number than bwe has a sign or is so long. They are
+# looked for where each digit stands as 0, and what may stand before a value as a colon.
+ALIKE = bytes.maketrans(b"123456789,[ \t\n\r", b"0" * 9 + b":" * 6)
+SIGNED_NUMBER, LONG_NUMBER = b":-", b"0" * 20
 # What opens a level counts 1, and what closes one -1.
 LEVELS = [(byte in b"[{") - (byte in b"]}") for byte in range(256)]
 BRACKET, KEYS = re.compile(r"[\[\]{}]"), json.JSONDecoder()
+TEXTS = frozenset((str,))
 ESCAPE = re.compile(r"\\(?:u([0-9a-fA-F]{4})|.)", re.DOTALL)
 
 
@@ -136,7 +136,7 @@ def one_of_each() -> Callable[[dict[str, Any]], dict[str, Any]]:
                 found[key] = keep(name, name)
         elif "weight" in found:
             links = found.get("links")
-            if type(links) is list and all(type(link) is str for link in links):
+            if type(links) is list and TEXTS.issuperset(map(type, links)):
                 found["links"] = list(map(keep, links, links))
         return found
 
@@ -194,17 +194,23 @@ def is_plain(text: str) -> bool:
     well and at most `MOST_LEVELS` deep.
     """
     brackets = plain_brackets(text)
-    if brackets is None or text.startswith("-") or any(sign in text for sign in SIGNED):
+    if brackets is None or text.startswith("-"):
         return False
-    if LONG_NUMBER in text.encode().translate(DIGITS_AS_0):
-        return False
+    alike = text.encode().translate(ALIKE)
+    return SIGNED_NUMBER not in alike and LONG_NUMBER not in alike and not unpaired(brackets)
+
+
+def unpaired(brackets: bytes) -> bytes:
+    """What is left of brackets without those that close one of them; all is left of pairs that are
+    nested too deep.
+    """
     # A round takes away the innermost lists and objects, which are at most two levels.
     for _ in range(MOST_LEVELS // 2):
         left = brackets.replace(b"[]", b"").replace(b"{}", b"")
-        if not left or len(left) == len(brackets):
-            return not left
+        if len(left) == len(brackets):
+            break
         brackets = left
-    return False
+    return brackets
 
 
 def look_outside(text: str) -> bool:
@@ -215,7 +221,7 @@ def look_outside(text: str) -> bool:
     for piece in outside_of_texts(text):
         outside = piece.encode()
         is_doubtful = (
-            is_doubtful or b"-" in outside or LONG_NUMBER in outside.translate(DIGITS_AS_0)
+            is_doubtful or b"-" in outside or LONG_NUMBER in outside.translate(ALIKE)
         )
         steps = map(LEVELS.__getitem__, outside.translate(None, NO_BRACKET))
         levels = list(accumulate(steps, initial=level))
@@ -333,8 +339,13 @@ def skipped_by_brackets(text: str) -> Skip:
         level = 0
         for start in range(at, len(text), PIECE):
             piece = text[start : start + PIECE]
-            steps = map(LEVELS.__getitem__, piece.encode().translate(None, NO_BRACKET))
-            levels = list(accumulate(steps, initial=level))[1:]
+            brackets = piece.encode().translate(None, NO_BRACKET)
+            left = unpaired(brackets)
+            closing = left.count(b"]") + left.count(b"}")
+            if closing < level:
+                level += len(left) - 2 * closing
+                continue
+            levels = list(accumulate(map(LEVELS.__getitem__, brackets), initial=level))[1:]
             if 0 in levels:
                 ends = islice(BRACKET.finditer(piece), levels.index(0), None)
                 return start + next(ends).end()

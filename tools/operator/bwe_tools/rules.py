@@ -26,7 +26,15 @@ from bwe_tools.raw import (
     RawTask,
     RawUser,
 )
-from bwe_tools.sound import AT_ONCE, DEMAND_OF, FEW, NAME_OF, REPORTER_OF
+from bwe_tools.sound import (
+    AT_ONCE,
+    DEMAND_OF,
+    FEW,
+    NAME_OF,
+    REPORTER_OF,
+    TASKS_OF,
+    functions_of,
+)
 
 MOST_SHARE = 1_000_000_000
 MOST_POINTS, MOST_PATHS, MOST_PATH_LINKS, MOST_WEIGHT = 256, 16, 32, 1_000
@@ -95,6 +103,10 @@ def odd_names(names: list[str]) -> frozenset[str]:
     return frozenset((*twice, *(name for name in names if name not in plain)))
 
 
+def have_own_names(nodes: list[RawUser] | list[RawJob]) -> bool:
+    return len(set(map(NAME_OF, nodes))) == len(nodes)
+
+
 class Walk:
     """The names and numbers of a document, in the order of the walk.
 
@@ -129,8 +141,7 @@ class Walk:
             yield from self._thing(place, link, "link")
             if "owner" in link:
                 yield from self._name((*place, "owner"), link["owner"], "reporter")
-        for at, group in entries(raw["groups"]):
-            yield from self._group(("groups", at), group)
+        yield from self._groups()
         for at, name in entries(raw["reporters"]):
             if name in self.odd["reporter"]:
                 yield Name(("reporters", at), name, "reporter", scope=("reporters",))
@@ -181,6 +192,30 @@ class Walk:
             if not hints.NAME.match(site):
                 yield Name((*place, end), site, "site")
 
+    def _groups(self) -> Iterator[Value]:
+        groups = self.raw["groups"]
+        for start in range(0, len(groups), AT_ONCE):
+            piece = groups[start : start + AT_ONCE]
+            if not self._are_plain([group for _, group in entries(piece)]):
+                for at, group in entries(piece):
+                    yield from self._group(("groups", start + at), group)
+
+    def _are_plain(self, groups: list[RawGroup]) -> bool:
+        """A quick yes for groups without a value that a refusal can be of."""
+        users = [user for group in groups for user in group["users"]]
+        jobs = [job for user in users for job in user["jobs"]]
+        names = [site for group in groups for site in (group["from"], group["to"])]
+        names += [*map(NAME_OF, users), *map(NAME_OF, jobs)]
+        return (
+            len(names) > FEW
+            and are_plain_names(names)
+            and self.odd["group"].isdisjoint(map(NAME_OF, groups))
+            and all(have_own_names(group["users"]) for group in groups if len(group["users"]) > 1)
+            and all(have_own_names(user["jobs"]) for user in users if len(user["jobs"]) > 1)
+            and self.plain["link"].issuperset(chain.from_iterable(links_of_paths(groups)))
+            and self._are_plain_tasks([task for job in jobs for task in job["tasks"]])
+        )
+
     def _group(self, place: Place, group: RawGroup) -> Iterator[Value]:
         yield from self._thing(place, group, "group")
         for at, paths in enumerate(group["paths"]):
@@ -202,13 +237,17 @@ class Walk:
                     yield Name((*job_place, "name"), job["name"], "job", scope=user_place)
                 yield from self._tasks((*job_place, "tasks"), job["tasks"])
 
+    def _are_plain_tasks(self, listed: list[RawTask]) -> bool:
+        """The same for tasks."""
+        return (
+            self.odd["task"].isdisjoint(map(NAME_OF, listed))
+            and self.plain["reporter"].issuperset(map(REPORTER_OF, listed))
+            and all(1 <= task["weight"] <= MOST_WEIGHT for task in listed if "weight" in task)
+        )
+
     def _tasks(self, place: Place, listed: list[RawTask]) -> Iterator[Value]:
         odd, reporters = self.odd["task"], self.plain["reporter"]
-        if (
-            odd.isdisjoint(map(NAME_OF, listed))
-            and reporters.issuperset(map(REPORTER_OF, listed))
-            and all(1 <= task["weight"] <= MOST_WEIGHT for task in listed if "weight" in task)
-        ):
+        if self._are_plain_tasks(listed):
             return
         for at, task in enumerate(listed):
             if (
@@ -260,31 +299,32 @@ def functions(raw: Looked) -> Iterator[tuple[Place, RawFunction]]:
     """All functions with their places, in the order of the walk."""
     for at, group in entries(raw["groups"]):
         place: Place = ("groups", at)
-        yield from own_function(place, group)
+        if "function" in group:
+            yield (*place, "function"), group["function"]
         for user_at, user in enumerate(group["users"]):
             user_place = (*place, "users", user_at)
-            yield from own_function(user_place, user)
+            if "function" in user:
+                yield (*user_place, "function"), user["function"]
             for job_at, job in enumerate(user["jobs"]):
                 job_place = (*user_place, "jobs", job_at)
-                yield from own_function(job_place, job)
+                if "function" in job:
+                    yield (*job_place, "function"), job["function"]
                 yield (*job_place, "task"), job["task"]
 
 
-def own_function(
-    place: Place, node: RawGroup | RawUser | RawJob
-) -> Iterator[tuple[Place, RawFunction]]:
-    if "function" in node:
-        yield (*place, "function"), node["function"]
+def functions_alone(raw: Looked) -> Iterator[RawFunction]:
+    """The same without their places, which take longer to make than to look at most functions."""
+    return functions_of(group for _, group in entries(raw["groups"]))
+
+
+def links_of_paths(groups: Iterable[RawGroup]) -> Iterator[list[str]]:
+    """The links of each path."""
+    return (path["links"] for group in groups for paths in group["paths"] for path in paths)
 
 
 def hops(raw: Looked) -> int:
     """How many links there are over all paths."""
-    return sum(
-        len(path["links"])
-        for _, group in entries(raw["groups"])
-        for paths in group["paths"]
-        for path in paths
-    )
+    return sum(map(len, links_of_paths(group for _, group in entries(raw["groups"]))))
 
 
 def tasks(raw: Looked) -> Iterator[RawTask]:
@@ -330,7 +370,8 @@ def counts_of(raw: Looked) -> tuple[int, ...]:
 
 def counts(walk: Walk) -> Iterator[Fault]:
     raw, most_of = walk.raw, walk.limits
-    long = [found for found in functions(raw) if len(found[1]) > MOST_POINTS]
+    is_long = max(map(len, functions_alone(raw)), default=0) > MOST_POINTS
+    long = [found for found in functions(raw) if len(found[1]) > MOST_POINTS] if is_long else []
     found: list[tuple[str, Place, int, int]] = [
         ("groups", ("groups",), len(raw["groups"]), most_of.groups),
         *(("points", place, len(points), MOST_POINTS) for place, points in long),
@@ -399,8 +440,11 @@ def unknown_names(walk: Walk) -> Iterator[Fault]:
 
 
 def bad_functions(walk: Walk) -> Iterator[Fault]:
+    top = walk.raw["top"]
+    if all(bad_point(points, top) is None for points in functions_alone(walk.raw)):
+        return
     for place, points in functions(walk.raw):
-        found = bad_point(points, walk.raw["top"])
+        found = bad_point(points, top)
         if found is not None:
             point, cause, sentence = found
             where = (*place, point) if points else place
@@ -500,7 +544,7 @@ def bad_links(group: RawGroup, path: RawPath, ends: Ends) -> PathFault | None:
         return PathFault(5, sentence, steps=("weight",))
     if not links:
         return PathFault(6, "a path has at least one link", steps=("links",))
-    if not all(link in ends for link in links):
+    if not all(map(ends.__contains__, links)):
         return None
     site = group["from"]
     for at, link in enumerate(links):
@@ -529,18 +573,30 @@ def link_from(site: str, target: str, other: str, ends: Ends) -> str | None:
 
 
 def bad_tree(walk: Walk) -> Iterator[Fault]:
-    number = 0
-    for at, group in entries(walk.raw["groups"]):
-        for place, children in nodes_of(at, group):
-            if not children:
-                sentence = f'the list "{place[-1]}" is empty, and has to have at least one entry'
-                yield Fault(place, sentence).refused(f"10 tree cause 1 node {number}")
-            number += 1
+    if not all(all_have_children(group) for _, group in entries(walk.raw["groups"])):
+        yield from empty_nodes(walk.raw)
     count, most = sum(1 for _ in tasks(walk.raw)), walk.limits.tasks
     if count > most:
         sentence = f"{count:,} tasks are more than {most:,}"
         meant = meant_by_more(walk, count, limits.OF_4.tasks)
         yield Fault(("groups",), sentence, meant).refused("10 tree cause 2 node 0")
+
+
+def all_have_children(group: RawGroup) -> bool:
+    """A quick yes for a group all whose nodes have children."""
+    return bool(group["users"]) and all(
+        user["jobs"] and all(map(TASKS_OF, user["jobs"])) for user in group["users"]
+    )
+
+
+def empty_nodes(raw: Looked) -> Iterator[Fault]:
+    number = 0
+    for at, group in entries(raw["groups"]):
+        for place, children in nodes_of(at, group):
+            if not children:
+                sentence = f'the list "{place[-1]}" is empty, and has to have at least one entry'
+                yield Fault(place, sentence).refused(f"10 tree cause 1 node {number}")
+            number += 1
 
 
 def nodes_of(at: int, group: RawGroup) -> Iterator[tuple[Place, Sequence[object]]]:

@@ -25,12 +25,14 @@ DEMAND = frozenset(("reporter", "task", "demand"))
 CAPACITY = frozenset(("reporter", "link", "capacity"))
 CLOSING = frozenset(("link", "share"))
 NONE: frozenset[str] = frozenset()
-# Many tasks or reports are looked at together.
-FEW, AT_ONCE = 8, 4_096
+# Many groups, tasks, reports, functions or paths are looked at together.
+FEW, AT_ONCE = 8, 1_024
 NAME_OF, REPORTER_OF = itemgetter("name"), itemgetter("reporter")
+WEIGHT_OF, LINKS_OF, TASKS_OF = itemgetter("weight"), itemgetter("links"), itemgetter("tasks")
 DEMAND_OF = itemgetter("reporter", "task", "demand")
 Members = dict[str, Any]  # an object of JSON whose values were not looked at
 FUNCTION = frozenset(("function",))
+ONLY_TEXTS, ONLY_WHOLES, ONLY_LISTS = frozenset((str,)), frozenset((int,)), frozenset((list,))
 
 
 def has(
@@ -44,7 +46,7 @@ def has(
 
 
 def are_texts(*values: object) -> bool:
-    return all(type(value) is str for value in values)
+    return ONLY_TEXTS.issuperset(map(type, values))
 
 
 def is_whole(value: object) -> TypeGuard[int]:
@@ -74,6 +76,25 @@ def tasks_of(groups: list[Members]) -> Iterator[Any]:
     return chain.from_iterable(
         job["tasks"] for group in groups for user in group["users"] for job in user["jobs"]
     )
+
+
+def functions_of(groups: Iterable[Any]) -> Iterator[Any]:
+    """All that stands for functions in groups."""
+    for group in groups:
+        if "function" in group:
+            yield group["function"]
+        for user in group["users"]:
+            if "function" in user:
+                yield user["function"]
+            for job in user["jobs"]:
+                if "function" in job:
+                    yield job["function"]
+                yield job["task"]
+
+
+def paths_of(groups: list[Members]) -> Iterator[Any]:
+    """All that stands in the path groups of groups."""
+    return chain.from_iterable(paths for group in groups for paths in group["paths"])
 
 
 def pieces_of(entries: Iterator[Any]) -> Iterator[list[Any]]:
@@ -107,10 +128,27 @@ def are_plain_demands(reports: list[Any]) -> bool:
     return kinds == {str} and set(map(type, amounts)) == {int}
 
 
-def is_function(value: object) -> bool:
-    return is_list(value) and all(
-        type(point) is list and len(point) == 2 and type(point[0]) is type(point[1]) is int
-        for point in value
+def are_functions(values: list[Any]) -> bool:
+    """Whether all are functions, whose points may be at fault."""
+    if not ONLY_LISTS.issuperset(map(type, values)):
+        return False
+    points = list(chain.from_iterable(values))
+    return (
+        ONLY_LISTS.issuperset(map(type, points))
+        and set(map(len, points)) <= {2}
+        and ONLY_WHOLES.issuperset(map(type, chain.from_iterable(points)))
+    )
+
+
+def are_paths(values: list[Any]) -> bool:
+    """Whether all are paths."""
+    if not all(has(path, PATH) for path in values):
+        return False
+    links = list(map(LINKS_OF, values))
+    return (
+        ONLY_WHOLES.issuperset(map(type, map(WEIGHT_OF, values)))
+        and ONLY_LISTS.issuperset(map(type, links))
+        and are_texts(*chain.from_iterable(links))
     )
 
 
@@ -131,39 +169,33 @@ class Shape:
         )
 
     def group(self, group: object) -> bool:
-        return self.frame(group) and self.are_tasks(tasks_of([group]))
+        return self.groups([group])
 
     def groups(self, groups: list[Any]) -> bool:
         """Whether all are groups."""
-        return all(map(self.frame, groups)) and self.are_tasks(tasks_of(groups))
+        return (
+            all(map(self.frame, groups))
+            and all(map(are_functions, pieces_of(functions_of(groups))))
+            and all(map(are_paths, pieces_of(paths_of(groups))))
+            and self.are_tasks(tasks_of(groups))
+        )
 
-    def frame(self, group: object) -> TypeGuard[Members]:
-        """Whether it is a group, but for its tasks."""
+    def frame(self, group: object) -> bool:
+        """Whether it is a group, but for its paths, functions and tasks."""
         return (
             has(group, GROUP, FUNCTION)
             and are_texts(group["name"], group["from"], group["to"])
-            and is_function(group.get("function", []))
             and is_list(group["paths"])
-            and all(is_list(paths) and all(map(self.path, paths)) for paths in group["paths"])
+            and ONLY_LISTS.issuperset(map(type, group["paths"]))
             and is_list(group["users"])
             and all(map(self.user, group["users"]))
         )
 
-    @staticmethod
-    def path(path: object) -> bool:
-        return (
-            has(path, PATH)
-            and is_whole(path["weight"])
-            and is_list(path["links"])
-            and are_texts(*path["links"])
-        )
-
     def user(self, user: object) -> bool:
-        """Whether it is a user, but for its tasks."""
+        """Whether it is a user, but for its functions and tasks."""
         return (
             has(user, USER, FUNCTION)
-            and are_texts(user["name"])
-            and is_function(user.get("function", []))
+            and type(user["name"]) is str
             and is_list(user["jobs"])
             and all(map(self.job, user["jobs"]))
         )
@@ -185,14 +217,11 @@ class Shape:
             for piece in pieces_of(iter(script))
         )
 
-    def job(self, job: object) -> bool:
-        """Whether it is a job, but for its tasks."""
+    @staticmethod
+    def job(job: object) -> bool:
+        """Whether it is a job, but for its functions and tasks."""
         return (
-            has(job, JOB, FUNCTION)
-            and are_texts(job["name"])
-            and is_function(job.get("function", []))
-            and is_function(job["task"])
-            and is_list(job["tasks"])
+            has(job, JOB, FUNCTION) and type(job["name"]) is str and is_list(job["tasks"])
         )
 
     def task(self, task: object) -> bool:

@@ -42,10 +42,13 @@ def command(file: str, is_all: bool) -> None:
     Example: bwe-tools lint examples/maintenance.json
     """
     with json_text.collector_at_rest():
-        lint(file, is_all)
+        status = lint(file, is_all)
+    # An exit from within would keep the document, and the collector would search it.
+    sys.exit(status)
 
 
-def lint(file: str, is_all: bool) -> None:
+def lint(file: str, is_all: bool) -> int:
+    """Prints what is to be said of a document, and gives the exit status."""
     text, size = read_text(file)
     progress = Stages(size)
     progress.stage("reading")
@@ -63,16 +66,16 @@ def lint(file: str, is_all: bool) -> None:
     if first is not None:
         progress.end()
         tell_faults(file, json_text.Places(text), first, found, None if is_all else MOST_FAULTS)
-        sys.exit(2)
+        return 2
     progress.stage("looking for what was likely not meant")
     kinds = advice.warnings(raw)
     progress.end()
     if not any(kinds):
-        return
+        return 0
     places = json_text.Places(text)
     for warnings in kinds:
         tell_warnings(file, places, warnings, len(warnings) if is_all else MOST_OF_A_KIND)
-    sys.exit(1)
+    return 1
 
 
 def read_text(file: str) -> tuple[str, int]:
