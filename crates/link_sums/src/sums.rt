@@ -66,6 +66,14 @@ impl LinkSums {
         self.loads[link as usize]
     }
 
+    /// The load of each link, by its number.
+    pub fn into_loads(self) -> Vec<u64>
+        ensures { result.items ≡ self.loads }
+    {
+        let LinkSums { loads, .. } = self;
+        loads
+    }
+
     /// The lowest link that is over, `None` where every link fits ("Load rule",
     /// docs/DEFINITIONS.md).
     ///
