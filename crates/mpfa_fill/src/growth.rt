@@ -454,6 +454,7 @@ impl<'a, V: GroupValues> Growth<'a, V> {
             closings: self.closings.into_list(),
             amounts,
             shares,
+            loads: self.sums.into_loads(),
         })
     }
 }

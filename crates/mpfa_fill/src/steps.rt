@@ -12,15 +12,17 @@ use path_groups::PathPlan;
 use std::alloc::Global;
 use wan_topology::Topology;
 
-/// What a filling gives: the closings in their order, the amounts by group and place, and each
-/// group's stop share.
+/// What a filling gives: the closings in their order, the amounts by group and place, each group's
+/// stop share, and the load of each link.
 ///
-/// Amounts are kilobits per second. A place of a group is the number of a path group in its list.
+/// Amounts and loads are kilobits per second. A place of a group is the number of a path group in
+/// its list.
 #[derive(Drop)]
 pub struct Filling {
     pub closings: Vec<Closing>,
     pub amounts: Vec<Vec<u64>>,
     pub shares: Vec<u64>,
+    pub loads: Vec<u64>,
 }
 
 /// The filling of the values over the paths of the plan, between the capacities of the topology
