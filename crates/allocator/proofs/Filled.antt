@@ -4,19 +4,19 @@ use Rattle.std.proofs.lemmas.List.FromFn.{fill_by_all, length-map-range_with_len
 use Rattle.std.proofs.lemmas.List.{length-map, get_or-map, reverse-reverse}
 use Rattle.bwe_specs.specs.declared.limits.TheConstants.{MAX_TOTAL}
 use Rattle.bwe_specs.specs.Bounded.{sum_below}
-use Rattle.bwe_specs.specs.Paths.{path_group_at, path_group_count, link_load, load_on}
+use Rattle.bwe_specs.specs.Paths.{path_group_at, path_group_count}
 use Rattle.bwe_specs.specs.Filling.{Wan, filling, group_stop, group_amount, closed_by}
 use Rattle.bwe_specs.specs.Reports.{numbers}
 use Rattle.bwe_specs.specs.Values.{NeverFalls}
 use Rattle.bwe_specs.specs.Allocation.{GroupLine, PlaceLine, group_line}
-use Rattle.bwe_specs.proofs.Bounds.{sum_below-same, sum_below-term}
+use Rattle.bwe_specs.proofs.Bounds.{sum_below-term}
 use Rattle.bwe_specs.proofs.Certificates.{filling-right, filling-amounts, last_share-le}
 use Rattle.bwe_specs.proofs.Totals.{group_amount-le, total, total-le}
 use Rattle.bwe_specs.proofs.Sums.{sum_by-numbers}
 use Rattle.bwe_specs.specs.Lists.{lists_of}
-use Rattle.link_sums.specs.Sums.{AreRowsOf, amount_at, total_of}
 use Rattle.mpfa_fill.specs.declared.steps.Filling.{Filling}
 use Rattle.mpfa_fill.specs.Filling.{IsFilling}
+use Rattle.mpfa_fill.specs.Rows.{amount_at, AreShaped}
 use Rattle.allocator.specs.Lines.{HasRows, line_in, line_of_place}
 use Rattle.limit_table.proofs.Equal.{line_parts}
 
@@ -79,34 +79,19 @@ module _ (wan : Wan) (filled : Filling) (is : IsFilling wan filled) where
       ap (λ rows. slice_index_or rows group []) is.amounts
       ∙ get_or-map-range_with_len (λ group. map ((filling wan).amounts group) (numbers (path_group_count wan.groups group))) 0 (length wan.groups) group group [] lt (zero-add group)
 
-  pub shaped : AreRowsOf wan.groups rows
+  shaped : AreShaped wan.groups filled.amounts.items
   shaped = record {
     each_group = ap length is.amounts ∙ length-map-range_with_len _ 0 (length wan.groups);
     each_place = λ group lt. ap length (row-is group lt) ∙ length-map-range_with_len ((filling wan).amounts group) 0 (path_group_count wan.groups group);
   }
 
-  pub amount-is : (group place : ℕ) → group < length wan.groups → place < path_group_count wan.groups group → amount_at rows group place ≡ (filling wan).amounts group place
+  amount-is : (group place : ℕ) → group < length wan.groups → place < path_group_count wan.groups group → amount_at rows group place ≡ (filling wan).amounts group place
   amount-is group place lt within =
       ap (λ row. slice_index row place) (row-is group lt)
       ∙ get_or-map-range_with_len ((filling wan).amounts group) 0 (path_group_count wan.groups group) place place 0 within (zero-add place)
 
   row-sum : (group : ℕ) → group < length wan.groups → sum (slice_index_or rows group []) ≡ group_amount wan (filling wan).amounts group
   row-sum group lt = ap sum (row-is group lt) ∙ sum-numbers ((filling wan).amounts group) (path_group_count wan.groups group)
-
-  pub total-is : total_of wan.groups rows ≡ total wan (filling wan).amounts
-  total-is =
-      sum_below-same (length wan.groups) _ _ (λ group lt. sum_below-same (path_group_count wan.groups group) _ _ (λ place within. amount-is group place lt within))
-
-  pub loads-are : map (link_load wan.groups (amount_at rows)) (numbers (length wan.capacities)) ≡ map (link_load wan.groups (filling wan).amounts) (numbers (length wan.capacities))
-  unfolding link_load
-  loads-are =
-      map-numbers 0 (link_load wan.groups (amount_at rows)) (link_load wan.groups (filling wan).amounts) (length wan.capacities)
-      (λ link lt. load-is link)
-    where
-      load-is : (link : ℕ) → link_load wan.groups (amount_at rows) link ≡ link_load wan.groups (filling wan).amounts link
-      load-is link =
-          sum_below-same (length wan.groups) _ _ (λ group lt. sum_below-same (path_group_count wan.groups group) _ _
-          (λ place within. ap (load_on (path_group_at wan.groups group place) link) (amount-is group place lt within)))
 
   line-is : (group : ℕ) → group < length wan.groups → line_in wan.groups filled group ≡ group_line wan (filling wan) group
   line-is group lt =

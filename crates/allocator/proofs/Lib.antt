@@ -4,7 +4,6 @@ pub mod After
 pub mod Rows
 pub mod Filled
 pub mod Fitted
-pub mod Put
 pub mod Made
 pub mod Pieces
 pub mod Lawful

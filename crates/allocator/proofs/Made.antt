@@ -11,8 +11,6 @@ use Rattle.bwe_specs.specs.Tree.{cluster_limits}
 use Rattle.bwe_specs.specs.Values.{AreValues, NeverFalls}
 use Rattle.bwe_specs.specs.Allocation.{GroupLine, group_line, limits_of}
 use Rattle.bwe_specs.proofs.Sums.{sum_by-numbers}
-use Rattle.bwe_specs.specs.Lists.{lists_of}
-use Rattle.link_sums.specs.Sums.{AreRowsOf, amount_at, total_of}
 use Rattle.limit_table.specs.Tables.{IsTable}
 use Rattle.limit_table.proofs.Followed.{table_parts}
 use Rattle.mpfa_fill.specs.declared.steps.Filling.{Filling}
@@ -24,7 +22,7 @@ use Rattle.allocator.specs.Lines.{HasRows, line_in}
 use Rattle.allocator.specs.Reported.{Reported}
 use Rattle.allocator.specs.Allocators.{IsFitted, plan_by, table_by}
 use Rattle.allocator.specs.Tables.{wan_by}
-use Rattle.allocator.proofs.Filled.{amounts-of_lines, amounts-total, amount-at_most, shaped, total-is, loads-are, lines-are, has_rows}
+use Rattle.allocator.proofs.Filled.{amounts-of_lines, amounts-total, amount-at_most, lines-are, has_rows}
 
 module _ (reported : Reported) (groups : List PathGroups) (fitted : IsFitted reported groups) (values : AreValues (length reported.tree.clusters) reported.tree.top (value_in reported.tree)) where
   abbrev wan : Wan
@@ -40,12 +38,6 @@ module _ (reported : Reported) (groups : List PathGroups) (fitted : IsFitted rep
   module _ (filled : Filling) (is : IsFilling (wan_by reported groups) filled) where
     pub made-rows : HasRows groups filled
     made-rows = has_rows wan filled is never bound
-
-    pub made-shaped : AreRowsOf groups (lists_of filled.amounts.items)
-    made-shaped = shaped wan filled is
-
-    pub made-total : total_of groups (lists_of filled.amounts.items) ≤ MAX_TOTAL
-    made-total = subst (λ n. n ≤ MAX_TOTAL) (sym (total-is wan filled is)) (amounts-total wan never bound)
 
     module _ (lines : List GroupLine) (are : lines ≡ map (line_in groups filled) (numbers (length groups))) where
       made-lines : lines ≡ map (group_line wan (filling wan)) (numbers (length groups))
@@ -66,7 +58,7 @@ module _ (reported : Reported) (groups : List PathGroups) (fitted : IsFitted rep
 
       module _ (limits loads : List ℕ) (closings : List Closing)
           (limits-are : limits ≡ flat_map (λ given. cluster_limits reported.tree.top (demand_in reported.tree) given.0 given.1) (zip reported.tree.clusters (map (λ line. line.amount) lines)))
-          (loads-is : loads ≡ map (link_load groups (amount_at (lists_of filled.amounts.items))) (numbers (length reported.network.capacities)))
+          (loads-are : loads ≡ filled.loads.items)
           (closings-are : closings ≡ filled.closings.items) where
         made-limits : limits ≡ limits_of (plan_by reported groups) (demand_in reported.tree) wan (filling wan)
         made-limits =
@@ -79,7 +71,7 @@ module _ (reported : Reported) (groups : List PathGroups) (fitted : IsFitted rep
             ap (λ limits. table_parts reported.prefix limits lines loads closings) made-limits
             ∙ (ap (λ lines. table_parts reported.prefix (limits_of (plan_by reported groups) (demand_in reported.tree) wan (filling wan)) lines loads closings) made-lines
             ∙ ap₂ (table_parts reported.prefix (limits_of (plan_by reported groups) (demand_in reported.tree) wan (filling wan)) (map (group_line wan (filling wan)) (numbers (length groups))))
-            (loads-is ∙ loads-are wan filled is) (closings-are ∙ is.closings))
+            (loads-are ∙ is.loads) (closings-are ∙ is.closings))
 
         -- and it is a table: its total is bounded, and its numbers fit
         pub made-is_table : IsTree reported.tree → IsNetwork reported.network → IsTable (table_parts reported.prefix limits lines loads closings)
@@ -91,5 +83,5 @@ module _ (reported : Reported) (groups : List PathGroups) (fitted : IsFitted rep
           tasks = omega (arith, ap length made-limits, length-limits_of (plan_by reported groups) (demand_in reported.tree) wan (filling wan), fitted.tasks, tree.few);
           groups = omega (arith, made-count, fitted.clusters, fitted.plan.few_groups);
           links =
-              omega (arith, ap length loads-is, length-map-range_with_len (link_load groups (amount_at (lists_of filled.amounts.items))) 0 (length reported.network.capacities), network.few_links);
+              omega (arith, ap length (loads-are ∙ is.loads), length-map-range_with_len (link_load groups (filling wan).amounts) 0 (length reported.network.capacities), network.few_links);
         }

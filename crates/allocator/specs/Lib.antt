@@ -4,7 +4,6 @@ pub mod Reported
 pub mod Values
 pub mod Frames
 pub mod Allocators
-pub mod Loads
 pub mod Tables
 pub mod FrameLaws
 pub mod Laws

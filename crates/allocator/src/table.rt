@@ -13,7 +13,6 @@ ghost use Rattle.allocator.specs.Lines.{line_in};
 ghost use Rattle.allocator.specs.Tables.{wan_by};
 
 use crate::line::group_lines;
-use crate::loads::loads_of;
 use crate::reported::Reported;
 use crate::values::TreeValues;
 use bwe_specs::OutOfMemory;
@@ -159,18 +158,17 @@ fn table_of_filling(
     let tree = reported.tree();
     let groups = group_lines(alloc, plan, &filling)?;
     let limits = limits_of(alloc, tree, &groups)?;
-    table_of_limits(alloc, reported, plan, filling, groups, limits)
+    Ok(table_of_limits(reported, plan, filling, groups, limits))
 }
 
 // The same, once the rows of its groups and its limits are made.
 fn table_of_limits(
-    alloc: Global,
     reported: &Reported,
     plan: &PathPlan,
     filling: Filling,
     groups: Vec<GroupLine>,
     limits: Vec<u64>,
-) -> Result<LimitTable, OutOfMemory>
+) -> LimitTable
     requires fitted { IsFitted reported.now plan.now }
     requires filling { IsFilling (wan_by reported.now plan.now) filling }
     requires groups { groups.items
@@ -178,17 +176,16 @@ fn table_of_limits(
     requires limits { limits.items ≡ flat_map (λ given.
         cluster_limits reported.now.tree.top (demand_in reported.now.tree) given.0 given.1)
         (zip reported.now.tree.clusters (map (λ line. line.amount) groups.items)) }
-    ensures { IfOk result (λ table. table ≡ table_by reported.now plan.now) }
+    ensures { result ≡ table_by reported.now plan.now }
 {
-    let (_tree, topology) = (reported.tree(), reported.topology());
-    let loads = loads_of(alloc, topology, plan, &filling.amounts)?;
-    Ok(LimitTable {
+    let (_tree, _topology) = (reported.tree(), reported.topology());
+    LimitTable {
         prefix: reported.prefix(),
         limits,
         groups,
-        loads,
+        loads: filling.loads,
         closings: filling.closings,
-    })
+    }
 }
 
 /// The same table. Where the tree keeps values and limits, groups of which no demand has changed
@@ -224,7 +221,7 @@ fn remade_table(
     let groups = group_lines(alloc, plan, &filling)?;
     let amounts = amounts_of(alloc, &groups)?;
     let limits = reported.limits(alloc, &amounts)?;
-    table_of_limits(alloc, reported, plan, filling, groups, limits)
+    Ok(table_of_limits(reported, plan, filling, groups, limits))
 }
 
 // The filling under the demands and capacities that were reported last.

@@ -1,6 +1,5 @@
-use Rattle.std.proofs.Common.{◌≡◌, ◌∙◌, map, length, IfOk, ap, sym, subst}
+use Rattle.std.proofs.Common.{◌≡◌, ◌∙◌, map, length, ap, sym, subst}
 use Rattle.std.proofs.lemmas.List.{length-map}
-use Rattle.bwe_specs.specs.Allocation.{Table}
 use Rattle.allocator.specs.Allocators.{table_by}
 use Rattle.allocator.specs.Reported.{Reported}
 use Rattle.allocator.proofs.Made.{made-rows, made-count, made-within}
@@ -34,5 +33,5 @@ table_of_limits-requires-clause-limits c =
 
 pub returns-clause-table : goal.returns-clause-table
 returns-clause-table c =
-    subst (λ (reported : Reported). IfOk c.table_of_limits.result (λ (table : Table). table ≡ table_by reported c.args.plan.now))
+    subst (λ (reported : Reported). c.table_of_limits.result ≡ table_by reported c.args.plan.now)
     (c.in_ok-limits.ensures.same ∙ c.in_ok-filling.ensures.same) c.table_of_limits.ensures
