@@ -1,13 +1,16 @@
 -- Capacities that are lowered, and loads that are added, link by link.
 use Rattle.std.proofs.Common.{◌≡◌, ℕ, ◌+◌, ◌-◌, ◌<◌, ◌≤◌, List, length, map, set, get_or, slice_index, refl, sym, ap, ◌∙◌, subst, arith, inl, inr, get_or-set_same, get_or-set_other}
-use Rattle.std.proofs.lemmas.Bool.{cases_eq}
+use Rattle.std.proofs.lemmas.Bool.{cases_eq, cases_lt}
 use Rattle.std.proofs.lemmas.List.{length-set}
 use Rattle.std.proofs.lemmas.List.FromFn.{fill_by_all}
 use Rattle.bwe_specs.specs.Reports.{numbers}
 use Rattle.wan_topology.specs.Network.{Network}
 use Rattle.wan_topology.proofs.Networks.{same-network}
-use Rattle.allocator.proofs.Put.{ne_lt}
 use Rattle.path_groups.proofs.OtherCapacities.{with_capacities}
+
+-- below the next and not there
+ne_lt : (i n : ℕ) → i < n + 1 → (i ≡ n → ⊥) → i < n
+ne_lt i n lt apart = elim (cases_lt i n) [ inl under ↦ under | inr over ↦ absurd (apart (omega arith)) ]
 
 -- each link below one has its capacity less a load, each other has its capacity
 pub record IsLowered (old new : Network) (loads : List ℕ) (link : ℕ) : Type 0 where

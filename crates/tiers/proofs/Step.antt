@@ -2,12 +2,10 @@
 use Rattle.std.proofs.Common.{◌≡◌, ℕ, ◌+◌, ◌-◌, ◌<◌, ◌≤◌, ◌^◌, List, [], length, map, replicate, slice_index, sym, ap, ◌∙◌, subst, arith}
 use Rattle.bwe_specs.specs.declared.limits.TheConstants.{MAX_TOTAL}
 use Rattle.bwe_specs.specs.Bounded.{sum_below}
-use Rattle.bwe_specs.specs.Paths.{PathGroups, link_load}
+use Rattle.bwe_specs.specs.Paths.{PathGroups}
 use Rattle.bwe_specs.specs.Filling.{Wan}
 use Rattle.bwe_specs.specs.Reports.{numbers}
 use Rattle.bwe_specs.specs.Values.{AreValues, NeverFalls}
-use Rattle.bwe_specs.specs.Lists.{lists_of}
-use Rattle.link_sums.specs.Sums.{AreRowsOf, amount_at, total_of}
 use Rattle.mpfa_fill.specs.declared.steps.Filling.{Filling}
 use Rattle.mpfa_fill.specs.Filling.{IsFilling}
 use Rattle.mpfa_fill.specs.GroupValues.{wan_of}
@@ -18,7 +16,7 @@ use Rattle.wan_topology.specs.Network.{Network, IsNetwork}
 use Rattle.tiers.specs.Tiered.{free_under, amounts_below, wan_of_tier}
 use Rattle.tiers.specs.Fillings.{Fillings, IsFilledTo, values_of_tier, wan_by, with_filling}
 use Rattle.tiers.proofs.Tiers.{free-none, length-free}
-use Rattle.tiers.proofs.Kept.{filled-none, filled-more, next-shaped, next-total, next-links, next-fit, next-free, take-links, take-fit}
+use Rattle.tiers.proofs.Kept.{filled-none, filled-more, next-links, next-fit, next-free, take-links, take-fit}
 
 module _ (tree : Tree) (initial : Network) (groups : List PathGroups) (tiers : List ℕ) (clusters : length tree.clusters ≡ length groups)
     (values : AreValues (length tree.clusters) tree.top (value_in tree)) where
@@ -60,62 +58,55 @@ module _ (tree : Tree) (initial : Network) (groups : List PathGroups) (tiers : L
       step-filling : IsFilling (wan_of_tier wan tiers tier) filled
       step-filling = subst (λ capacities. IsFilling (wan_of (values_of_tier tree tiers tier) groups capacities) filled) capacities-are filling
 
-      pub step-shaped : AreRowsOf groups (lists_of filled.amounts.items)
-      step-shaped = next-shaped wan tiers step-never step-bound tier filled step-filling
+      abbrev loads : List ℕ
+      loads = filled.loads.items
 
-      pub step-total : total_of groups (lists_of filled.amounts.items) ≤ MAX_TOTAL
-      step-total = next-total wan tiers step-never step-bound tier filled step-filling
+      pub step-lower-links : length loads ≡ length now.capacities
+      step-lower-links =
+          next-links wan tiers step-never step-bound tier filled step-filling ∙ sym (ap (λ (capacities : List ℕ). length capacities) capacities-are)
 
-      module _ (loads : List ℕ) (loads-is : loads ≡ map (link_load groups (amount_at (lists_of filled.amounts.items))) (numbers (length now.capacities))) where
-        loads-are : loads ≡ map (link_load groups (amount_at (lists_of filled.amounts.items))) (numbers (length free))
-        loads-are = loads-is ∙ ap (λ (capacities : List ℕ). map (link_load groups (amount_at (lists_of filled.amounts.items))) (numbers (length capacities))) capacities-are
+      pub step-lower-fit : (link : ℕ) → link < length loads → slice_index loads link ≤ slice_index now.capacities link
+      step-lower-fit link lt =
+          subst (λ (capacities : List ℕ). slice_index loads link ≤ slice_index capacities link) (sym capacities-are)
+          (next-fit wan tiers step-never step-bound tier filled step-filling link lt)
 
-        pub step-lower-links : length loads ≡ length now.capacities
-        step-lower-links =
-            next-links wan tiers step-never step-bound tier filled step-filling loads loads-are ∙ sym (ap (λ (capacities : List ℕ). length capacities) capacities-are)
+      pub step-take-links : length loads ≡ length fillings.loads
+      step-take-links = take-links wan tiers step-never step-bound tier filled step-filling fillings is.filled
 
-        pub step-lower-fit : (link : ℕ) → link < length loads → slice_index loads link ≤ slice_index now.capacities link
-        step-lower-fit link lt =
-            subst (λ (capacities : List ℕ). slice_index loads link ≤ slice_index capacities link) (sym capacities-are)
-            (next-fit wan tiers step-never step-bound tier filled step-filling loads loads-are link lt)
+      pub step-take-fit : IsNetwork initial → (link : ℕ) → link < length loads → slice_index fillings.loads link + slice_index loads link < 2 ^ 64
+      step-take-fit network link lt =
+          let within : link < length initial.capacities =
+          omega (
+            arith,
+            next-links wan tiers step-never step-bound tier filled step-filling,
+            length-free groups initial.capacities (amounts_below wan tiers tier),
+          ) in
+          omega (
+            arith,
+            take-fit wan tiers step-never step-bound tier filled step-filling fillings is.filled link lt,
+            network.capacities_in_range link 0 within,
+          )
 
-        pub step-take-links : length loads ≡ length fillings.loads
-        step-take-links = take-links wan tiers step-never step-bound tier filled step-filling loads loads-are fillings is.filled
+      -- the tier is filled too, and the network has what is then left free
+      pub step-more : IsFilledTo tree initial groups tiers (tier + 1)
+          (with_capacities now (map (λ link. slice_index now.capacities link - slice_index loads link) (numbers (length now.capacities))))
+          (with_filling fillings filled)
+      step-more = record {
+        filled = filled-more wan tiers step-never step-bound tier filled step-filling fillings is.filled;
+        network =
+            subst (λ (now : Network).
+            with_capacities now (map (λ link. slice_index now.capacities link - slice_index loads link) (numbers (length now.capacities)))
+            ≡ with_capacities initial (free_under groups initial.capacities (amounts_below wan tiers (tier + 1)))) (sym is.network)
+            (ap (with_capacities initial) (next-free wan tiers step-never step-bound tier filled step-filling));
+      }
 
-        pub step-take-fit : IsNetwork initial → (link : ℕ) → link < length loads → slice_index fillings.loads link + slice_index loads link < 2 ^ 64
-        step-take-fit network link lt =
-            let within : link < length initial.capacities =
-            omega (
-              arith,
-              next-links wan tiers step-never step-bound tier filled step-filling loads loads-are,
-              length-free groups initial.capacities (amounts_below wan tiers tier),
-            ) in
-            omega (
-              arith,
-              take-fit wan tiers step-never step-bound tier filled step-filling loads loads-are fillings is.filled link lt,
-              network.capacities_in_range link 0 within,
-            )
-
-        -- the tier is filled too, and the network has what is then left free
-        pub step-more : IsFilledTo tree initial groups tiers (tier + 1)
-            (with_capacities now (map (λ link. slice_index now.capacities link - slice_index loads link) (numbers (length now.capacities))))
-            (with_filling fillings filled loads)
-        step-more = record {
-          filled = filled-more wan tiers step-never step-bound tier filled step-filling loads loads-are fillings is.filled;
-          network =
-              subst (λ (now : Network).
-              with_capacities now (map (λ link. slice_index now.capacities link - slice_index loads link) (numbers (length now.capacities)))
-              ≡ with_capacities initial (free_under groups initial.capacities (amounts_below wan tiers (tier + 1)))) (sym is.network)
-              (ap (with_capacities initial) (next-free wan tiers step-never step-bound tier filled step-filling loads loads-are));
-        }
-
-        -- the same of a network and fillings that are these
-        pub step-next : (after : Network)
-            → after ≡ with_capacities now (map (λ link. slice_index now.capacities link - slice_index loads link) (numbers (length now.capacities)))
-            → (kept : Fillings) → kept ≡ with_filling fillings filled loads → IsFilledTo tree initial groups tiers (tier + 1) after kept
-        step-next after after-is kept kept-is =
-            subst (λ (after : Network). IsFilledTo tree initial groups tiers (tier + 1) after kept) (sym after-is)
-            (subst (λ (kept : Fillings).
-            IsFilledTo tree initial groups tiers (tier + 1)
-            (with_capacities now (map (λ link. slice_index now.capacities link - slice_index loads link) (numbers (length now.capacities)))) kept) (sym kept-is)
-            step-more)
+      -- the same of a network and fillings that are these
+      pub step-next : (after : Network)
+          → after ≡ with_capacities now (map (λ link. slice_index now.capacities link - slice_index loads link) (numbers (length now.capacities)))
+          → (kept : Fillings) → kept ≡ with_filling fillings filled → IsFilledTo tree initial groups tiers (tier + 1) after kept
+      step-next after after-is kept kept-is =
+          subst (λ (after : Network). IsFilledTo tree initial groups tiers (tier + 1) after kept) (sym after-is)
+          (subst (λ (kept : Fillings).
+          IsFilledTo tree initial groups tiers (tier + 1)
+          (with_capacities now (map (λ link. slice_index now.capacities link - slice_index loads link) (numbers (length now.capacities)))) kept) (sym kept-is)
+          step-more)

@@ -45,13 +45,13 @@ abbrev pub added_loads : List ℕ → List ℕ → List ℕ
 added_loads loads more =
     map (λ link. slice_index loads link + slice_index more link) (numbers (length loads))
 
--- with the filling of one tier more, which puts these loads on the links
-abbrev pub with_filling : Fillings → Filling → List ℕ → Fillings
-with_filling fillings filled loads = record {
+-- with the filling of one tier more
+abbrev pub with_filling : Fillings → Filling → Fillings
+with_filling fillings filled = record {
   closings = fillings.closings ++ filled.closings.items ∷ [];
   amounts = fillings.amounts ++ lists_of filled.amounts.items ∷ [];
   shares = fillings.shares ++ filled.shares.items ∷ [];
-  loads = added_loads fillings.loads loads;
+  loads = added_loads fillings.loads filled.loads.items;
 }
 
 -- amounts in rows, by group and place

@@ -13,7 +13,7 @@ ghost use Rattle.tiers.specs.Fillings.{AreFilled, HasLine, IsFilledSome, IsFille
 ghost use Rattle.tiers.specs.Fillings.{values_of_tier, wan_by, with_filling};
 
 use crate::values::TierValues;
-use allocator::{FirstClosings, group_line, loads_of};
+use allocator::{FirstClosings, group_line};
 use bwe_specs::{Closing, OutOfMemory};
 use kept_values::{KeptValues, Meant};
 use limit_table::GroupLine;
@@ -68,22 +68,23 @@ impl Fillings {
         })
     }
 
-    // Takes the filling of the next tier, which puts these loads on the links.
-    fn take(&mut self, filling: Filling, loads: &[u64]) -> Result<(), OutOfMemory>
-        requires links { length loads.now ≡ length self.old.loads }
-        requires fit { (link : ℕ) → link < length loads.now
-            → slice_index self.old.loads link + slice_index loads.now link < 2 ^ 64 }
-        ensures { OnOk result (self.new ≡ with_filling self.old filling loads.now) }
+    // Takes the filling of the next tier.
+    fn take(&mut self, filling: Filling) -> Result<(), OutOfMemory>
+        requires links { length filling.loads.items ≡ length self.old.loads }
+        requires fit { (link : ℕ) → link < length filling.loads.items
+            → slice_index self.old.loads link + slice_index filling.loads.items link < 2 ^ 64 }
+        ensures { OnOk result (self.new ≡ with_filling self.old filling) }
     {
         let Filling {
             closings,
             amounts,
             shares,
+            loads,
         } = filling;
         self.closings.push(closings)?;
         self.amounts.push(amounts)?;
         self.shares.push(shares)?;
-        add_loads(&mut self.loads, loads);
+        add_loads(&mut self.loads, &loads);
         Ok(())
     }
 
@@ -160,9 +161,8 @@ fn fill_next(
 {
     tree.what_holds();
     let filling = fill_tier(alloc, tree, topology, plan, tiers, tier)?;
-    let loads = loads_of(alloc, topology, plan, &filling.amounts)?;
-    lower(topology, &loads);
-    fillings.take(filling, &loads)?;
+    lower(topology, &filling.loads);
+    fillings.take(filling)?;
     Ok(())
 }
 
