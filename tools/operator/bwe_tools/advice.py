@@ -23,7 +23,8 @@ class Advice:
 
 def unreported_tasks(raw: RawDocument) -> Iterator[Advice]:
     reported = {report["task"] for report in raw["script"] if "task" in report}
-    if reported.issuperset(map(NAME_OF, tasks(raw))):
+    # Each task that is reported is there, and stands once.
+    if len(reported) == sum(1 for _ in tasks(raw)):
         return
     for group_at, group in enumerate(raw["groups"]):
         for user_at, user in enumerate(group["users"]):

@@ -96,12 +96,12 @@ def decoded(data: bytes) -> str:
         ) from None
 
 
-def value_of(text: str) -> Any:
+def value_of(text: str, look: Look | None = None) -> Any:
     """The value of a text. What `bwe` refuses as no JSON is NotJson."""
-    has_doubtful = look_outside(text)
+    is_doubtful = (look or look_at(text)).is_doubtful
     try:
         # A call for each number takes long, and most documents have none in doubt.
-        parse_int = whole_number if has_doubtful else None
+        parse_int = whole_number if is_doubtful else None
         with collector_at_rest():
             value = json.loads(
                 text,
@@ -119,9 +119,9 @@ def value_of(text: str) -> Any:
 
 
 def one_of_each() -> Callable[[dict[str, Any]], dict[str, Any]]:
-    """A hook that keeps of each name of a reporter, a task and a link of a path one text, however
-    often it stands: of a long document they may be most of what its value takes. It is called for
-    each object of a document, and does little.
+    """A hook that keeps of each name of a reporter and of a link of a path one text, however often
+    it stands: of a long document they may be most of what its value takes. It is called for each
+    object of a document, and does little.
     """
     known: dict[str, str] = {}
     keep = known.setdefault
@@ -130,10 +130,6 @@ def one_of_each() -> Callable[[dict[str, Any]], dict[str, Any]]:
         reporter = found.get("reporter")
         if type(reporter) is str:
             found["reporter"] = keep(reporter, reporter)
-            key = "task" if "task" in found else "name"
-            name = found.get(key)
-            if type(name) is str:
-                found[key] = keep(name, name)
         elif "weight" in found:
             links = found.get("links")
             if type(links) is list and TEXTS.issuperset(map(type, links)):
@@ -189,11 +185,25 @@ def plain_brackets(text: str) -> bytes | None:
     return None if b'"' in marks else marks
 
 
-def is_plain(text: str) -> bool:
-    """A quick yes, as for most documents: no number is in doubt, and lists and objects are nested
-    well and at most `MOST_LEVELS` deep.
-    """
+@dataclass(frozen=True)
+class Look:
+    """What a look at what stands outside of the texts between double quotes has found."""
+
+    is_doubtful: bool  # a number is in doubt
+    has_plain_brackets: bool  # as `plain_brackets` says
+
+
+def look_at(text: str) -> Look:
+    """NotJson where lists and objects are nested too deep."""
     brackets = plain_brackets(text)
+    is_doubtful = not is_plain(text, brackets) and look_outside(text)
+    return Look(is_doubtful, brackets is not None)
+
+
+def is_plain(text: str, brackets: bytes | None) -> bool:
+    """A quick yes, as for most documents: no number is in doubt, and lists and objects are nested
+    well and at most `MOST_LEVELS` deep. The brackets are those of `plain_brackets`.
+    """
     if brackets is None or text.startswith("-"):
         return False
     alike = text.encode().translate(ALIKE)
@@ -215,8 +225,6 @@ def unpaired(brackets: bytes) -> bytes:
 
 def look_outside(text: str) -> bool:
     """Whether a number is in doubt; NotJson where lists and objects are nested too deep."""
-    if is_plain(text):
-        return False
     is_doubtful, level = False, 0
     for piece in outside_of_texts(text):
         outside = piece.encode()
@@ -390,8 +398,8 @@ class Entries:
 class Places:
     """Where in a text the values of its JSON stand; what was read through once is not again."""
 
-    def __init__(self, text: str) -> None:
-        self.text = text
+    def __init__(self, text: str, look: Look | None = None) -> None:
+        self.text, self.look = text, look
         self.lines = array("q", [0])
         self.lines.extend(found.end() for found in re.finditer("\n", text))
         self.skip = skipped_by_parser(text)
@@ -418,7 +426,8 @@ class Places:
 
     def skip_long(self) -> Skip:
         """What to read over the members of the root with, which are long."""
-        is_quick = plain_brackets(self.text) is not None
+        look = self.look
+        is_quick = look.has_plain_brackets if look else plain_brackets(self.text) is not None
         return skipped_by_brackets(self.text) if is_quick else self.skip
 
     def entry_of(self, at: int, number: int) -> tuple[int, int]:

@@ -6,13 +6,14 @@ from __future__ import annotations
 
 from collections import Counter
 from collections.abc import Iterable, Iterator, Mapping, Sequence
+from functools import cached_property
 from itertools import chain
-from operator import eq
 from typing import NamedTuple, TypeVar
 
 from bwe_tools import hints, limits, units
 from bwe_tools.fault import Fault, pointer
 from bwe_tools.json_text import shortened
+from bwe_tools.nodes import Nodes
 from bwe_tools.raw import (
     Place,
     RawDocument,
@@ -29,17 +30,20 @@ from bwe_tools.raw import (
 from bwe_tools.sound import (
     AT_ONCE,
     DEMAND_OF,
-    FEW,
+    FROM_OF,
+    LINKS_OF,
     NAME_OF,
     REPORTER_OF,
     TASKS_OF,
-    functions_of,
+    TO_OF,
+    WEIGHT_OF,
+    of_key,
 )
 
 MOST_SHARE = 1_000_000_000
 MOST_POINTS, MOST_PATHS, MOST_PATH_LINKS, MOST_WEIGHT = 256, 16, 32, 1_000
 MOST_HINTS, MOST_HINTS_AMONG_MANY, MANY = 20, 3, 20_000
-
+FEW = 8  # names that are looked at one by one
 
 # A document, or what of one has its shape.
 Looked = RawDocument | RawPart
@@ -88,7 +92,8 @@ def are_plain_names(names: list[str]) -> bool:
     """A quick yes for many names at once."""
     whole = "\n".join(names)
     return (
-        whole.isascii()
+        bool(names)
+        and whole.isascii()
         and whole.encode().translate(None, hints.NAME_LETTERS) == b"\n" * (len(names) - 1)
         and 0 < min(map(len, names)) <= max(map(len, names)) <= hints.MOST_LETTERS
     )
@@ -107,6 +112,22 @@ def have_own_names(nodes: list[RawUser] | list[RawJob]) -> bool:
     return len(set(map(NAME_OF, nodes))) == len(nodes)
 
 
+class Names:
+    """The new names of a kind. `unread` are names of entries whose shape is at fault."""
+
+    def __init__(self, listed: list[str], unread: frozenset[str]) -> None:
+        self.listed, self.unread = listed, unread
+        self.odd = odd_names(listed)
+
+    @cached_property
+    def known(self) -> frozenset[str]:
+        return self.unread.union(self.listed)
+
+    @cached_property
+    def plain(self) -> frozenset[str]:
+        return plain_names(self.known) if self.unread or self.odd else self.known
+
+
 class Walk:
     """The names and numbers of a document, in the order of the walk.
 
@@ -118,18 +139,18 @@ class Walk:
     def __init__(self, raw: Looked, unread: frozenset[str] = frozenset()) -> None:
         self.raw = raw
         self.limits = limits.limits_of(raw["version"])
+        self.pieces = list(pieces_of_groups(raw))
         new = {
             "link": [link["name"] for _, link in entries(raw["links"])],
             "group": [group["name"] for _, group in entries(raw["groups"])],
             "reporter": [name for _, name in entries(raw["reporters"])],
-            "task": [task["name"] for task in tasks(raw)],
+            "task": [name for piece in self.pieces for name in map(NAME_OF, piece.nodes.tasks)],
         }
-        self.odd = {kind: odd_names(names) for kind, names in new.items()}
-        self.known = {kind: unread.union(new[kind]) for kind in ("link", "reporter", "task")}
-        self.plain: dict[str, frozenset[str]] = {
-            kind: plain_names(names) if unread or self.odd[kind] else names
-            for kind, names in self.known.items()
-        }
+        self.names = {kind: Names(listed, unread) for kind, listed in new.items()}
+        reporters = (map(REPORTER_OF, piece.nodes.tasks) for piece in self.pieces)
+        self.owners = dict(zip(new["task"], chain.from_iterable(reporters)))
+        # The reports of which not all are known to be by the owners of their tasks.
+        self.others: list[tuple[int, Script]] = []
         self.values = list(self._values())
 
     def _values(self) -> Iterator[Value]:
@@ -143,7 +164,7 @@ class Walk:
                 yield from self._name((*place, "owner"), link["owner"], "reporter")
         yield from self._groups()
         for at, name in entries(raw["reporters"]):
-            if name in self.odd["reporter"]:
+            if name in self.names["reporter"].odd:
                 yield Name(("reporters", at), name, "reporter", scope=("reporters",))
         yield from self._script()
         for at, closing in entries(raw.get("closings", [])):
@@ -153,21 +174,23 @@ class Walk:
     def _script(self) -> Iterator[Value]:
         for start, piece in pieces_of_script(self.raw["script"]):
             demands = demands_of(piece)
-            if demands is None or not self._are_known(demands):
+            if demands is None or not self._are_of_owners(demands):
+                self.others.append((start, piece))
                 yield from self._reports(start, piece)
 
-    def _are_known(self, demands: Demands) -> bool:
-        """Whether names and amounts of many reports are no fault of any refusal."""
+    def _are_of_owners(self, demands: Demands) -> bool:
+        """A quick yes for reports that are no fault of any refusal."""
         return (
-            self.plain["reporter"].issuperset(demands.reporters)
-            and self.plain["task"].issuperset(demands.tasks)
+            not self.names["task"].odd
+            and self.names["reporter"].plain.issuperset(demands.reporters)
+            and tuple(map(self.owners.get, demands.tasks)) == demands.reporters
             and 0 <= min(demands.amounts)
             and max(demands.amounts) <= units.MOST
         )
 
     def _reports(self, start: int, script: Script) -> Iterator[Value]:
         """The values of some reports, of which the first has a number."""
-        reporters, plain, most = self.plain["reporter"], self.plain, units.MOST
+        plain, most = {kind: names.plain for kind, names in self.names.items()}, units.MOST
         for at, report in enumerate(script, start):
             if report is None:
                 continue
@@ -176,7 +199,7 @@ class Walk:
             else:
                 thing, name, key, amount = "task", report["task"], "demand", report["demand"]
             if (
-                report["reporter"] not in reporters
+                report["reporter"] not in plain["reporter"]
                 or name not in plain[thing]
                 or not 0 <= amount <= most
             ):
@@ -186,41 +209,36 @@ class Walk:
                 yield from self._number((*place, key), amount, 0, most)
 
     def _thing(self, place: Place, thing: RawLink | RawGroup, kind: str) -> Iterator[Value]:
-        if thing["name"] in self.odd[kind]:
+        if thing["name"] in self.names[kind].odd:
             yield Name((*place, "name"), thing["name"], kind, scope=(kind,))
         for end, site in (("from", thing["from"]), ("to", thing["to"])):
             if not hints.NAME.match(site):
                 yield Name((*place, end), site, "site")
 
     def _groups(self) -> Iterator[Value]:
-        groups = self.raw["groups"]
-        for start in range(0, len(groups), AT_ONCE):
-            piece = groups[start : start + AT_ONCE]
-            if not self._are_plain([group for _, group in entries(piece)]):
-                for at, group in entries(piece):
-                    yield from self._group(("groups", start + at), group)
+        for piece in self.pieces:
+            if not self._are_plain(piece.nodes):
+                for at, group in piece.entries():
+                    yield from self._group(("groups", at), group)
 
-    def _are_plain(self, groups: list[RawGroup]) -> bool:
+    def _are_plain(self, nodes: Nodes) -> bool:
         """A quick yes for groups without a value that a refusal can be of."""
-        users = [user for group in groups for user in group["users"]]
-        jobs = [job for user in users for job in user["jobs"]]
-        names = [site for group in groups for site in (group["from"], group["to"])]
-        names += [*map(NAME_OF, users), *map(NAME_OF, jobs)]
+        groups, users, jobs = nodes.groups, nodes.users, nodes.jobs
+        sites = [*map(FROM_OF, groups), *map(TO_OF, groups)]
         return (
-            len(names) > FEW
-            and are_plain_names(names)
-            and self.odd["group"].isdisjoint(map(NAME_OF, groups))
+            are_plain_names([*sites, *map(NAME_OF, users), *map(NAME_OF, jobs)])
+            and self.names["group"].odd.isdisjoint(map(NAME_OF, groups))
             and all(have_own_names(group["users"]) for group in groups if len(group["users"]) > 1)
             and all(have_own_names(user["jobs"]) for user in users if len(user["jobs"]) > 1)
-            and self.plain["link"].issuperset(chain.from_iterable(links_of_paths(groups)))
-            and self._are_plain_tasks([task for job in jobs for task in job["tasks"]])
+            and all(map(self.names["link"].plain.issuperset, map(LINKS_OF, nodes.paths)))
+            and self._are_plain_tasks(nodes.tasks)
         )
 
     def _group(self, place: Place, group: RawGroup) -> Iterator[Value]:
         yield from self._thing(place, group, "group")
         for at, paths in enumerate(group["paths"]):
             for path_at, path in enumerate(paths):
-                if not self.plain["link"].issuperset(path["links"]):
+                if not self.names["link"].plain.issuperset(path["links"]):
                     for link_at, link in enumerate(path["links"]):
                         step = (*place, "paths", at, path_at, "links", link_at)
                         yield from self._name(step, link, "link")
@@ -239,14 +257,15 @@ class Walk:
 
     def _are_plain_tasks(self, listed: list[RawTask]) -> bool:
         """The same for tasks."""
+        odd, weights = self.names["task"].odd, of_key("weight", listed)
         return (
-            self.odd["task"].isdisjoint(map(NAME_OF, listed))
-            and self.plain["reporter"].issuperset(map(REPORTER_OF, listed))
-            and all(1 <= task["weight"] <= MOST_WEIGHT for task in listed if "weight" in task)
+            (not odd or odd.isdisjoint(map(NAME_OF, listed)))
+            and self.names["reporter"].plain.issuperset(map(REPORTER_OF, listed))
+            and (not weights or 1 <= min(weights) <= max(weights) <= MOST_WEIGHT)
         )
 
     def _tasks(self, place: Place, listed: list[RawTask]) -> Iterator[Value]:
-        odd, reporters = self.odd["task"], self.plain["reporter"]
+        odd, reporters = self.names["task"].odd, self.names["reporter"].plain
         if self._are_plain_tasks(listed):
             return
         for at, task in enumerate(listed):
@@ -258,14 +277,14 @@ class Walk:
                 yield from self._task((*place, at), task)
 
     def _task(self, place: Place, task: RawTask) -> Iterator[Value]:
-        if task["name"] in self.odd["task"]:
+        if task["name"] in self.names["task"].odd:
             yield Name((*place, "name"), task["name"], "task", scope=("task",))
         yield from self._name((*place, "reporter"), task["reporter"], "reporter")
         if "weight" in task:
             yield from self._number((*place, "weight"), task["weight"], 1, MOST_WEIGHT)
 
     def _name(self, place: Place, name: str, kind: str) -> Iterator[Value]:
-        if name not in self.plain[kind]:
+        if name not in self.names[kind].plain:
             yield Name(place, name, kind)
 
     def _number(self, place: Place, number: int, least: int, most: int) -> Iterator[Value]:
@@ -282,6 +301,24 @@ class Demands(NamedTuple):
 
 
 Script = Sequence[RawReport | None]
+
+
+class Piece(NamedTuple):
+    """Groups that are looked at together, of which the first has a number."""
+
+    start: int
+    listed: Sequence[RawGroup | None]
+    nodes: Nodes
+
+    def entries(self) -> Iterator[tuple[int, RawGroup]]:
+        return ((self.start + at, group) for at, group in entries(self.listed))
+
+
+def pieces_of_groups(raw: Looked) -> Iterator[Piece]:
+    """Some groups after the other."""
+    for start in range(0, len(raw["groups"]), AT_ONCE):
+        listed = raw["groups"][start : start + AT_ONCE]
+        yield Piece(start, listed, Nodes([group for _, group in entries(listed)]))
 
 
 def pieces_of_script(script: Script) -> Iterator[tuple[int, Script]]:
@@ -310,11 +347,6 @@ def functions(raw: Looked) -> Iterator[tuple[Place, RawFunction]]:
                 if "function" in job:
                     yield (*job_place, "function"), job["function"]
                 yield (*job_place, "task"), job["task"]
-
-
-def functions_alone(raw: Looked) -> Iterator[RawFunction]:
-    """The same without their places, which take longer to make than to look at most functions."""
-    return functions_of(group for _, group in entries(raw["groups"]))
 
 
 def links_of_paths(groups: Iterable[RawGroup]) -> Iterator[list[str]]:
@@ -370,12 +402,12 @@ def counts_of(raw: Looked) -> tuple[int, ...]:
 
 def counts(walk: Walk) -> Iterator[Fault]:
     raw, most_of = walk.raw, walk.limits
-    is_long = max(map(len, functions_alone(raw)), default=0) > MOST_POINTS
+    is_long = any(piece.nodes.longest_function() > MOST_POINTS for piece in walk.pieces)
     long = [found for found in functions(raw) if len(found[1]) > MOST_POINTS] if is_long else []
     found: list[tuple[str, Place, int, int]] = [
         ("groups", ("groups",), len(raw["groups"]), most_of.groups),
         *(("points", place, len(points), MOST_POINTS) for place, points in long),
-        ("hops", ("groups",), hops(raw), most_of.hops),
+        ("hops", ("groups",), sum(piece.nodes.hops() for piece in walk.pieces), most_of.hops),
         ("reporters", ("reporters",), len(raw["reporters"]), most_of.reporters),
         ("script", ("script",), len(raw["script"]), most_of.reports),
         ("closings", ("closings",), len(raw.get("closings", [])), most_of.closings),
@@ -422,13 +454,18 @@ def repeated_names(walk: Walk) -> Iterator[Fault]:
             yield Fault(found.place, sentence).refused(f"5 repeated name at {pointer(found.place)}")
 
 
+REFERRED = ("link", "reporter", "task")
+
+
 def unknown_names(walk: Walk) -> Iterator[Fault]:
     hinted = 0
     for found in walk.values:
         if isinstance(found, Number):
             continue
-        known = walk.known.get(found.kind)
-        if found.scope is None and known is not None and found.text not in known:
+        if found.scope is not None or found.kind not in REFERRED:
+            continue
+        known = walk.names[found.kind].known
+        if found.text not in known:
             hinted += 1
             # To look for a near name among many takes long.
             most = MOST_HINTS if len(known) <= MANY else MOST_HINTS_AMONG_MANY
@@ -441,7 +478,7 @@ def unknown_names(walk: Walk) -> Iterator[Fault]:
 
 def bad_functions(walk: Walk) -> Iterator[Fault]:
     top = walk.raw["top"]
-    if all(bad_point(points, top) is None for points in functions_alone(walk.raw)):
+    if all(piece.nodes.have_good_functions(top, units.MOST) for piece in walk.pieces):
         return
     for place, points in functions(walk.raw):
         found = bad_point(points, top)
@@ -505,7 +542,24 @@ class PathFault(NamedTuple):
 def bad_paths(walk: Walk) -> Iterator[Fault]:
     """The first path at fault of each group."""
     ends = {link["name"]: (link["from"], link["to"]) for _, link in entries(walk.raw["links"])}
-    for number, group in entries(walk.raw["groups"]):
+    for piece in walk.pieces:
+        if not have_good_paths(piece.nodes, ends):
+            yield from bad_paths_of(piece, ends)
+
+
+def have_good_paths(nodes: Nodes, ends: Ends) -> bool:
+    """A quick yes for groups without a path at fault."""
+    counts = set(map(len, nodes.path_lists)) | set(map(len, nodes.path_groups))
+    weights = set(map(WEIGHT_OF, nodes.paths))
+    return (
+        (not counts or 1 <= min(counts) <= max(counts) <= MOST_PATHS)
+        and (not weights or 1 <= min(weights) <= max(weights) <= MOST_WEIGHT)
+        and nodes.have_chains(ends, MOST_PATH_LINKS)
+    )
+
+
+def bad_paths_of(piece: Piece, ends: Ends) -> Iterator[Fault]:
+    for number, group in piece.entries():
         found = bad_path_of_group(group, ends)
         if found is not None:
             where: Place = ("groups", number, "paths", *found.steps)
@@ -573,20 +627,13 @@ def link_from(site: str, target: str, other: str, ends: Ends) -> str | None:
 
 
 def bad_tree(walk: Walk) -> Iterator[Fault]:
-    if not all(all_have_children(group) for _, group in entries(walk.raw["groups"])):
+    if not all(piece.nodes.have_children() for piece in walk.pieces):
         yield from empty_nodes(walk.raw)
-    count, most = sum(1 for _ in tasks(walk.raw)), walk.limits.tasks
+    count, most = sum(len(piece.nodes.tasks) for piece in walk.pieces), walk.limits.tasks
     if count > most:
         sentence = f"{count:,} tasks are more than {most:,}"
         meant = meant_by_more(walk, count, limits.OF_4.tasks)
         yield Fault(("groups",), sentence, meant).refused("10 tree cause 2 node 0")
-
-
-def all_have_children(group: RawGroup) -> bool:
-    """A quick yes for a group all whose nodes have children."""
-    return bool(group["users"]) and all(
-        user["jobs"] and all(map(TASKS_OF, user["jobs"])) for user in group["users"]
-    )
 
 
 def empty_nodes(raw: Looked) -> Iterator[Fault]:
@@ -611,14 +658,8 @@ def nodes_of(at: int, group: RawGroup) -> Iterator[tuple[Place, Sequence[object]
 
 def not_owners(walk: Walk) -> Iterator[Fault]:
     links = {link["name"]: link.get("owner") for _, link in entries(walk.raw["links"])}
-    names = map(NAME_OF, tasks(walk.raw))
-    of_tasks: dict[str, str | None] = dict(zip(names, map(REPORTER_OF, tasks(walk.raw))))
-    for start, piece in pieces_of_script(walk.raw["script"]):
-        demands = demands_of(piece)
-        if demands is None or not all(
-            map(eq, map(of_tasks.get, demands.tasks, demands.reporters), demands.reporters)
-        ):
-            yield from not_owners_of(start, piece, links, of_tasks)
+    for start, piece in walk.others:
+        yield from not_owners_of(start, piece, links, walk.owners)
 
 
 Owners = Mapping[str, str | None]

@@ -1,15 +1,16 @@
 """Whether a document has its shape, at once and without a reason; and what of one has it.
 
 The schema's library says what is wrong, and takes minutes for a document of the greatest length.
-Most documents are sound, and of one that is not most entries are.
+Most documents are sound, and of one that is not most entries are. So many entries are looked at
+together, level by level.
 """
 
 from __future__ import annotations
 
-from collections.abc import Callable, Iterable, Iterator
-from itertools import chain, islice
+from collections.abc import Iterable, Iterator
+from itertools import chain
 from operator import itemgetter
-from typing import Any, TypeGuard, cast
+from typing import Any, TypeGuard, TypeVar, cast
 
 from bwe_tools.raw import RawDocument, RawPart
 
@@ -24,29 +25,45 @@ TASK = frozenset(("name", "reporter"))
 DEMAND = frozenset(("reporter", "task", "demand"))
 CAPACITY = frozenset(("reporter", "link", "capacity"))
 CLOSING = frozenset(("link", "share"))
+FUNCTION = frozenset(("function",))
 NONE: frozenset[str] = frozenset()
-# Many groups, tasks, reports, functions or paths are looked at together.
-FEW, AT_ONCE = 8, 1_024
+AT_ONCE = 128  # entries of a list that are looked at together, few enough for a cache
 NAME_OF, REPORTER_OF = itemgetter("name"), itemgetter("reporter")
-WEIGHT_OF, LINKS_OF, TASKS_OF = itemgetter("weight"), itemgetter("links"), itemgetter("tasks")
+FROM_OF, TO_OF = itemgetter("from"), itemgetter("to")
+USERS_OF, JOBS_OF, TASKS_OF = itemgetter("users"), itemgetter("jobs"), itemgetter("tasks")
+PATHS_OF, WEIGHT_OF, LINKS_OF = itemgetter("paths"), itemgetter("weight"), itemgetter("links")
+FUNCTION_OF, TASK_FUNCTION_OF = itemgetter("function"), itemgetter("task")
+LINK_OF, CAPACITY_OF, SHARE_OF = itemgetter("link"), itemgetter("capacity"), itemgetter("share")
 DEMAND_OF = itemgetter("reporter", "task", "demand")
 Members = dict[str, Any]  # an object of JSON whose values were not looked at
-FUNCTION = frozenset(("function",))
-ONLY_TEXTS, ONLY_WHOLES, ONLY_LISTS = frozenset((str,)), frozenset((int,)), frozenset((list,))
+Entry = TypeVar("Entry")
+ONLY_OBJECTS, ONLY_LISTS = frozenset((dict,)), frozenset((list,))
+ONLY_TEXTS, ONLY_WHOLES = frozenset((str,)), frozenset((int,))
 
 
 def has(
     value: object, required: frozenset[str], optional: frozenset[str] = NONE
 ) -> TypeGuard[Members]:
     """Whether it is an object with these keys and no others."""
-    if type(value) is not dict:
-        return False
-    keys = value.keys()
-    return keys == required or (required <= keys and keys <= required | optional)
+    return are_objects([value], required, optional)
 
 
-def are_texts(*values: object) -> bool:
+def are_objects(
+    values: list[Any], required: frozenset[str], optional: frozenset[str] = NONE
+) -> bool:
+    """Whether all are objects with these keys and no others."""
+    known = required | optional
+    return ONLY_OBJECTS.issuperset(map(type, values)) and all(
+        required.issubset(keys) and known.issuperset(keys) for keys in set(map(tuple, values))
+    )
+
+
+def are_texts(values: Iterable[object]) -> bool:
     return ONLY_TEXTS.issuperset(map(type, values))
+
+
+def are_wholes(values: Iterable[object]) -> bool:
+    return ONLY_WHOLES.issuperset(map(type, values))
 
 
 def is_whole(value: object) -> TypeGuard[int]:
@@ -57,98 +74,42 @@ def is_list(value: object) -> TypeGuard[list[Any]]:
     return type(value) is list
 
 
-def is_plain_task(task: object) -> bool:
-    """A quick yes for a task without a weight, as most are: there may be a million."""
-    if type(task) is not dict or len(task) != 2:
-        return False
-    return type(task.get("name")) is type(task.get("reporter")) is str
+def of_key(key: str, values: Iterable[Any]) -> list[Any]:
+    """What stands under a key in the objects that have it."""
+    return [value[key] for value in values if key in value]
 
 
-def is_plain_demand(report: object) -> bool:
-    """A quick yes for a report of a demand."""
-    if type(report) is not dict or len(report) != 3 or type(report.get("demand")) is not int:
-        return False
-    return type(report.get("reporter")) is type(report.get("task")) is str
+def pieces_of(entries: list[Entry]) -> Iterator[list[Entry]]:
+    """Some entries after the other, as many as are looked at together."""
+    return (entries[at : at + AT_ONCE] for at in range(0, len(entries), AT_ONCE))
 
 
-def tasks_of(groups: list[Members]) -> Iterator[Any]:
-    """All that stands in the lists of tasks of groups."""
-    return chain.from_iterable(
-        job["tasks"] for group in groups for user in group["users"] for job in user["jobs"]
-    )
-
-
-def functions_of(groups: Iterable[Any]) -> Iterator[Any]:
-    """All that stands for functions in groups."""
-    for group in groups:
-        if "function" in group:
-            yield group["function"]
-        for user in group["users"]:
-            if "function" in user:
-                yield user["function"]
-            for job in user["jobs"]:
-                if "function" in job:
-                    yield job["function"]
-                yield job["task"]
-
-
-def paths_of(groups: list[Members]) -> Iterator[Any]:
-    """All that stands in the path groups of groups."""
-    return chain.from_iterable(paths for group in groups for paths in group["paths"])
-
-
-def pieces_of(entries: Iterator[Any]) -> Iterator[list[Any]]:
-    """Some entries after the other, of many so many that a look at them together is worth it."""
-    while piece := list(islice(entries, AT_ONCE)):
-        yield piece
-
-
-def are_plain_tasks(tasks: list[Any], may_have_weight: bool) -> bool:
-    """A quick yes for many tasks at once."""
-    if set(map(type, tasks)) != {dict}:
-        return False
-    try:
-        texts = set(map(type, map(NAME_OF, tasks))) | set(map(type, map(REPORTER_OF, tasks)))
-        weights = {type(task["weight"]) for task in tasks if len(task) != 2}
-    except KeyError:
-        return False
-    is_short = max(map(len, tasks)) <= (3 if may_have_weight else 2)
-    return is_short and texts == {str} and weights <= {int}
-
-
-def are_plain_demands(reports: list[Any]) -> bool:
-    """A quick yes for many reports of demands at once."""
-    if set(map(type, reports)) != {dict} or set(map(len, reports)) != {3}:
-        return False
-    try:
-        reporters, tasks, amounts = zip(*map(DEMAND_OF, reports))
-    except KeyError:
-        return False
-    kinds = set(map(type, reporters)) | set(map(type, tasks))
-    return kinds == {str} and set(map(type, amounts)) == {int}
+def are_lists(values: list[Any]) -> bool:
+    return ONLY_LISTS.issuperset(map(type, values))
 
 
 def are_functions(values: list[Any]) -> bool:
     """Whether all are functions, whose points may be at fault."""
-    if not ONLY_LISTS.issuperset(map(type, values)):
+    if not are_lists(values):
         return False
     points = list(chain.from_iterable(values))
     return (
-        ONLY_LISTS.issuperset(map(type, points))
+        are_lists(points)
         and set(map(len, points)) <= {2}
-        and ONLY_WHOLES.issuperset(map(type, chain.from_iterable(points)))
+        and are_wholes(chain.from_iterable(points))
     )
 
 
 def are_paths(values: list[Any]) -> bool:
-    """Whether all are paths."""
-    if not all(has(path, PATH) for path in values):
+    """Whether all are lists of path groups."""
+    if not are_lists(values) or not are_lists(groups := list(chain.from_iterable(values))):
         return False
-    links = list(map(LINKS_OF, values))
+    paths = list(chain.from_iterable(groups))
     return (
-        ONLY_WHOLES.issuperset(map(type, map(WEIGHT_OF, values)))
-        and ONLY_LISTS.issuperset(map(type, links))
-        and are_texts(*chain.from_iterable(links))
+        are_objects(paths, PATH)
+        and are_wholes(map(WEIGHT_OF, paths))
+        and are_lists(links := list(map(LINKS_OF, paths)))
+        and are_texts(chain.from_iterable(links))
     )
 
 
@@ -161,107 +122,102 @@ class Shape:
         self.task_options = NONE if version in (1, 2) else frozenset(("weight",))
         self.has_capacities = version != 1
 
-    def link(self, link: object) -> bool:
+    def are_links(self, links: list[Any]) -> bool:
         return (
-            has(link, LINK, self.link_options)
-            and are_texts(link["name"], link["from"], link["to"], link.get("owner", ""))
-            and is_whole(link["capacity"])
+            are_objects(links, LINK, self.link_options)
+            and all(are_texts(map(value_of, links)) for value_of in (NAME_OF, FROM_OF, TO_OF))
+            and are_texts(of_key("owner", links))
+            and are_wholes(map(CAPACITY_OF, links))
         )
 
-    def group(self, group: object) -> bool:
-        return self.groups([group])
-
-    def groups(self, groups: list[Any]) -> bool:
-        """Whether all are groups."""
+    def are_groups(self, groups: list[Any]) -> bool:
         return (
-            all(map(self.frame, groups))
-            and all(map(are_functions, pieces_of(functions_of(groups))))
-            and all(map(are_paths, pieces_of(paths_of(groups))))
-            and self.are_tasks(tasks_of(groups))
+            are_objects(groups, GROUP, FUNCTION)
+            and all(are_texts(map(value_of, groups)) for value_of in (NAME_OF, FROM_OF, TO_OF))
+            and are_functions(of_key("function", groups))
+            and are_paths(list(map(PATHS_OF, groups)))
+            and are_lists(users := list(map(USERS_OF, groups)))
+            and self.are_users(list(chain.from_iterable(users)))
         )
 
-    def frame(self, group: object) -> bool:
-        """Whether it is a group, but for its paths, functions and tasks."""
+    def are_users(self, users: list[Any]) -> bool:
         return (
-            has(group, GROUP, FUNCTION)
-            and are_texts(group["name"], group["from"], group["to"])
-            and is_list(group["paths"])
-            and ONLY_LISTS.issuperset(map(type, group["paths"]))
-            and is_list(group["users"])
-            and all(map(self.user, group["users"]))
+            are_objects(users, USER, FUNCTION)
+            and are_texts(map(NAME_OF, users))
+            and are_functions(of_key("function", users))
+            and are_lists(jobs := list(map(JOBS_OF, users)))
+            and self.are_jobs(list(chain.from_iterable(jobs)))
         )
 
-    def user(self, user: object) -> bool:
-        """Whether it is a user, but for its functions and tasks."""
+    def are_jobs(self, jobs: list[Any]) -> bool:
         return (
-            has(user, USER, FUNCTION)
-            and type(user["name"]) is str
-            and is_list(user["jobs"])
-            and all(map(self.job, user["jobs"]))
+            are_objects(jobs, JOB, FUNCTION)
+            and are_texts(map(NAME_OF, jobs))
+            and are_functions(of_key("function", jobs))
+            and are_functions(list(map(TASK_FUNCTION_OF, jobs)))
+            and are_lists(tasks := list(map(TASKS_OF, jobs)))
+            and self.are_tasks(list(chain.from_iterable(tasks)))
         )
 
-    def are_tasks(self, tasks: Iterator[Any]) -> bool:
-        """Whether all are tasks, many of which are asked about at once: there may be a million."""
-        may_have_weight = bool(self.task_options)
-        return all(
-            are_plain_tasks(piece, may_have_weight)
-            or all(is_plain_task(task) or self.task(task) for task in piece)
-            for piece in pieces_of(tasks)
+    def are_tasks(self, tasks: list[Any]) -> bool:
+        return (
+            are_objects(tasks, TASK, self.task_options)
+            and are_texts(map(NAME_OF, tasks))
+            and are_texts(map(REPORTER_OF, tasks))
+            and are_wholes(of_key("weight", tasks))
         )
 
     def are_reports(self, script: list[Any]) -> bool:
-        """Whether all are reports."""
-        return all(
-            are_plain_demands(piece)
-            or all(is_plain_demand(report) or self.report(report) for report in piece)
-            for piece in pieces_of(iter(script))
+        if are_objects(script, DEMAND):
+            return self.are_demands(script)
+        if not self.has_capacities or not ONLY_OBJECTS.issuperset(map(type, script)):
+            return False
+        demands = [report for report in script if "task" in report]
+        capacities = [report for report in script if "task" not in report]
+        return (
+            are_objects(demands, DEMAND)
+            and self.are_demands(demands)
+            and are_objects(capacities, CAPACITY)
+            and are_texts(map(REPORTER_OF, capacities))
+            and are_texts(map(LINK_OF, capacities))
+            and are_wholes(map(CAPACITY_OF, capacities))
         )
 
     @staticmethod
-    def job(job: object) -> bool:
-        """Whether it is a job, but for its functions and tasks."""
-        return (
-            has(job, JOB, FUNCTION) and type(job["name"]) is str and is_list(job["tasks"])
-        )
-
-    def task(self, task: object) -> bool:
-        return (
-            has(task, TASK, self.task_options)
-            and are_texts(task["name"], task["reporter"])
-            and is_whole(task.get("weight", 1))
-        )
-
-    def report(self, report: object) -> bool:
-        if self.has_capacities and has(report, CAPACITY):
-            return are_texts(report["reporter"], report["link"]) and is_whole(report["capacity"])
-        return (
-            has(report, DEMAND)
-            and are_texts(report["reporter"], report["task"])
-            and is_whole(report["demand"])
-        )
+    def are_demands(reports: list[Members]) -> bool:
+        """Whether the values of reports of demands have their kinds."""
+        reporters, tasks, amounts = zip(*map(DEMAND_OF, reports)) if reports else ((), (), ())
+        return are_texts(reporters) and are_texts(tasks) and are_wholes(amounts)
 
     @staticmethod
-    def closing(closing: object) -> bool:
-        return has(closing, CLOSING) and are_texts(closing["link"]) and is_whole(closing["share"])
+    def are_closings(closings: list[Any]) -> bool:
+        return (
+            are_objects(closings, CLOSING)
+            and are_texts(map(LINK_OF, closings))
+            and are_wholes(map(SHARE_OF, closings))
+        )
 
-    def are_of_list(self, key: str, entries: list[Any]) -> bool:
-        """Whether all entries of a list of the root have their shape."""
-        if key == "script":
-            return self.are_reports(entries)
-        if key == "groups":
-            return self.groups(entries)
-        return all(map(self.check_of(key), entries))
+    def are_sound(self, key: str, entries: list[Any]) -> bool:
+        """Whether all are entries of a list of the root."""
+        match key:
+            case "links":
+                return self.are_links(entries)
+            case "groups":
+                return self.are_groups(entries)
+            case "script":
+                return self.are_reports(entries)
+            case "closings":
+                return self.are_closings(entries)
+            case _:
+                return are_texts(entries)
 
-    def check_of(self, key: str) -> Callable[[object], bool]:
-        """What tells whether an entry of a list of the root has its shape."""
-        checks: dict[str, Callable[[object], bool]] = {
-            "links": self.link,
-            "groups": self.group,
-            "reporters": are_texts,
-            "script": lambda report: is_plain_demand(report) or self.report(report),
-            "closings": self.closing,
-        }
-        return checks[key]
+    def sound_ones(self, key: str, entries: list[Any]) -> Iterator[bool]:
+        """Which are entries of a list of the root."""
+        for piece in pieces_of(entries):
+            if self.are_sound(key, piece):
+                yield from (True for _ in piece)
+            else:
+                yield from (self.are_sound(key, [entry]) for entry in piece)
 
 
 def is_shaped(raw: object) -> TypeGuard[RawDocument]:
@@ -272,7 +228,8 @@ def is_shaped(raw: object) -> TypeGuard[RawDocument]:
         return False
     shape = Shape(raw["version"])
     return all(
-        is_list(raw.get(key, [])) and shape.are_of_list(key, raw.get(key, [])) for key in LISTS
+        is_list(entries) and all(shape.are_sound(key, piece) for piece in pieces_of(entries))
+        for key, entries in ((key, raw.get(key, [])) for key in LISTS)
     )
 
 
@@ -280,9 +237,9 @@ def unsound_entries(raw: Members) -> Iterable[tuple[str, int]]:
     """The key and number of each entry of a list of the root that has not its shape."""
     shape = Shape(raw["version"] if is_whole(raw.get("version")) else 3)
     for key in LISTS:
-        has_shape = shape.check_of(key)
-        for at, entry in enumerate(raw[key] if is_list(raw.get(key)) else ()):
-            if not has_shape(entry):
+        entries = raw[key] if is_list(raw.get(key)) else []
+        for at, is_sound in enumerate(shape.sound_ones(key, entries)):
+            if not is_sound:
                 yield key, at
 
 
@@ -300,9 +257,9 @@ def sound_part(raw: object) -> tuple[RawPart, frozenset[str]]:
         if not is_list(given):
             left_out.append(given)
             given = []
-        has_shape = shape.check_of(key)
-        lists[key] = [entry if has_shape(entry) else None for entry in given]
-        left_out += [entry for entry, kept in zip(given, lists[key]) if kept is None]
+        are_sound = list(shape.sound_ones(key, given))
+        lists[key] = [entry if sound else None for entry, sound in zip(given, are_sound)]
+        left_out += [entry for entry, sound in zip(given, are_sound) if not sound]
     part: Members = {"version": shape.version, "top": top if is_whole(top) else 1_000_000_000}
     return cast(RawPart, part | lists), frozenset(names_in(left_out))
 

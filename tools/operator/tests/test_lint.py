@@ -526,7 +526,7 @@ def test_a_quick_look_at_a_text_says_what_the_long_one_does(text, monkeypatch):
     def told():
         try:
             offsets = [json_text.Places(text).offset_of((key,)) for key in members]
-            return json_text.look_outside(text), offsets
+            return json_text.look_at(text).is_doubtful, offsets
         except json_text.NotJson as fault:
             return str(fault), fault.offset
 

@@ -53,7 +53,8 @@ def lint(file: str, is_all: bool) -> int:
     progress = Stages(size)
     progress.stage("reading")
     try:
-        raw = json_text.value_of(text)
+        look = json_text.look_at(text)
+        raw = json_text.value_of(text, look)
     except json_text.NotJson as fault:
         progress.end()
         tell_not_json(file, text, size, fault)
@@ -65,14 +66,15 @@ def lint(file: str, is_all: bool) -> int:
     first = next(found, None)
     if first is not None:
         progress.end()
-        tell_faults(file, json_text.Places(text), first, found, None if is_all else MOST_FAULTS)
+        places = json_text.Places(text, look)
+        tell_faults(file, places, first, found, None if is_all else MOST_FAULTS)
         return 2
     progress.stage("looking for what was likely not meant")
     kinds = advice.warnings(raw)
     progress.end()
     if not any(kinds):
         return 0
-    places = json_text.Places(text)
+    places = json_text.Places(text, look)
     for warnings in kinds:
         tell_warnings(file, places, warnings, len(warnings) if is_all else MOST_OF_A_KIND)
     return 1
