@@ -148,7 +148,8 @@ fn group_text(
     Ok(text)
 }
 
-// Where two groups differ, their texts are compared: what differs may be two links of one name.
+// Where share or amount differ, so do the texts. Where neither does, the texts are compared: what
+// differs may be two links of one name.
 fn push_changed_group(
     alloc: Global,
     text: &mut String,
@@ -164,9 +165,33 @@ fn push_changed_group(
         ++ changed (group_lines (texts_of names.now) earlier.now)
         (group_lines (texts_of names.now) later.now) group) }
 {
-    if earlier[group].is_equal(&later[group]) {
+    let before = &earlier[group];
+    let after = &later[group];
+    if before.is_equal(after) {
         return Ok(());
     }
+    if before.share != after.share || before.amount != after.amount {
+        return push_group(text, names, later, group);
+    }
+    push_other_text(alloc, text, names, earlier, later, group)
+}
+
+// The later text of a group, exactly where it differs from the earlier one.
+fn push_other_text(
+    alloc: Global,
+    text: &mut String,
+    names: &Names,
+    earlier: &[GroupLine],
+    later: &[GroupLine],
+    group: usize,
+) -> Result<(), AllocError>
+    requires group { group < length later.now }
+    requires same_length { length earlier.now ≡ length later.now }
+    requires few { length later.now < 2 ^ 32 }
+    ensures { OnOk result (string_bytes text.new ≡ string_bytes text.old
+        ++ changed (group_lines (texts_of names.now) earlier.now)
+        (group_lines (texts_of names.now) later.now) group) }
+{
     let before = group_text(alloc, names, earlier, group)?;
     let after = group_text(alloc, names, later, group)?;
     if before.as_str() == after.as_str() {
