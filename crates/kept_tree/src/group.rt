@@ -64,13 +64,14 @@ impl KnownGroup {
             → value ≡ value_of share
             → IsKnownOf value_of limits_of self.old → IsKnownOf value_of limits_of self.new }
     {
-        if self.value(share).is_some() {
+        let place = self.place(share);
+        if place < self.values.len() && self.values[place].share == share {
             return;
         }
         if self.values.len() >= MOST_VALUES {
             self.values.clear();
         }
-        let place = self.place(share);
+        let place = place.min(self.values.len());
         let _ = self.values.insert(place, KnownValue { share, value });
     }
 
