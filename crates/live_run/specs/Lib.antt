@@ -3,3 +3,4 @@ pub mod Conversation
 pub mod Answers
 pub mod Front
 pub mod Endings
+pub mod Following

@@ -1,10 +1,9 @@
 //! The lines behind a document, to the end of input.
 
-ghost use Rattle.std.specs.Prelude.{◌≡◌, ◌<◌, ℕ, List, false, length, MatchResult};
+ghost use Rattle.std.specs.Prelude.{◌≡◌, ◌<◌, false, length};
 ghost use Rattle.live_stream.specs.Talk.{IsOver, NeverFall};
-ghost use Rattle.live_run.specs.Answers.{IsAtEnd, IsBefore, IsUpTo};
-ghost use Rattle.live_run.specs.Conversation.{Passed, Converses};
-ghost use Rattle.live_run.specs.Endings.{HasStopped};
+ghost use Rattle.live_run.specs.Answers.{IsAtEnd, IsUpTo};
+ghost use Rattle.live_run.specs.Following.{GoesBehind};
 
 use crate::line::{answer_line, answer_piece};
 use crate::{Follower, Stop};
@@ -21,12 +20,10 @@ pub(crate) fn follow_lines<F: Follower, S: Stream>(
     stream: &mut S,
 ) -> Result<(), Stop>
     requires { 0 < length buffer.old }
-    ensures { (front document : List ℕ) (before : Passed) → IsBefore F.follow front document
-        → IsUpTo F.follow F.has_followed front document follower.old cutter.old before
-        → (after : Passed) × Converses F.follow (S.talk stream.old) (S.talk stream.new) before after
-        × MatchResult result
-        (λ _. IsOver (S.talk stream.new) × IsAtEnd F.follow front after)
-        (HasStopped F.follow 0 (S.faults stream.old) (S.faults stream.new) after) }
+    ensures { GoesBehind F.follow F.has_followed follower.old cutter.old (S.talk stream.old)
+        (S.talk stream.new) (S.faults stream.old) (S.faults stream.new)
+        (λ front document after _. IsOver (S.talk stream.new) × IsAtEnd F.follow front after)
+        result }
 {
     'pieces: for _ in 0..u64::MAX {
         match next_lines(alloc, follower, cutter, buffer, stream) {
@@ -47,13 +44,10 @@ fn next_lines<F: Follower, S: Stream>(
     stream: &mut S,
 ) -> Result<bool, Stop>
     requires { 0 < length buffer.old }
-    ensures passed { (front document : List ℕ) (before : Passed) → IsBefore F.follow front document
-        → IsUpTo F.follow F.has_followed front document follower.old cutter.old before
-        → (after : Passed) × Converses F.follow (S.talk stream.old) (S.talk stream.new) before after
-        × MatchResult result
-        (λ more. (more ≡ false → IsOver (S.talk stream.new))
-        × IsUpTo F.follow F.has_followed front document follower.new cutter.new after)
-        (HasStopped F.follow 0 (S.faults stream.old) (S.faults stream.new) after) }
+    ensures passed { GoesBehind F.follow F.has_followed follower.old cutter.old (S.talk stream.old)
+        (S.talk stream.new) (S.faults stream.old) (S.faults stream.new)
+        (λ front document after more. (more ≡ false → IsOver (S.talk stream.new))
+        × IsUpTo F.follow F.has_followed front document follower.new cutter.new after) result }
     ensures counted { NeverFall (S.faults stream.old) (S.faults stream.new) }
 {
     let count = match stream.read(buffer) {
@@ -73,13 +67,10 @@ fn last_line<F: Follower, S: Stream>(
     cutter: &LineCutter,
     stream: &mut S,
 ) -> Result<(), Stop>
-    ensures { (front document : List ℕ) (before : Passed) → IsBefore F.follow front document
-        → IsUpTo F.follow F.has_followed front document follower.old cutter.now before
-        → (after : Passed) × Converses F.follow (S.talk stream.old) (S.talk stream.new) before after
-        × MatchResult result
-        (λ _. (IsOver (S.talk stream.old) → IsOver (S.talk stream.new))
-        × IsAtEnd F.follow front after)
-        (HasStopped F.follow 0 (S.faults stream.old) (S.faults stream.new) after) }
+    ensures { GoesBehind F.follow F.has_followed follower.old cutter.now (S.talk stream.old)
+        (S.talk stream.new) (S.faults stream.old) (S.faults stream.new)
+        (λ front document after _. (IsOver (S.talk stream.old) → IsOver (S.talk stream.new))
+        × IsAtEnd F.follow front after) result }
 {
     if cutter.is_empty() {
         return Ok(());

@@ -1,10 +1,11 @@
 //! Lines as their bytes come, each answered where it ends.
 
-ghost use Rattle.std.specs.Prelude.{◌≡◌, ◌≢◌, ◌≤◌, ℕ, List, [], ◌∷◌, ◌++◌, Ok, Err, length, take, option_map, OnOk, IsErrOf};
+ghost use Rattle.std.specs.Prelude.{◌≡◌, ◌≢◌, ℕ, List, [], ◌∷◌, ◌++◌, Ok, Err, option_map, OnOk, IsErrOf};
 ghost use Rattle.bwe_io.specs.Faults.{HasRisen};
 ghost use Rattle.live_lines.specs.Cutting.{Held};
 ghost use Rattle.live_stream.specs.Talk.{NeverFall};
 ghost use Rattle.live_run.specs.Answers.{AnswersPart, AnswersPiece, Gives, GivesFirst, IsBehind};
+ghost use Rattle.live_run.specs.Following.{AnswersFirst, Wherever};
 
 use crate::{Follower, Stop};
 use live_lines::LineCutter;
@@ -50,24 +51,23 @@ pub(crate) fn answer_piece<F: Follower, S: Stream>(
     piece: &[u8],
     stream: &mut S,
 ) -> Result<(), Stop>
-    ensures behind { OnOk result ((document behind : List ℕ)
-        → IsBehind F.has_followed document follower.old cutter.old behind
-        → IsBehind F.has_followed document follower.new cutter.new (behind ++ piece.now)) }
-    ensures given { OnOk result ((document behind : List ℕ)
-        → IsBehind F.has_followed document follower.old cutter.old behind
-        → AnswersPiece F.follow document (S.talk stream.old) (S.talk stream.new)
+    ensures behind { OnOk result (Wherever F.has_followed follower.old cutter.old
+        (λ document behind.
+        IsBehind F.has_followed document follower.new cutter.new (behind ++ piece.now))) }
+    ensures given { OnOk result (Wherever F.has_followed follower.old cutter.old
+        (λ document behind. AnswersPiece F.follow document (S.talk stream.old) (S.talk stream.new)
+        behind (behind ++ piece.now))) }
+    ensures partly { IsErrOf result Stop.WriteFault
+        → Wherever F.has_followed follower.old cutter.old
+        (λ document behind. AnswersPart F.follow document (S.talk stream.old) (S.talk stream.new)
         behind (behind ++ piece.now)) }
-    ensures partly { IsErrOf result Stop.WriteFault → (document behind : List ℕ)
-        → IsBehind F.has_followed document follower.old cutter.old behind
-        → AnswersPart F.follow document (S.talk stream.old) (S.talk stream.new)
-        behind (behind ++ piece.now) }
     ensures fault { IsErrOf result Stop.WriteFault
         → HasRisen (S.faults stream.old).writes (S.faults stream.new).writes }
     // Whole answers: those to the lines of the first bytes of the piece.
-    ensures whole { IsErrOf result Stop.OutOfMemory → (document behind : List ℕ)
-        → IsBehind F.has_followed document follower.old cutter.old behind
-        → (count : ℕ) × (count ≤ length piece.now) × AnswersPiece F.follow document
-        (S.talk stream.old) (S.talk stream.new) behind (behind ++ take count piece.now) }
+    ensures whole { IsErrOf result Stop.OutOfMemory
+        → Wherever F.has_followed follower.old cutter.old
+        (λ document behind. AnswersFirst F.follow document (S.talk stream.old) (S.talk stream.new)
+        behind piece.now) }
     ensures asks { result ≢ Err Stop.ReadFault }
     ensures counted { NeverFall (S.faults stream.old) (S.faults stream.new) }
 {
@@ -88,17 +88,16 @@ fn answer_byte<F: Follower, S: Stream>(
     byte: u8,
     stream: &mut S,
 ) -> Result<(), Stop>
-    ensures behind { OnOk result ((document now : List ℕ)
-        → IsBehind F.has_followed document follower.old cutter.old now
-        → IsBehind F.has_followed document follower.new cutter.new (now ++ byte ∷ [])) }
-    ensures given { OnOk result ((document now : List ℕ)
-        → IsBehind F.has_followed document follower.old cutter.old now
-        → AnswersPiece F.follow document (S.talk stream.old) (S.talk stream.new) now
-        (now ++ byte ∷ [])) }
-    ensures partly { IsErrOf result Stop.WriteFault → (document now : List ℕ)
-        → IsBehind F.has_followed document follower.old cutter.old now
-        → AnswersPart F.follow document (S.talk stream.old) (S.talk stream.new) now
-        (now ++ byte ∷ []) }
+    ensures behind { OnOk result (Wherever F.has_followed follower.old cutter.old
+        (λ document behind.
+        IsBehind F.has_followed document follower.new cutter.new (behind ++ byte ∷ []))) }
+    ensures given { OnOk result (Wherever F.has_followed follower.old cutter.old
+        (λ document behind. AnswersPiece F.follow document (S.talk stream.old) (S.talk stream.new)
+        behind (behind ++ byte ∷ []))) }
+    ensures partly { IsErrOf result Stop.WriteFault
+        → Wherever F.has_followed follower.old cutter.old
+        (λ document behind. AnswersPart F.follow document (S.talk stream.old) (S.talk stream.new)
+        behind (behind ++ byte ∷ [])) }
     ensures fault { IsErrOf result Stop.WriteFault
         → HasRisen (S.faults stream.old).writes (S.faults stream.new).writes }
     ensures nothing { IsErrOf result Stop.OutOfMemory → stream.new ≡ stream.old }

@@ -5,8 +5,9 @@ ghost use Rattle.bwe_io.specs.Faults.{HasRisen};
 ghost use Rattle.live_stream.specs.Talk.{IsOver, NeverFall};
 ghost use Rattle.two_part.specs.TwoPart.{document_in, parts_of};
 ghost use Rattle.live_run.specs.Answers.{Gives, GivesFirst};
-ghost use Rattle.live_run.specs.Conversation.{Passed, Converses};
-ghost use Rattle.live_run.specs.Endings.{GoesOn, HasStopped, IsServed};
+ghost use Rattle.live_run.specs.Conversation.{Converses};
+ghost use Rattle.live_run.specs.Endings.{GoesOn, IsServed};
+ghost use Rattle.live_run.specs.Following.{StopsOnWay};
 ghost use Rattle.live_run.specs.Follow.{Follow};
 ghost use Rattle.live_run.specs.Front.{HasDocument, IsFront};
 
@@ -128,9 +129,8 @@ fn read_front<S: Stream>(
         → Converses follow (S.talk stream.old) (S.talk stream.new)
         (record { read = []; written = [] }) (record { read = read.0.items; written = [] })) }
     ensures stopped { IfErr result (λ stop. (follow : Follow)
-        → (passed : Passed) × Converses follow (S.talk stream.old) (S.talk stream.new)
-        (record { read = []; written = [] }) passed
-        × HasStopped follow 0 (S.faults stream.old) (S.faults stream.new) passed stop) }
+        → StopsOnWay follow (S.talk stream.old) (S.talk stream.new)
+        (S.faults stream.old) (S.faults stream.new) (record { read = []; written = [] }) stop) }
     ensures counted { NeverFall (S.faults stream.old) (S.faults stream.new) }
 {
     let mut bytes = Vec::new(alloc);
