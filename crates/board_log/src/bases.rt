@@ -6,18 +6,18 @@ use std::marker::Brand;
 ///
 /// Whatever is generic in one `B: Bases` speaks of one log.
 pub trait Bases {
-    ghost use Rattle.logbook.specs.Pages.{Book};
+    ghost use Rattle.board_log.specs.History.{HistoryId};
     ghost use Rattle.atomic_table.specs.Seated.{TableId};
 
-    ghost book: { Book };
+    ghost book: { HistoryId };
 
     ghost table: { TableId };
 }
 
 impl Bases for Brand {
-    ghost use Rattle.board_log.specs.History.{no_book, no_table};
+    ghost use Rattle.board_log.specs.History.{no_history, no_table};
 
-    ghost book = { no_book };
+    ghost book = { no_history };
 
     ghost table = { no_table };
 }

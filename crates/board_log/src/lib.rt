@@ -19,7 +19,7 @@ mod profile;
 mod roll;
 
 pub use bases::Bases;
-pub use history::{Beginning, DeskRight, EndedLog, LongerLog, OpenedLog, WholeLog};
+pub use history::{Beginning, DeskRight, EndedLog, OpenedLog, WholeLog};
 pub use profile::Profile;
 pub use roll::{Member, OpenedRoll, PlacedReport, Roll};
 
