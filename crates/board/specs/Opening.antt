@@ -1,14 +1,14 @@
 -- What a board is opened from.
 use Rattle.std.specs.Prelude.{ℕ, ◌≡◌, ◌≤◌, List}
-use Rattle.logbook.specs.Pages.{Book}
 use Rattle.atomic_table.specs.Seated.{TableId}
 use Rattle.bwe_specs.specs.declared.report.Report.{Report}
 use Rattle.bwe_specs.specs.declared.limits.TheConstants.{MAX_READERS, MAX_REPORTERS}
+use Rattle.board_log.specs.History.{HistoryId}
 use Rattle.board_log.specs.Plan.{NamesTables}
 
 -- the identities of the bases, and for how many readers they are
 pub record Opening : Type 0 where
-  pub book : Book
+  pub book : HistoryId
   pub table : TableId
   pub readers : ℕ
 

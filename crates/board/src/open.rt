@@ -38,7 +38,7 @@ impl<M: Maker, N: Profile<M::Table>> Model for Opened<M, N> {
     ghost Value = { Opening };
 
     ghost view = { λ opened. record {
-      book = opened.log.seen.book;
+      book = opened.log;
       table =
           opened.roll.table.shared.table_id;
       readers = opened.readers;

@@ -438,8 +438,7 @@ impl<M: Maker, N: Profile<M::Table>, B: Bases> LogState<M, N, B> {
     {
         let history = Vec::from_slice(alloc, self.log.as_slice())?;
         let (ack, table) = self.post_last(rt, alloc, shop)?;
-        let ack = self.end(ack)?;
-        Ok((ack, history, table))
+        Ok((self.end(ack), history, table))
     }
 
     // Posts the table of the whole log, and gives the ack of that and the table.
@@ -464,15 +463,12 @@ impl<M: Maker, N: Profile<M::Table>, B: Bases> LogState<M, N, B> {
     }
 
     // Ends the log, of which that is the ack of the whole.
-    fn end(&mut self, ack: Ack<B>) -> Result<FinalAck<B>, OutOfMemory>
+    fn end(&mut self, ack: Ack<B>) -> FinalAck<B>
         requires whole { ack ≡ self.old.log }
         ensures state { self.new ≡ self.old }
-        ensures ack { IfOk result (λ last. last ≡ ack) }
+        ensures ack { result ≡ ack }
     {
-        match self.whole.end() {
-            Ok(log) => Ok(FinalAck::new(ack, log)),
-            Err(_) => Err(OutOfMemory),
-        }
+        FinalAck::new(ack, self.whole.end())
     }
 }
 

@@ -14,7 +14,7 @@ fn of_two_beginnings_one_begins_the_other(rt: HostRuntime) -> Result<(), Fail> {
 }
 
 fn compared<B: Bases, R: Abort>(rt: &R, alloc: Global, opened: OpenedLog) -> Result<(), Fail>
-    requires name { opened.seen.book ≡ B.book }
+    requires name { opened ≡ B.book }
 {
     let (mut log, _right): (WholeLog<B>, DeskRight<B>) = opened.named();
     let none = log.first(0);

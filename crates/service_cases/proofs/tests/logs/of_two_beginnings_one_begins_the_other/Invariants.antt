@@ -3,4 +3,4 @@ use Rattle.service_cases.proofs.tests.logs.of_two_beginnings_one_begins_the_othe
 
 -- the history that was just opened
 abbrev pub ghosts-compared : goal.ghosts-compared
-ghosts-compared g a = record { book = a.opened.seen.book; table = no_table }
+ghosts-compared g a = record { book = a.opened; table = no_table }
