@@ -5,7 +5,7 @@ use Rattle.bwe_specs.specs.Tree.{User, Cluster, task_value, task_values, job_val
 use Rattle.capped_sum.specs.CappedSum.{task_at}
 use Rattle.policy_tree.specs.declared.kind.Kind.{Kind}
 use Rattle.policy_tree.specs.declared.kind.Kind.TheVariants as kinds
-use Rattle.policy_tree.specs.States.{JobState, UserState, ClusterState, job_meaning, user_meaning, cluster_meaning}
+use Rattle.policy_tree.specs.States.{JobState, UserState, ClusterState, job_tasks, job_meaning, user_meaning, cluster_meaning}
 use Rattle.policy_tree.specs.Trees.{Tree, demand_in}
 use Rattle.policy_tree.specs.Walk.{Node, OfCluster, OfUser, OfJob, walk}
 
@@ -86,3 +86,9 @@ abbrev pub value_at : JobState → ℕ → ℕ → ℕ
 value_at job task share =
     task_value job.sum.function.points (task_at job.sum.tasks task).weight
     (task_at job.sum.tasks task).demand share
+
+-- the job has the task at this place: what it asks for there and what it may have is the tree's
+pub record IsJobOf (tree : Tree) (task : ℕ) (job : JobState) (place : ℕ) : Type 0 where
+  pub within : place < job_tasks job
+  pub demand : (task_at job.sum.tasks place).demand ≡ demand_in tree task
+  pub value : (share : ℕ) → value_at job place share ≡ task_value_in tree task share

@@ -1,19 +1,20 @@
 //! A job of the tree.
 
-ghost use Rattle.std.specs.Prelude.{◌≡◌, ℕ, ◌<◌, ◌≤◌, length, IfOk, OnOk, OnErr};
+ghost use Rattle.std.specs.Prelude.{◌≡◌, ℕ, ◌<◌, ◌≤◌, length, OnOk, OnErr};
 ghost use Rattle.capped_sum.specs.Index.{AreInRange};
 ghost use Rattle.capped_sum.specs.CappedSum.{task_at};
 ghost use Rattle.policy_tree.specs.States.{job_meaning, job_tasks, IsJobState};
-ghost use Rattle.policy_tree.specs.Asked.{AreWeights, idle_job};
+ghost use Rattle.policy_tree.specs.Asked.{HasJobWeights, job_weights, idle_job};
 ghost use Rattle.policy_tree.specs.Changes.{job_with};
 ghost use Rattle.policy_tree.specs.Seen.{value_at};
 
+use crate::level::LevelNode;
 use crate::spec::JobSpec;
 use crate::value::{
     add_bends_of, last_share_at, look_at, near_at, stretch_of, value_at, what_holds,
 };
 use bw_function::BwFunction;
-use bwe_specs::{MAX_AMOUNT, MAX_TASKS, OutOfMemory};
+use bwe_specs::{MAX_AMOUNT, OutOfMemory};
 use capped_sum::CappedSum;
 use function_sum::{Look, Outline, ShareFunction, Stretch};
 use std::alloc::Global;
@@ -38,24 +39,6 @@ impl Model for JobNode {
 }
 
 impl JobNode {
-    /// The job of a spec. Every demand is 0.
-    pub(crate) fn new(alloc: Global, spec: JobSpec) -> Result<JobNode, OutOfMemory>
-        requires weights { AreWeights spec.weights.items }
-        requires few { length spec.weights.items ≤ MAX_TASKS }
-        ensures idle { IfOk result (λ job. job ≡ idle_job spec) }
-        ensures is { IfOk result IsJobState }
-    {
-        let JobSpec {
-            function,
-            task,
-            weights,
-        } = spec;
-        task.what_holds();
-        what_holds(&function);
-        let sum = CappedSum::new(alloc, task, weights.as_slice())?;
-        Ok(JobNode { function, sum })
-    }
-
     /// The sum of the tasks' values, with their weights and demands.
     pub fn sum(&self) -> &CappedSum
         ensures sum { result.now ≡ self.now.sum }
@@ -98,11 +81,33 @@ impl JobNode {
         let most = self.sum.weight(task) as u128 * self.sum.function().value(share) as u128;
         most.min(self.sum.demand(task) as u128) as u64
     }
+}
 
-    /// Makes the value cheap again: over a fresh index the sum tells each inner share itself.
-    pub(crate) fn rematch(&mut self)
-        ensures { self.new ≡ self.old }
-    {
+impl LevelNode for JobNode {
+    type Spec = JobSpec;
+
+    ghost HasWeights = { HasJobWeights };
+
+    ghost weights = { job_weights };
+
+    ghost idle = { idle_job };
+
+    ghost IsState = { IsJobState };
+
+    fn new(alloc: Global, spec: JobSpec) -> Result<JobNode, OutOfMemory> {
+        let JobSpec {
+            function,
+            task,
+            weights,
+        } = spec;
+        task.what_holds();
+        what_holds(&function);
+        let sum = CappedSum::new(alloc, task, weights.as_slice())?;
+        Ok(JobNode { function, sum })
+    }
+
+    // Over a fresh index the sum tells each inner share itself.
+    fn rematch(&mut self, _top: u64) {
         self.sum.refresh();
     }
 }

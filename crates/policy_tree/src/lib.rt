@@ -29,6 +29,7 @@ mod fault;
 mod home;
 mod job;
 mod kind;
+mod level;
 mod siblings;
 mod spec;
 mod tree;

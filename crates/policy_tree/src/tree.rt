@@ -7,14 +7,16 @@ ghost use Rattle.policy_tree.specs.Asked.{HasClusterTop, HasClusterWeights};
 ghost use Rattle.policy_tree.specs.Childless.{clusters_of, idle_tree};
 ghost use Rattle.policy_tree.specs.Nodes.{first_in, IsClusterOf};
 ghost use Rattle.policy_tree.specs.Children.{child_numbers};
-ghost use Rattle.policy_tree.specs.Seen.{kind_of, node_in, group_node_in, value_of, task_value_in};
+ghost use Rattle.policy_tree.specs.Seen.{kind_of, node_in, group_node_in, value_of, task_value_in, IsJobOf};
 ghost use Rattle.policy_tree.specs.Walk.{walk, tree_fault, TellsFault};
 
 use crate::childless::{fault_of, firsts_of};
-use crate::cluster::{ClusterNode, cluster_nodes, rematch_all};
+use crate::cluster::ClusterNode;
 use crate::fault::TreeError;
 use crate::home::{Home, homes_of};
+use crate::job::JobNode;
 use crate::kind::Kind;
+use crate::level::{nodes_of, rematch_all};
 use crate::spec::TreeSpec;
 use crate::walked::{children_of, count_of, kind_among, value_among};
 use bwe_specs::{MAX_AMOUNT, MAX_SHARE, OutOfMemory};
@@ -67,7 +69,7 @@ impl PolicyTree {
             return Err(TreeError::Refused { fault });
         }
         let firsts = firsts_of(alloc, clusters.as_slice())?;
-        let clusters = cluster_nodes(alloc, clusters)?;
+        let clusters: Vec<ClusterNode> = nodes_of(alloc, clusters)?;
         let homes = homes_of(alloc, clusters.as_slice())?;
         Ok(PolicyTree {
             top,
@@ -111,12 +113,8 @@ impl PolicyTree {
         requires { task < length self.now.demands }
         ensures { result ≡ demand_in self.now task }
     {
-        let home = self.homes[task as usize];
-        self.clusters[home.cluster as usize].demand(
-            home.user as usize,
-            home.job as usize,
-            home.task,
-        )
+        let (job, place) = self.job_of(task);
+        job.demand(place)
     }
 
     /// How many groups there are.
@@ -227,13 +225,8 @@ impl PolicyTree {
         requires { task < length self.now.demands }
         ensures { result ≡ task_value_in self.now task share }
     {
-        let home = self.homes[task as usize];
-        self.clusters[home.cluster as usize].task_value(
-            home.user as usize,
-            home.job as usize,
-            home.task,
-            share,
-        )
+        let (job, place) = self.job_of(task);
+        job.task_value(place, share)
     }
 
     /// What a group may have at a share, in kilobits per second.
@@ -250,5 +243,16 @@ impl PolicyTree {
         ensures { result ≡ value_in self.now group self.now.top }
     {
         self.group_value(group, self.top)
+    }
+
+    // The job of a task, and the task's place in it.
+    fn job_of(&self, task: u32) -> (&JobNode, u32)
+        requires { task < length self.now.demands }
+        ensures { IsJobOf self.now task result.0.now result.1 }
+    {
+        let home = self.homes[task as usize];
+        let cluster = &self.clusters[home.cluster as usize];
+        let user = &cluster.users()[home.user as usize];
+        (&user.jobs()[home.job as usize], home.task)
     }
 }

@@ -1,21 +1,20 @@
 //! A user of the tree.
 
-ghost use Rattle.std.specs.Prelude.{◌≡◌, ℕ, ◌<◌, ◌≤◌, length, map, sum_by, All, IfOk, OnOk, OnErr};
+ghost use Rattle.std.specs.Prelude.{◌≡◌, ℕ, ◌<◌, ◌≤◌, length, OnOk, OnErr};
 ghost use Rattle.function_sum.specs.Meaning.{IsMeaning};
-ghost use Rattle.capped_sum.specs.CappedSum.{task_at};
-ghost use Rattle.policy_tree.specs.States.{user_meaning, jobs_meaning, job_tasks, IsJobState, IsUserState};
-ghost use Rattle.policy_tree.specs.Asked.{HasJobWeights, HasUserWeights, job_weights, user_weights, idle_job, idle_user};
-ghost use Rattle.policy_tree.specs.Seen.{value_at};
+ghost use Rattle.policy_tree.specs.States.{user_meaning, jobs_meaning, job_tasks, IsUserState};
+ghost use Rattle.policy_tree.specs.Asked.{HasUserWeights, user_weights, idle_user};
 ghost use Rattle.policy_tree.specs.Changes.{job_at, user_with};
 
 use crate::job::JobNode;
+use crate::level::{LevelNode, nodes_of, rematch_all};
 use crate::siblings::Siblings;
-use crate::spec::{JobSpec, UserSpec};
+use crate::spec::UserSpec;
 use crate::value::{
     add_bends_of, last_share_at, look_at, near_at, stretch_of, value_at, what_holds,
 };
 use bw_function::BwFunction;
-use bwe_specs::{MAX_AMOUNT, MAX_TASKS, OutOfMemory};
+use bwe_specs::{MAX_AMOUNT, OutOfMemory};
 use function_sum::{Look, Outline, ShareFunction, Stretch};
 use std::alloc::Global;
 use std::marker::Model;
@@ -42,24 +41,6 @@ impl Model for UserNode {
 }
 
 impl UserNode {
-    /// The user of a spec. Every demand is 0.
-    pub(crate) fn new(alloc: Global, spec: UserSpec) -> Result<UserNode, OutOfMemory>
-        requires weights { HasUserWeights spec }
-        requires few { user_weights spec ≤ MAX_TASKS }
-        ensures idle { IfOk result (λ user. user ≡ idle_user spec) }
-        ensures is { IfOk result IsUserState }
-    {
-        let UserSpec { function, jobs } = spec;
-        what_holds(&function);
-        let jobs = job_nodes(alloc, jobs)?;
-        let outline = Outline::new(alloc, jobs.as_slice())?;
-        Ok(UserNode {
-            function,
-            jobs,
-            outline,
-        })
-    }
-
     /// The jobs, in the order of their numbers.
     pub fn jobs(&self) -> &[JobNode]
         ensures jobs { result.now ≡ self.now.jobs }
@@ -80,32 +61,6 @@ impl UserNode {
         Ok(())
     }
 
-    /// The demand of a task of a job.
-    pub(crate) fn demand(&self, job: usize, task: u32) -> u64
-        requires job { job < length self.now.jobs }
-        requires task { task < job_tasks (job_at self.now.jobs job) }
-        ensures { result ≡ (task_at (job_at self.now.jobs job).sum.tasks task).demand }
-    {
-        self.jobs[job].demand(task)
-    }
-
-    /// The value of a task of a job.
-    pub(crate) fn task_value(&self, job: usize, task: u32, share: u64) -> u64
-        requires job { job < length self.now.jobs }
-        requires task { task < job_tasks (job_at self.now.jobs job) }
-        ensures { result ≡ value_at (job_at self.now.jobs job) task share }
-    {
-        self.jobs[job].task_value(task, share)
-    }
-
-    /// Makes the value cheap again: searches begin along a new outline of the jobs.
-    pub(crate) fn rematch(&mut self, top: u64)
-        ensures { self.new ≡ self.old }
-    {
-        rematch_jobs(self.jobs.as_mut_slice());
-        self.outline.redraw(self.jobs.as_slice(), top);
-    }
-
     /// The jobs as a share function.
     pub fn siblings(&self) -> Siblings<'_, JobNode>
         ensures { result.nodes.now ≡ self.now.jobs }
@@ -114,6 +69,35 @@ impl UserNode {
             nodes: self.jobs.as_slice(),
             outline: &self.outline,
         }
+    }
+}
+
+impl LevelNode for UserNode {
+    type Spec = UserSpec;
+
+    ghost HasWeights = { HasUserWeights };
+
+    ghost weights = { user_weights };
+
+    ghost idle = { idle_user };
+
+    ghost IsState = { IsUserState };
+
+    fn new(alloc: Global, spec: UserSpec) -> Result<UserNode, OutOfMemory> {
+        let UserSpec { function, jobs } = spec;
+        what_holds(&function);
+        let jobs: Vec<JobNode> = nodes_of(alloc, jobs)?;
+        let outline = Outline::new(alloc, jobs.as_slice())?;
+        Ok(UserNode {
+            function,
+            jobs,
+            outline,
+        })
+    }
+
+    fn rematch(&mut self, top: u64) {
+        rematch_all(self.jobs.as_mut_slice(), top);
+        self.outline.redraw(self.jobs.as_slice(), top);
     }
 }
 
@@ -142,29 +126,5 @@ impl ShareFunction for UserNode {
 
     fn stretch(&self, amount: u64) -> Option<Stretch> {
         stretch_of(&self.function, &self.siblings(), amount)
-    }
-}
-
-// The jobs of their specs.
-fn job_nodes(alloc: Global, specs: Vec<JobSpec>) -> Result<Vec<JobNode>, OutOfMemory>
-    requires weights { All HasJobWeights specs.items }
-    requires few { sum_by job_weights specs.items ≤ MAX_TASKS }
-    ensures idle { IfOk result (λ jobs. jobs.items ≡ map idle_job specs.items) }
-    ensures are { IfOk result (λ jobs. All IsJobState jobs.items) }
-{
-    let mut jobs = Vec::with_capacity(alloc, specs.len())?;
-    for spec in specs {
-        let job = JobNode::new(alloc, spec)?;
-        jobs.push(job)?;
-    }
-    Ok(jobs)
-}
-
-// Makes the value of each job cheap again.
-fn rematch_jobs(jobs: &mut [JobNode])
-    ensures { jobs.new ≡ jobs.old }
-{
-    for job in jobs.iter_mut() {
-        job.rematch();
     }
 }

@@ -64,7 +64,7 @@ pub(crate) fn look_at<P: ShareFunction>(function: &Option<BwFunction>, sum: &P, 
 pub(crate) fn near_at<P: ShareFunction>(function: &Option<BwFunction>, sum: &P, share: u64) -> u64 {
     match function {
         None => sum.near(share),
-        Some(parent) => { parent.value(share).min(sum.near(parent.top())) }
+        Some(parent) => parent.value(share).min(sum.near(parent.top())),
     }
 }
 

@@ -19,8 +19,8 @@ few c =
     weights-few c.args.spec.clusters.items
     (ap (λ (specs : List ClusterSpec). tree_fault (clusters_of specs)) (sym c.as_slice.ensures.value) ∙ sym c.fault_of.ensures ∙ c.in_default.is)
 
-pub cluster_nodes-requires-clause-few : goal.cluster_nodes-requires-clause-few
-cluster_nodes-requires-clause-few c = few (goal.at.cluster_nodes-requires-clause-few c).In_default
+pub nodes_of-requires-clause-few : goal.nodes_of-requires-clause-few
+nodes_of-requires-clause-few c = few (goal.at.nodes_of-requires-clause-few c).In_default
 
 pub firsts_of-requires : goal.firsts_of-requires
 firsts_of-requires c = subst (λ (specs : List ClusterSpec). sum_by cluster_weights specs ≤ 1_048_576) (sym c.as_slice-2.ensures.value) (few (goal.at.firsts_of-requires c).In_default)
