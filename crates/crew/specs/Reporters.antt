@@ -18,6 +18,12 @@ pub record IsReady (reporters tasks links : ℕ) (script : List Report) (pass : 
   pub allowed : All (IsAllowed reporters (IsFit tasks links)) script
   pub fresh : pass.own ≡ []
 
+-- the pass of this number is, with the script of its number
+abbrev pub IsReadyAt : ℕ → ℕ → ℕ → List (Vec Report Global) → ℕ → Reporting → Type 0
+IsReadyAt reporters tasks links scripts number pass = (number < length scripts)
+    × ((script : Vec Report Global)
+    → IsReady reporters tasks links (slice_index_or scripts number script).items pass)
+
 -- there is a script for each pass
 pub record AreReady (reporters tasks links : ℕ) (scripts : List (Vec Report Global))
     (passes : List Reporting) : Type 0 where
@@ -38,6 +44,12 @@ pub record HasReported (script : List Report) (before : Reporting)
   pub own : OnOk reported (without_places after.own ≡ script)
   pub sent : length after.own ≤ length script
   pub refused : IfErr reported (IsCutShort script after)
+
+-- the pass of this number has, with the script of its number
+abbrev pub HasReportedAt : List (Vec Report Global) → ℕ → Reporting
+    → Result (Unit {0}) ReportError → Reporting → Type 0
+HasReportedAt scripts number before reported after = (script : Vec Report Global)
+    → HasReported (slice_index_or scripts number script).items before reported after
 
 -- each pass has, with the script of its place
 pub record HaveReported (scripts : List (Vec Report Global)) (before : List Reporting)

@@ -1,16 +1,15 @@
 //! How the actors are run on a board that is there.
-ghost use Rattle.std.specs.Prelude.{◌≡◌, ◌+◌, ◌^◌, ◌<◌, ◌≤◌, Ok, length, map, slice_index_or, IfOk, IfErr, OnOk};
+ghost use Rattle.std.specs.Prelude.{◌≡◌, ◌+◌, ◌^◌, ◌<◌, ◌≤◌, Ok, length, map, IfOk, IfErr, OnOk};
 ghost use Rattle.std.specs.List.{All};
 ghost use Rattle.board.specs.declared.refusal.ReportError.TheVariants as refusal;
 ghost use Rattle.board.specs.Reading.{IsNewReader};
 ghost use Rattle.board.specs.Reporting.{AreFresh};
 ghost use Rattle.crew_log.specs.LegalCrewLog.{IsClosed, IsLegalCrewLog};
 ghost use Rattle.crew_log.specs.Scripts.{AreOfReporters, reports_in};
-ghost use Rattle.crew.specs.Reporters.{IsReady, AreReady, HasReported, HaveReported};
+ghost use Rattle.crew.specs.Reporters.{AreReady, HasReportedAt, HaveReported, IsReadyAt};
 ghost use Rattle.crew.specs.Allocators.{HasMade};
-ghost use Rattle.crew.specs.Shown.{HaveShown, LogIsShown};
-ghost use Rattle.crew_readers.specs.Gates.{AreShown};
-ghost use Rattle.crew_readers.specs.Readers.{HasLines, HaveLines, HaveEnded};
+ghost use Rattle.crew.specs.Shown.{HaveShown, HasShownLines, LogIsShown, MayRead};
+ghost use Rattle.crew_readers.specs.Readers.{HaveLines, HaveEnded};
 
 use at_once::all_at_once;
 use board::{AllocatorPass, Bases, Board, Profile, ReaderPass, ReportError, ReporterPass};
@@ -143,11 +142,8 @@ where
 {
     let newest = board.newest();
     let report = |number: usize, pass: &mut ReporterPass<B>| -> Result<(), ReportError>
-        requires { (number < length scripts.now)
-            × ((script : _) → IsReady N.reporters N.tasks N.links
-            (slice_index_or scripts.now number script).items pass.old) }
-        ensures { (script : _) → HasReported (slice_index_or scripts.entry.now number script).items
-            pass.old result pass.new }
+        requires { IsReadyAt N.reporters N.tasks N.links scripts.now number pass.old }
+        ensures { HasReportedAt scripts.entry.now number pass.old result pass.new }
     {
         let script = scripts[number].as_slice();
         match report_and_settle(rt, alloc, board, gate, script, pass) {
@@ -159,10 +155,9 @@ where
         Vec<ReadLine>,
         OutOfMemory,
     >
-        requires { (number < 2 ^ 32) × (reads ≤ MAX_READS) × IsNewReader M.Table.covers N.belongs
-            pass.old }
-        ensures { IfOk result (λ read. HasLines M.Table.covers N.belongs M.Table.total_of reads
-            read.items pass.new × AreShown G.begins G.shows number read.items) }
+        requires { MayRead M.Table.covers N.belongs reads number pass.old }
+        ensures { IfOk result (λ read. HasShownLines M.Table.covers N.belongs M.Table.total_of reads
+            G.begins G.shows number read.items pass.new) }
     { read_lines(rt, alloc, newest, gate, number as u32, reads, pass) };
     let rounds = |_: usize, pass: &mut AllocatorPass<B>| -> Result<(), OutOfMemory>
         requires { reads ≤ MAX_READS }
