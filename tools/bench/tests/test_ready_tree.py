@@ -1,5 +1,5 @@
-"""What `check` and `tiers` take beside `solve` where functions stand at all levels: the tree is made
-ready after the script, so that a value of it is cheap. The answers are the same without.
+"""What `check` and `tiers` take beside `solve` where functions stand at all levels: the tree is
+made ready after the script, so that a value of it is cheap. The answers are the same without.
 """
 
 import json

@@ -34,7 +34,6 @@ from bwe_tools.sound import (
     LINKS_OF,
     NAME_OF,
     REPORTER_OF,
-    TASKS_OF,
     TO_OF,
     WEIGHT_OF,
     of_key,
