@@ -30,7 +30,7 @@ use Rattle.plan_doc.specs.TreeParts.{cluster_part}
 use Rattle.doc_names.specs.Owners.{not_owned}
 use Rattle.plan_doc.specs.Refusals.{Refusal, refused_function, refused_links, refused_paths, refused_tree, not_owner}
 use Rattle.plan_doc.specs.Document as documents
-use Rattle.plan_doc.specs.Document.{Accepted, accepted, unless, links_of, clusters_of, network_fault, policy_fault, document_by, over_ok, parts_ok}
+use Rattle.plan_doc.specs.Document.{Accepted, accepted, unless, links_of, clusters_of, network_fault, policy_fault, document_by}
 use Rattle.plan_doc.specs.Accepted.{tree_of, IsDocumentOf}
 use Rattle.doc_passes.specs.Passed.{HasOwnerBelow, IsReport, IsClosing, AreNamesOf, AreNumbersOf, HasPassed}
 use Rattle.plan_doc.specs.Conditions.{link_count, tasks_in, reporter_count, IsByOwner, IsUsable}
@@ -59,73 +59,52 @@ passed_of raw lists names found u few range listed same known =
       each_numbered = subst (λ n. AreNumbersOf (length raw.links) (task_count raw.groups) n raw found) named.reporters by_tasks;
     }
 
--- ---- no refusal of a builder
+-- ---- the builders, in the order of their refusals
 
-then : {C : Type 0} (number : C → Refusal) (fault : Option C) (next : ⊤ → Result Accepted Refusal) (r : Result Accepted Refusal) → fault ≡ None → next tt ≡ r → documents.◌>>=◌ (unless number fault) next ≡ r
-then number None next r e same = same
-then number (Some cause) next r e same = absurd cc
+-- a refusal of the first of two passes is one of both
+refused_here : {A : Type 0} (named : Option Refusal) (read : Result ⊤ Refusal) (next : ⊤ → Result A Refusal)
+    → IfSome named (λ refusal. read ≡ Err refusal) → IfSome named (λ refusal. documents.◌>>=◌ read next ≡ Err refusal)
+refused_here None read next refused = refused
+refused_here (Some refusal) (Ok u) next refused = absurd cc
+refused_here (Some refusal) (Err found) next refused = let same : found ≡ refusal = cc in ap Err same
 
-module _ (raw : raw.Raw) (names : NameTexts) (numbers : Numbers) where
-  abbrev after_tree : Result Accepted Refusal
-  after_tree = documents.◌>>=◌ (unless not_owner (not_owned numbers.task_owners numbers.link_owners 0 numbers.script)) (λ _. Ok (accepted raw names numbers))
-
-  abbrev after_paths : Result Accepted Refusal
-  after_paths = documents.◌>>=◌ (unless refused_tree (policy_fault raw)) (λ _. after_tree)
-
-  abbrev after_links : Result Accepted Refusal
-  after_links = documents.◌>>=◌ (unless refused_paths (plan_fault (network_of (links_of raw)) numbers.groups)) (λ _. after_paths)
-
-  abbrev after_functions : Result Accepted Refusal
-  after_functions = documents.◌>>=◌ (unless refused_links (network_fault raw)) (λ _. after_links)
-
-  pub document_is : (network : Network) → refused_in_groups raw.top raw.groups ≡ None → network_fault raw ≡ None → network ≡ network_of (links_of raw) → plan_fault network numbers.groups ≡ None → policy_fault raw ≡ None
-      → not_owned numbers.task_owners numbers.link_owners 0 numbers.script ≡ None → document_by raw names numbers ≡ Ok (accepted raw names numbers)
+-- the first builder that refuses has the refusal of the document
+module _ (raw : raw.Raw) (names : NameTexts) (numbers : Numbers) (named : Option Refusal) where
+  pub functions_refused : IfSome named (λ refusal. unless refused_function (refused_in_groups raw.top raw.groups) ≡ Err refusal)
+      → IfSome named (λ refusal. document_by raw names numbers ≡ Err refusal)
   unfolding document_by
-  document_is network functions links topology paths tree owners =
-      let ok : Result Accepted Refusal = Ok (accepted raw names numbers) in
-      let owned : after_tree ≡ Ok (accepted raw names numbers) = then not_owner (not_owned numbers.task_owners numbers.link_owners 0 numbers.script) (λ _. Ok (accepted raw names numbers)) (Ok (accepted raw names numbers)) owners refl in
-      let built : after_paths ≡ Ok (accepted raw names numbers) = then refused_tree (policy_fault raw) (λ _. after_tree) (Ok (accepted raw names numbers)) tree owned in
-      let planned : after_links ≡ Ok (accepted raw names numbers) = then refused_paths (plan_fault (network_of (links_of raw)) numbers.groups) (λ _. after_paths) (Ok (accepted raw names numbers)) (ap (λ n. plan_fault n numbers.groups) (sym topology) ∙ paths) built in
-      let linked : after_functions ≡ Ok (accepted raw names numbers) = then refused_links (network_fault raw) (λ _. after_links) (Ok (accepted raw names numbers)) links planned in
-      then refused_function (refused_in_groups raw.top raw.groups) (λ _. after_functions) (Ok (accepted raw names numbers)) functions linked
+  functions_refused refused = refused_here named (unless refused_function (refused_in_groups raw.top raw.groups)) _ refused
 
--- ---- a refusal of a builder
+  pub links_refused : refused_in_groups raw.top raw.groups ≡ None → IfSome named (λ refusal. unless refused_links (network_fault raw) ≡ Err refusal)
+      → IfSome named (λ refusal. document_by raw names numbers ≡ Err refusal)
+  unfolding document_by
+  links_refused functions refused = rw functions (refused_here named (unless refused_links (network_fault raw)) _ refused)
 
-err-bind : {A B : Type 0} (read : Result ⊤ Refusal) (next : ⊤ → Result A Refusal) (other : ⊤ → Result B Refusal) (refusal : Refusal)
-    → (next tt ≡ Err refusal → other tt ≡ Err refusal) → documents.◌>>=◌ read next ≡ Err refusal → documents.◌>>=◌ read other ≡ Err refusal
-err-bind (Ok u) next other refusal later is = later is
-err-bind (Err found) next other refusal later is = let same : found ≡ refusal = cc in ap Err same
+  pub paths_refused : (network : Network) → refused_in_groups raw.top raw.groups ≡ None → network_fault raw ≡ None → network ≡ network_of (links_of raw)
+      → IfSome named (λ refusal. unless refused_paths (plan_fault network numbers.groups) ≡ Err refusal) → IfSome named (λ refusal. document_by raw names numbers ≡ Err refusal)
+  unfolding document_by
+  paths_refused network functions links topology refused =
+      rw (functions, links, sym topology) (refused_here named (unless refused_paths (plan_fault network numbers.groups)) _ refused)
 
--- a refusal over the network is one of the parts
-pub over_refused : (raw : raw.Raw) (groups : List Group) (stranger : Option ℕ) (network : Network) (named : Option Refusal)
-    → refused_in_groups raw.top raw.groups ≡ None → network_fault raw ≡ None → network ≡ network_of (links_of raw)
-    → IfSome named (λ refusal. over_ok network raw groups stranger ≡ Err refusal) → IfSome named (λ refusal. parts_ok raw groups stranger ≡ Err refusal)
-unfolding parts_ok
-over_refused raw groups stranger network None functions links is refused = refused
-over_refused raw groups stranger network (Some refusal) functions links is refused =
-    rw (functions, links) (ap (λ n. over_ok n raw groups stranger) (sym is) ∙ refused)
+  pub tree_refused : (network : Network) → refused_in_groups raw.top raw.groups ≡ None → network_fault raw ≡ None → network ≡ network_of (links_of raw) → plan_fault network numbers.groups ≡ None
+      → IfSome named (λ refusal. unless refused_tree (policy_fault raw) ≡ Err refusal) → IfSome named (λ refusal. document_by raw names numbers ≡ Err refusal)
+  unfolding document_by
+  tree_refused network functions links topology paths refused =
+      rw (functions, links, sym topology, paths) (refused_here named (unless refused_tree (policy_fault raw)) _ refused)
 
-err-last : {B : Type 0} (read : Result ⊤ Refusal) (other : ⊤ → Result B Refusal) (refusal : Refusal) → read ≡ Err refusal → documents.◌>>=◌ read other ≡ Err refusal
-err-last (Ok u) other refusal is = absurd cc
-err-last (Err found) other refusal is = let same : found ≡ refusal = cc in ap Err same
+  pub owners_refused : (network : Network) → refused_in_groups raw.top raw.groups ≡ None → network_fault raw ≡ None → network ≡ network_of (links_of raw) → plan_fault network numbers.groups ≡ None
+      → policy_fault raw ≡ None → IfSome named (λ refusal. unless not_owner (not_owned numbers.task_owners numbers.link_owners 0 numbers.script) ≡ Err refusal)
+      → IfSome named (λ refusal. document_by raw names numbers ≡ Err refusal)
+  unfolding document_by
+  owners_refused network functions links topology paths tree refused =
+      rw (functions, links, sym topology, paths, tree) (refused_here named (unless not_owner (not_owned numbers.task_owners numbers.link_owners 0 numbers.script)) _ refused)
 
-refused_first : (raw : raw.Raw) (names : NameTexts) (numbers : Numbers) (refusal : Refusal)
-    → parts_ok raw numbers.groups (not_owned numbers.task_owners numbers.link_owners 0 numbers.script) ≡ Err refusal → document_by raw names numbers ≡ Err refusal
-unfolding parts_ok document_by
-refused_first raw names numbers refusal is =
-    err-bind (unless refused_function (refused_in_groups raw.top raw.groups)) _ _ refusal
-    (err-bind (unless refused_links (network_fault raw)) _ _ refusal
-    (err-bind (unless refused_paths (plan_fault (network_of (links_of raw)) numbers.groups)) _ _ refusal
-    (err-bind (unless refused_tree (policy_fault raw)) _ _ refusal
-    (err-last (unless not_owner (not_owned numbers.task_owners numbers.link_owners 0 numbers.script)) _ refusal)))) is
-
--- the first refusal of a builder is that of the document
-pub first_refusal : (raw : raw.Raw) (names : NameTexts) (numbers : Numbers) (stranger : Option ℕ) (named : Option Refusal)
-    → stranger ≡ not_owned numbers.task_owners numbers.link_owners 0 numbers.script
-    → IfSome named (λ refusal. parts_ok raw numbers.groups stranger ≡ Err refusal) → IfSome named (λ refusal. document_by raw names numbers ≡ Err refusal)
-first_refusal raw names numbers stranger None found is = is
-first_refusal raw names numbers stranger (Some refusal) found is =
-    refused_first raw names numbers refusal (ap (parts_ok raw numbers.groups) (sym found) ∙ is)
+-- where no builder refuses, the document is of their parts
+pub document_is : (raw : raw.Raw) (names : NameTexts) (numbers : Numbers) (network : Network) → refused_in_groups raw.top raw.groups ≡ None → network_fault raw ≡ None → network ≡ network_of (links_of raw)
+    → plan_fault network numbers.groups ≡ None → policy_fault raw ≡ None → not_owned numbers.task_owners numbers.link_owners 0 numbers.script ≡ None
+    → document_by raw names numbers ≡ Ok (accepted raw names numbers)
+unfolding document_by
+document_is raw names numbers network functions links topology paths tree owners = rw (functions, links, sym topology, paths, tree, owners) refl
 
 -- the tree of specs that were built of the groups
 pub idle_tree_is : (spec : TreeSpec) (groups : List raw.Group) → map idle_cluster spec.clusters.items ≡ map (cluster_part spec.top) groups

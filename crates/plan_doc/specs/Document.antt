@@ -100,20 +100,6 @@ accepted raw names numbers = record {
 
 -- ---- the passes
 
--- refusals 9 to 11 over a network, where an entry that is not by the owner is known
-abbrev pub over_ok : networks.Network → Raw → List groups.Group → Option ℕ → Result ⊤ Refusal
-over_ok network raw groups stranger = do
-  paths_ok ← unless refused_paths (plan_fault network groups)
-  tree_ok ← unless refused_tree (policy_fault raw)
-  unless not_owner stranger
-
--- refusals 7 to 11
-unfoldable pub parts_ok : Raw → List groups.Group → Option ℕ → Result ⊤ Refusal
-parts_ok raw groups stranger = do
-  functions_ok ← unless refused_function (refused_in_groups raw.top raw.groups)
-  links_ok ← unless refused_links (network_fault raw)
-  over_ok (networks.network_of (links_of raw)) raw groups stranger
-
 -- refusals 7 to 11
 unfoldable pub document_by : Raw → NameTexts → Numbers → Result Accepted Refusal
 document_by raw names numbers = do

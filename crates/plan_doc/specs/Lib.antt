@@ -10,6 +10,5 @@ pub mod TooMany
 pub mod Tables
 pub mod Document
 pub mod Accepted
-pub mod Parts
 pub mod Conditions
 pub mod Plans

@@ -19,8 +19,8 @@ links_fault most links =
 abbrev pub tasks_fault : ℕ → ℕ → Option TreeFault
 tasks_fault most count = if nat_lt most count then Some (TooManyTasks count) else None
 
--- the fault of a tree of these clusters, which may have so many tasks: a node without children comes
--- before too many tasks
+-- the fault of a tree of these clusters, which may have so many tasks: a node without children
+-- comes before too many tasks
 unfoldable pub clusters_fault : ℕ → List Cluster → Option TreeFault
 clusters_fault most clusters =
     option_or (tree_fault clusters) (tasks_fault most (length (task_numbers clusters)))

@@ -26,7 +26,6 @@ ghost use Rattle.doc_passes.specs.NumbersView.{numbers_view};
 ghost use Rattle.plan_doc.specs.Refusals.{out_of_range, refused_function, refused_links, refused_paths, refused_tree, not_owner};
 ghost use Rattle.plan_doc.specs.Accepted.{Answers, Makes, PassesBy};
 ghost use Rattle.doc_passes.specs.Names.{name_lists};
-ghost use Rattle.plan_doc.specs.Parts.{BuildsOver, BuildsParts};
 ghost use Rattle.plan_doc.specs.Tables.{AreEmpty, tables_view};
 ghost use Rattle.doc_passes.specs.Limits.{overrun};
 ghost use Rattle.doc_passes.specs.Ranges.{ranges};
@@ -103,7 +102,8 @@ fn topology_of(alloc: Global, links: &[RawLink]) -> Result<Topology, DocError>
 
 // The topology of at most so many links. More are refused before anything is made of them.
 fn topology_within(alloc: Global, most: u64, links: &[RawLink]) -> Result<Topology, DocError>
-    ensures { Makes result refused_links (links_fault most (map link_part (map link_view links.now)))
+    ensures { Makes result refused_links
+        (links_fault most (map link_part (map link_view links.now)))
         (λ topology. topology ≡ network_of (map link_part (map link_view links.now))) }
 {
     let count = links.len() as u64;
@@ -213,74 +213,6 @@ fn check_owners(stranger: Option<u64>) -> Result<(), DocError>
     }
 }
 
-// What is built over a topology.
-#[derive(Drop)]
-struct Over {
-    tree: PolicyTree,
-    plan: PathPlan,
-}
-
-// What is built over the topology, or the first of the refusals 9 to 11. `stranger` is the entry
-// that is not by the owner.
-fn build_over(
-    alloc: Global,
-    raw: &RawDocument,
-    topology: &Topology,
-    groups: Vec<GroupSpec>,
-    tasks: u64,
-    clusters: Vec<ClusterSpec>,
-    stranger: Option<u64>,
-) -> Result<Over, DocError>
-    requires range { IsInRange (raw_view raw.now) }
-    requires tasks { tasks ≡ task_count (raw_view raw.now).groups }
-    requires few { length groups.items ≤ MAX_GROUPS }
-    requires in_range { AreInRange (length topology.now.capacities) (groups_of groups.items) }
-    requires clusters { each_view idle_cluster clusters
-        ≡ map (cluster_part raw.now.top) (raw_view raw.now).groups }
-    ensures { BuildsOver (raw_view raw.now) topology.now (groups_of groups.items) stranger result }
-{
-    let plan = build_plan(alloc, topology, groups)?;
-    let tree = build_tree(alloc, raw, tasks, clusters)?;
-    check_owners(stranger)?;
-    Ok(Over { tree, plan })
-}
-
-// What is built of a document.
-#[derive(Drop)]
-struct Parts {
-    tree: PolicyTree,
-    topology: Topology,
-    plan: PathPlan,
-}
-
-// The parts, or the first of the refusals 7 to 11. No other function has a topology that it would
-// have to drop.
-#[tactic(auto, unfolding(crate::specs::Document::parts_ok))]
-fn build_parts(
-    alloc: Global,
-    raw: &RawDocument,
-    groups: Vec<GroupSpec>,
-    tasks: u64,
-    stranger: Option<u64>,
-) -> Result<Parts, DocError>
-    requires range { IsInRange (raw_view raw.now) }
-    requires tasks { tasks ≡ task_count (raw_view raw.now).groups }
-    requires few { length groups.items ≤ MAX_GROUPS }
-    requires in_range { AreInRange (length (raw_view raw.now).links) (groups_of groups.items) }
-    ensures { BuildsParts (raw_view raw.now) (groups_of groups.items) stranger result }
-{
-    let clusters = build_clusters(alloc, &raw.groups, raw.top)?;
-    let topology = build_topology(alloc, raw)?;
-    match build_over(alloc, raw, &topology, groups, tasks, clusters, stranger) {
-        Ok(over) => Ok(Parts {
-            tree: over.tree,
-            topology,
-            plan: over.plan,
-        }),
-        Err(error) => Err(error),
-    }
-}
-
 /// The document that has passed the refusals 3 to 6, or the first of the refusals 7 to 11.
 #[tactic(auto, unfolding(crate::specs::Document::document_by))]
 fn build_document(
@@ -294,29 +226,26 @@ fn build_document(
         (document_by (raw_view raw.now) (texts_of names) (numbers_view numbers)) }
     ensures usable { IfOk result IsUsable }
 {
-    let DocumentNumbers {
-        link_owners,
-        groups,
-        task_owners,
-        script,
-        closings,
-    } = numbers;
-    // Looked for first, and told last: a builder's refusal has a lower number.
-    let stranger = find_not_owned(&task_owners, &link_owners, &script);
-    match build_parts(alloc, raw, groups, task_owners.len() as u64, stranger) {
-        Ok(parts) => Ok(Document {
-            version: raw.version,
-            tree: parts.tree,
-            topology: parts.topology,
-            plan: parts.plan,
-            script,
-            closings,
-            names,
-            task_owners,
-            link_owners,
-        }),
-        Err(error) => Err(error),
-    }
+    let clusters = build_clusters(alloc, &raw.groups, raw.top)?;
+    let topology = build_topology(alloc, raw)?;
+    let plan = build_plan(alloc, &topology, numbers.groups)?;
+    let tree = build_tree(alloc, raw, numbers.task_owners.len() as u64, clusters)?;
+    check_owners(find_not_owned(
+        &numbers.task_owners,
+        &numbers.link_owners,
+        &numbers.script,
+    ))?;
+    Ok(Document {
+        version: raw.version,
+        tree,
+        topology,
+        plan,
+        script: numbers.script,
+        closings: numbers.closings,
+        names,
+        task_owners: numbers.task_owners,
+        link_owners: numbers.link_owners,
+    })
 }
 
 // Nothing, or refusal 3.

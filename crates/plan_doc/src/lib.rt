@@ -9,12 +9,12 @@
 //! are in `doc_passes`.
 //!
 //! A reading takes the bytes once, token by token, into the raw document, whose names the text
-//! lends (`raw_reader`). Only a text that is not of the shape of a document is read again, by a walk
-//! over the tokens that finds the first fault (`fault_scan`), and by the tree of its JSON value
-//! (`raw_shape`) where that finds none. Each name is hashed once where it stands, and once where it
-//! is referred to unless it is found where it is likely; no name is looked for in a list. Each pass
-//! is linear. Nothing is promised of time, and nothing of which growth is refused where memory runs
-//! out.
+//! lends (`raw_reader`). Only a text that is not of the shape of a document is read again, by a
+//! walk over the tokens that finds the first fault (`fault_scan`), and by the tree of its JSON
+//! value (`raw_shape`) where that finds none. Each name is hashed once where it stands, and once
+//! where it is referred to unless it is found where it is likely; no name is looked for in a list.
+//! Each pass is linear. Nothing is promised of time, and nothing of which growth is refused where
+//! memory runs out.
 #![tactic(auto)]
 
 mod doc_error;
