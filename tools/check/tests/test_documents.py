@@ -120,7 +120,8 @@ def words_of_sources():
     patterns += ("examples/**/*.py",)
     files = [file for pattern in patterns for file in TOP.glob(pattern)]
     names = {path.parent.name for path in TOP.glob("crates/*/src")}
-    names.update(path.stem for path in [*edits(), *TOP.glob("tools/*/*"), *TOP.glob("control/*/*.py")])
+    scripts = [*TOP.glob("tools/*/*"), *TOP.glob("tools/*/tests/*.py"), *TOP.glob("control/*/*.py")]
+    names.update(path.stem for path in [*edits(), *scripts])
     for file in files:
         names.update(re.findall(r"[A-Za-z_][A-Za-z0-9_]*", file.read_text()))
     return names
