@@ -1,5 +1,5 @@
 -- A tree has a node without children where the groups of its document have one.
-use Rattle.std.proofs.Common.{◌≡◌, ℕ, ◌+◌, ◌<◌, ◌≤◌, ◌==◌, Bool, true, false, ◌||◌, cond, List, [], ◌∷◌, length, map, drop, get_or, Option, Some, None, refl, sym, ap, ap₂, ◌∙◌}
+use Rattle.std.proofs.Common.{◌≡◌, ℕ, ◌+◌, ◌<◌, ◌≤◌, ◌==◌, Bool, true, false, ◌||◌, cond, List, [], ◌∷◌, length, map, drop, get_or, Some, None, refl, sym, ap, ap₂, ◌∙◌}
 use Rattle.std.specs.Prelude.{position}
 use Rattle.std.specs.List.{list_any, flat_map, position_from}
 use Rattle.std.proofs.Math.Bool.{or-false}
@@ -8,7 +8,7 @@ use Rattle.std.proofs.lemmas.List.{drop_all, length-map}
 use Rattle.std.proofs.lemmas.List.Folds.{list_any-append}
 use Rattle.capped_sum.specs.CappedSum.{without_demand}
 use Rattle.policy_tree.specs.States.{JobState, UserState, ClusterState, job_tasks, user_tasks, cluster_tasks}
-use Rattle.policy_tree.specs.Numbering.{numbered, numbered_task, numbered_job, numbered_jobs, numbered_user, numbered_users, numbered_cluster, numbered_clusters}
+use Rattle.policy_tree.specs.Numbering.{numbered, numbered_task, numbered_job, numbered_user, numbered_cluster, numbered_clusters}
 use Rattle.policy_tree.specs.Walk.{Node, job_nodes, user_nodes, cluster_nodes, walk, is_childless}
 use Rattle.policy_tree.proofs.Numbers.{length-numbered}
 use Rattle.raw_document.specs.Raw as raw

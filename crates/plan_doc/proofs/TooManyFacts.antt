@@ -1,11 +1,10 @@
 -- Where more tasks than a document may have are refused.
-use Rattle.std.proofs.Common.{◌≡◌, ℕ, ◌<◌, ◌≤◌, Bool, true, false, ◌&&◌, not, List, length, map, Option, Some, None, Result, Ok, Err, refl, sym, ap, ap₂, ◌∙◌, if◌then◌else◌, nat_lt}
+use Rattle.std.proofs.Common.{◌≡◌, ℕ, Bool, true, false, ◌&&◌, not, List, length, map, Option, Some, None, Result, Ok, Err, refl, ap, ap₂, ◌∙◌, if◌then◌else◌, nat_lt}
 use Rattle.std.specs.Prelude.{IfSome, position}
 use Rattle.std.specs.Option.{option_or}
 use Rattle.std.proofs.lemmas.Bool.{and_parts, not-true}
 use Rattle.bwe_specs.proofs.Lists.{neither}
 use Rattle.bwe_specs.specs.Tree.{Cluster}
-use Rattle.wan_topology.specs.declared.fault.TopologyFault.{TopologyFault}
 use Rattle.wan_topology.specs.declared.fault.TopologyFault.TheVariants.{TooManyLinks}
 use Rattle.wan_topology.specs.Network.{Link}
 use Rattle.wan_topology.specs.Faults.{topology_fault}

@@ -230,11 +230,7 @@ fn build_document(
     let topology = build_topology(alloc, raw)?;
     let plan = build_plan(alloc, &topology, numbers.groups)?;
     let tree = build_tree(alloc, raw, numbers.task_owners.len() as u64, clusters)?;
-    check_owners(find_not_owned(
-        &numbers.task_owners,
-        &numbers.link_owners,
-        &numbers.script,
-    ))?;
+    check_owners(find_not_owned(&numbers.task_owners, &numbers.link_owners, &numbers.script))?;
     Ok(Document {
         version: raw.version,
         tree,
