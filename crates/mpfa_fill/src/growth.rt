@@ -1,6 +1,6 @@
 //! The groups of a filling, each as it was when it last came up to its value.
 
-ghost use Rattle.std.specs.Prelude.{◌≡◌, ℕ, ◌+◌, ◌-◌, ◌<◌, ◌≤◌, ◌∷◌, ◌++◌, [], length, map, reverse, set, slice_index, slice_index_or, IfOk, OnOk, IfSome, MatchOption, None};
+ghost use Rattle.std.specs.Prelude.{◌≡◌, true, ℕ, ◌+◌, ◌-◌, ◌<◌, ◌≤◌, ◌∷◌, ◌++◌, [], length, map, reverse, set, slice_index, slice_index_or, IfOk, OnOk, IfSome, MatchOption, None};
 ghost use Rattle.bwe_specs.specs.Reports.{numbers};
 ghost use Rattle.bwe_specs.specs.Paths.{path_group_at, path_group_count, current_path_group, load_on, link_load, lowest_over, is_over as is_link_over};
 ghost use Rattle.bwe_specs.specs.Filling.{closed_links};
@@ -337,14 +337,29 @@ impl<'a, V: GroupValues> Growth<'a, V> {
         ensures { let wan = wan_in V.meaning self.now in
             result ≡ link_load wan.groups (amounts_at wan (closings_in self.now) share) link }
     {
-        let mut load = self.sums.load(link) as u128;
-        let mut held: u128 = 0;
-        for term in terms {
-            let then = self.amount_then(*term, share);
-            held += self.plan.load(term.group, term.place, link, term.amount) as u128;
-            load += self.plan.load(term.group, term.place, link, then) as u128;
+        let (load, _) = self.load_by(terms, link, share, true);
+        load
+    }
+
+    /// A load that tells whether that load is at most so much: no less than it where it is, and else
+    /// the load itself. Where the ceilings of the groups' values tell, no value is asked for.
+    pub fn load_within(&self, terms: &[Term], link: u32, share: u64, most: u128) -> u128
+        requires growth { IsGrowth V.meaning self.now }
+        requires link { link < length (wan_in V.meaning self.now).capacities }
+        requires terms { AreTermsOn (wan_in V.meaning self.now) (closings_in self.now)
+            (added_in self.now) link terms.now }
+        requires last { last_share (closings_in self.now) ≤ share }
+        requires within { share ≤ (wan_in V.meaning self.now).top }
+        ensures within { let wan = wan_in V.meaning self.now in result ≤ most
+            → link_load wan.groups (amounts_at wan (closings_in self.now) share) link ≤ result }
+        ensures above { let wan = wan_in V.meaning self.now in most < result
+            → result ≡ link_load wan.groups (amounts_at wan (closings_in self.now) share) link }
+    {
+        let (load, is_exact) = self.load_by(terms, link, share, false);
+        if is_exact || load <= most {
+            return load;
         }
-        load - held
+        self.load_at(terms, link, share)
     }
 
     /// Whether the link is over at the share, if nothing closes on the way there. The terms are the
@@ -408,35 +423,81 @@ impl<'a, V: GroupValues> Growth<'a, V> {
         Some(self.plan.load(group, place, link, amount))
     }
 
-    // What the group of the term has at the share, on the path group where it grows.
-    fn amount_then(&self, term: Term, share: u64) -> u64
+    // The load of the link at the share, or no less than it, and whether it is the load itself: as
+    // `amount_by` tells the amounts.
+    fn load_by(&self, terms: &[Term], link: u32, share: u64, exactly: bool) -> (u128, bool)
+        requires growth { IsGrowth V.meaning self.now }
+        requires link { link < length (wan_in V.meaning self.now).capacities }
+        requires terms { AreTermsOn (wan_in V.meaning self.now) (closings_in self.now)
+            (added_in self.now) link terms.now }
+        requires last { last_share (closings_in self.now) ≤ share }
+        requires within { share ≤ (wan_in V.meaning self.now).top }
+        ensures least { let wan = wan_in V.meaning self.now in
+            link_load wan.groups (amounts_at wan (closings_in self.now) share) link ≤ result.0 }
+        ensures exact { let wan = wan_in V.meaning self.now in result.1 ≡ true
+            → result.0 ≡ link_load wan.groups (amounts_at wan (closings_in self.now) share) link }
+        ensures asked { exactly ≡ true → result.1 ≡ true }
+    {
+        let mut load = self.sums.load(link) as u128;
+        let mut held: u128 = 0;
+        let mut is_exact = true;
+        for term in terms {
+            let (then, is_amount) = self.amount_by(*term, share, exactly);
+            is_exact = is_exact & is_amount;
+            held += self.plan.load(term.group, term.place, link, term.amount) as u128;
+            load += self.plan.load(term.group, term.place, link, then) as u128;
+        }
+        (load - held, is_exact)
+    }
+
+    // What the group of the term has at the share, on the path group where it grows; or where that
+    // is not asked for exactly, no less. And whether it is the amount itself.
+    fn amount_by(&self, term: Term, share: u64, exactly: bool) -> (u64, bool)
         requires growth { IsGrowth V.meaning self.now }
         requires term { IsTermOf (wan_in V.meaning self.now) (closings_in self.now)
             (added_in self.now) term.group term }
         requires last { last_share (closings_in self.now) ≤ share }
         requires within { share ≤ (wan_in V.meaning self.now).top }
-        ensures amount { result
+        ensures least { amounts_at (wan_in V.meaning self.now) (closings_in self.now) share
+            term.group term.place ≤ result.0 }
+        ensures exact { result.1 ≡ true → result.0
             ≡ amounts_at (wan_in V.meaning self.now) (closings_in self.now) share
             term.group term.place }
-        ensures small { result ≤ MAX_TOTAL }
+        ensures asked { exactly ≡ true → result.1 ≡ true }
+        ensures small { result.0 ≤ MAX_TOTAL }
     {
-        term.amount + self.value_then(term, share) - term.value
+        let (value, is_exact) = self.value_by(term, share, exactly);
+        (term.amount + value - term.value, is_exact)
     }
 
-    // The value of the group of the term at the share, which is asked for unless it is known.
-    fn value_then(&self, term: Term, share: u64) -> u64
+    // The value of the group of the term at the share, which is asked for unless it is known; or
+    // where that is not asked for exactly, no less, and no more than at a share where it is known.
+    // And whether it is the value itself.
+    fn value_by(&self, term: Term, share: u64, exactly: bool) -> (u64, bool)
         requires growth { IsGrowth V.meaning self.now }
         requires group { term.group < length self.now.plan.now }
         requires known { IsKnown (wan_in V.meaning self.now) term.group term.known }
         requires within { share ≤ (wan_in V.meaning self.now).top }
-        ensures { result ≡ (wan_in V.meaning self.now).value term.group share }
+        ensures least { (wan_in V.meaning self.now).value term.group share ≤ result.0 }
+        ensures exact { result.1 ≡ true
+            → result.0 ≡ (wan_in V.meaning self.now).value term.group share }
+        ensures asked { exactly ≡ true → result.1 ≡ true }
+        ensures most { result.0
+            ≤ (wan_in V.meaning self.now).value term.group (wan_in V.meaning self.now).top }
     {
-        if let Some(known) = term.known
-            && known.share == share
-        {
-            return known.value;
+        let Some(known) = term.known else {
+            return (self.values.value(term.group, share), true);
+        };
+        if known.share == share {
+            return (known.value, true);
         }
-        self.values.value(term.group, share)
+        if exactly || known.share < share || self.values.top() < known.share {
+            return (self.values.value(term.group, share), true);
+        }
+        match self.values.ceiling(term.group, share) {
+            Some(ceiling) => (ceiling.min(known.value), false),
+            None => (self.values.value(term.group, share), true),
+        }
     }
 
     /// The filling, once all groups have come up to the top and no link is over there.

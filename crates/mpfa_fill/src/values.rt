@@ -1,6 +1,6 @@
 //! What is filled.
 
-ghost use Rattle.std.specs.Prelude.{◌≡◌, ◌<◌, ◌≤◌};
+ghost use Rattle.std.specs.Prelude.{◌≡◌, ◌<◌, ◌≤◌, IfSome};
 ghost use Rattle.mpfa_fill.specs.GroupValues.{Values, AreGroupValues};
 
 /// What each group may have at each share, in kilobits per second.
@@ -26,4 +26,11 @@ pub trait GroupValues {
         requires group { group < (meaning self.now).groups }
         requires share { share ≤ (meaning self.now).top }
         ensures { result ≡ (meaning self.now).value group share };
+
+    /// No less than the group's value at the share, where that is told in fewer steps than the value
+    /// itself.
+    fn ceiling(&self, group: u32, share: u64) -> Option<u64>
+        requires group { group < (meaning self.now).groups }
+        requires share { share ≤ (meaning self.now).top }
+        ensures { IfSome result (λ ceiling. (meaning self.now).value group share ≤ ceiling) };
 }

@@ -1,13 +1,14 @@
-use Rattle.std.proofs.Common.{arith, List}
+use Rattle.std.proofs.Common.{◌≤◌, arith, List, le_refl}
 use Rattle.bwe_specs.specs.declared.network.Closing.{Closing}
 use Rattle.bwe_specs.specs.Filling.{Wan, closed_links}
+use Rattle.bwe_specs.specs.RightClosings.{last_share}
 use Rattle.bwe_specs.specs.Values.{NeverFalls}
 use Rattle.bwe_specs.proofs.Loads.{current-open}
 use Rattle.mpfa_fill.proofs.MomentLemmas.{never_falls, together}
 use Rattle.mpfa_fill.proofs.Small.{amount-small}
 use Rattle.mpfa_fill.specs.Growth.{wan_in, closings_in}
 use Rattle.mpfa_fill.proofs.Small.{added-small}
-use Rattle.mpfa_fill.proofs.growth.Growth.amount_then.Goals as goal
+use Rattle.mpfa_fill.proofs.growth.Growth.amount_by.Goals as goal
 
 pub overflow_add-result : goal.overflow_add-result
 overflow_add-result g c =
@@ -17,9 +18,9 @@ overflow_add-result g c =
     let never : NeverFalls wan = never_falls _ _ _ m.known in
     let closings : List Closing = closings_in c.args.self.now in
     let inside = (current-open _ (closed_links closings) c.args.term.place t.grows).0 in
-    let then = amount-small wan never closings m.order (together _ c.args.self.now.plan.now m.known m.count) c.args.share c.args.term.group c.args.term.place c.requires.last c.requires.within t.in_range inside in
+    let at_top = amount-small wan never closings m.order (together _ c.args.self.now.plan.now m.known m.count) wan.top c.args.term.group c.args.term.place (omega (arith, c.requires.last, c.requires.within)) (le_refl wan.top) t.in_range inside in
     let before = added-small c.args.self.now.plan.now c.args.self.now.sums m.summed c.args.term.group c.args.term.place t.in_range inside in
-    omega (arith, before, then.1, t.amount, c.value_then.ensures)
+    omega (arith, before, at_top.1, t.amount, c.value_by-value.ensures.most)
 
 pub returns-clause-small : goal.returns-clause-small
 returns-clause-small g c =
@@ -29,5 +30,6 @@ returns-clause-small g c =
     let never : NeverFalls wan = never_falls _ _ _ m.known in
     let closings : List Closing = closings_in c.args.self.now in
     let inside = (current-open _ (closed_links closings) c.args.term.place t.grows).0 in
-    let then = amount-small wan never closings m.order (together _ c.args.self.now.plan.now m.known m.count) c.args.share c.args.term.group c.args.term.place c.requires.last c.requires.within t.in_range inside in
-    omega (arith, t.has c.args.share c.requires.last c.requires.within, t.amount, c.value_then.ensures, then.0, then.1)
+    let after : last_share closings ≤ wan.top = omega (arith, c.requires.last, c.requires.within) in
+    let at_top = amount-small wan never closings m.order (together _ c.args.self.now.plan.now m.known m.count) wan.top c.args.term.group c.args.term.place after (le_refl wan.top) t.in_range inside in
+    omega (arith, t.has wan.top after (le_refl wan.top), t.amount, c.value_by-value.ensures.most, at_top.0, at_top.1)

@@ -1,0 +1,44 @@
+use Rattle.std.proofs.Common.{◌≡◌, ◌≤◌, arith, le_refl, ap, subst}
+use Rattle.bwe_specs.specs.Filling.{Wan}
+use Rattle.bwe_specs.proofs.Growth.{value-mono}
+use Rattle.mpfa_fill.proofs.MomentLemmas.{never_falls}
+use Rattle.mpfa_fill.specs.Growth.{wan_in, IsKnown}
+use Rattle.mpfa_fill.proofs.growth.Growth.value_by.Goals as goal
+
+pub returns-in_default-clause-most : goal.returns-in_default-clause-most
+returns-in_default-clause-most g c =
+    let wan : Wan = wan_in g.V.GroupValues.meaning c.args.self.now in
+    omega (arith, c.value.ensures, value-mono wan (never_falls _ _ _ c.requires.growth.known) c.args.term.group c.args.share wan.top c.requires.within (le_refl wan.top))
+
+pub returns-then-known-share-clause-most : goal.returns-then-known-share-clause-most
+returns-then-known-share-clause-most g c =
+    let wan : Wan = wan_in g.V.GroupValues.meaning c.args.self.now in
+    let known : c.in-Some.known.value ≡ wan.value c.args.term.group c.in-Some.known.share = subst (IsKnown wan c.args.term.group) c.in-Some.is c.requires.known in
+    omega (arith, known, ap (wan.value c.args.term.group) c.if-known-share.true, value-mono wan (never_falls _ _ _ c.requires.growth.known) c.args.term.group c.args.share wan.top c.requires.within (le_refl wan.top))
+
+pub returns-then-exactly-clause-most : goal.returns-then-exactly-clause-most
+returns-then-exactly-clause-most g c =
+    let wan : Wan = wan_in g.V.GroupValues.meaning c.args.self.now in
+    omega (arith, c.value-then-exactly.ensures, value-mono wan (never_falls _ _ _ c.requires.growth.known) c.args.term.group c.args.share wan.top c.requires.within (le_refl wan.top))
+
+pub returns-in-Some-ceiling-clause-least : goal.returns-in-Some-ceiling-clause-least
+returns-in-Some-ceiling-clause-least g c =
+    let wan : Wan = wan_in g.V.GroupValues.meaning c.args.self.now in
+    let known : c.in-Some.known.value ≡ wan.value c.args.term.group c.in-Some.known.share = subst (IsKnown wan c.args.term.group) c.in-Some.is c.requires.known in
+    let before : c.args.share ≤ c.in-Some.known.share = omega (arith, c.if-known-share-2.false) in
+    let within : c.in-Some.known.share ≤ wan.top = omega (arith, c.if-top-known.false, c.top.ensures.top) in
+    let mono = value-mono wan (never_falls _ _ _ c.requires.growth.known) c.args.term.group c.args.share c.in-Some.known.share before within in
+    omega (arith, c.min.ensures, c.in-Some-ceiling.ensures, known, mono)
+
+pub returns-in-Some-ceiling-clause-most : goal.returns-in-Some-ceiling-clause-most
+returns-in-Some-ceiling-clause-most g c =
+    let wan : Wan = wan_in g.V.GroupValues.meaning c.args.self.now in
+    let known : c.in-Some.known.value ≡ wan.value c.args.term.group c.in-Some.known.share = subst (IsKnown wan c.args.term.group) c.in-Some.is c.requires.known in
+    let within : c.in-Some.known.share ≤ wan.top = omega (arith, c.if-top-known.false, c.top.ensures.top) in
+    let mono = value-mono wan (never_falls _ _ _ c.requires.growth.known) c.args.term.group c.in-Some.known.share wan.top within (le_refl wan.top) in
+    omega (arith, c.min.ensures, known, mono)
+
+pub returns-in-None-clause-most : goal.returns-in-None-clause-most
+returns-in-None-clause-most g c =
+    let wan : Wan = wan_in g.V.GroupValues.meaning c.args.self.now in
+    omega (arith, c.value-in-None.ensures, value-mono wan (never_falls _ _ _ c.requires.growth.known) c.args.term.group c.args.share wan.top c.requires.within (le_refl wan.top))
