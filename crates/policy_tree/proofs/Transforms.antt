@@ -65,3 +65,8 @@ transformed-none sum share = refl
 pub transformed-some : (function : Function) (sum : ℕ → ℕ) (share : ℕ) → transformed (Some function) sum share ≡ sum (inner_share function.top function.points sum share)
 unfolding transformed
 transformed-some function sum share = refl
+
+-- under a configured function the value is at most what that gives
+pub transformed-fits : (function : Function) (sum : ℕ → ℕ) (share : ℕ) → IsMeaning sum → transformed (Some function) sum share ≤ function_value function.points share
+unfolding transformed
+transformed-fits function sum share is = inner_share-fits function.top function.points sum share is.starts

@@ -6,6 +6,7 @@ ghost use Rattle.policy_tree.specs.States.{cluster_meaning, users_meaning, job_t
 ghost use Rattle.policy_tree.specs.Asked.{HasClusterWeights, cluster_weights, idle_cluster};
 ghost use Rattle.policy_tree.specs.Changes.{job_at, user_at, cluster_with};
 
+use crate::ceiling::{Ceiling, ceiling_at};
 use crate::level::{LevelNode, nodes_of, rematch_all};
 use crate::siblings::Siblings;
 use crate::spec::ClusterSpec;
@@ -133,5 +134,11 @@ impl ShareFunction for ClusterNode {
 
     fn stretch(&self, amount: u64) -> Option<Stretch> {
         stretch_of(&self.function, &self.siblings(), amount)
+    }
+}
+
+impl Ceiling for ClusterNode {
+    fn ceiling(&self, share: u64) -> u64 {
+        ceiling_at(&self.function, &self.siblings(), share)
     }
 }

@@ -8,6 +8,7 @@ ghost use Rattle.policy_tree.specs.Asked.{HasJobWeights, job_weights, idle_job};
 ghost use Rattle.policy_tree.specs.Changes.{job_with};
 ghost use Rattle.policy_tree.specs.Seen.{value_at};
 
+use crate::ceiling::{Ceiling, ceiling_at};
 use crate::level::LevelNode;
 use crate::spec::JobSpec;
 use crate::value::{
@@ -137,5 +138,11 @@ impl ShareFunction for JobNode {
 
     fn stretch(&self, amount: u64) -> Option<Stretch> {
         stretch_of(&self.function, &self.sum, amount)
+    }
+}
+
+impl Ceiling for JobNode {
+    fn ceiling(&self, share: u64) -> u64 {
+        ceiling_at(&self.function, &self.sum, share)
     }
 }

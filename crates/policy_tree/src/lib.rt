@@ -19,10 +19,12 @@
 //! `rematch` itself takes no search: some values of functions for each point, at most 64 points a
 //! node, and a sort of the demands of each job that was told a new one; docs/PERFORMANCE.md counts
 //! them. A changed demand makes the sum of its own job slow until the next `rematch`, and no other.
-//! A node is looked up by its number in the order of the numbers. Nothing is promised of that cost
-//! in a contract, nor of how values are kept.
+//! A node is looked up by its number in the order of the numbers. `PolicyTree::group_ceiling` never
+//! searches for a share: it asks a configured function alone, and where there is none the children.
+//! Nothing is promised of that cost in a contract, nor of how values are kept.
 #![tactic(auto)]
 
+mod ceiling;
 mod childless;
 mod cluster;
 mod fault;

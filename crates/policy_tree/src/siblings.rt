@@ -4,6 +4,7 @@ ghost use Rattle.std.specs.Prelude.{◌≡◌, ℕ, map};
 ghost use Rattle.bwe_specs.specs.Distribution.{children_sum};
 ghost use Rattle.function_sum.specs.Meaning.{IsMeaning};
 
+use crate::ceiling::{Ceiling, ceiling_sum};
 use function_sum::{Look, Outline, ShareFunction, Stretch, look_at, near_sum, sum_at};
 
 /// Nodes that are the children of one, so that their sum is a share function, and its outline.
@@ -59,5 +60,11 @@ impl<C: ShareFunction> ShareFunction for Siblings<'_, C> {
             Some(node) => node.stretch(amount),
             None => None,
         }
+    }
+}
+
+impl<C: Ceiling> Ceiling for Siblings<'_, C> {
+    fn ceiling(&self, share: u64) -> u64 {
+        ceiling_sum(self.nodes, share)
     }
 }

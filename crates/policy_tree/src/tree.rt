@@ -10,6 +10,7 @@ ghost use Rattle.policy_tree.specs.Children.{child_numbers};
 ghost use Rattle.policy_tree.specs.Seen.{kind_of, node_in, group_node_in, value_of, task_value_in, IsJobOf};
 ghost use Rattle.policy_tree.specs.Walk.{walk, tree_fault, TellsFault};
 
+use crate::ceiling::Ceiling;
 use crate::childless::{fault_of, firsts_of};
 use crate::cluster::ClusterNode;
 use crate::fault::TreeError;
@@ -235,6 +236,16 @@ impl PolicyTree {
         ensures { result ≡ value_in self.now group share }
     {
         self.clusters[group as usize].value(share)
+    }
+
+    /// No less than what a group may have at a share, in kilobits per second, found without a
+    /// search: what the configured function of its cluster gives there, or without one the sum over
+    /// its users, each bounded in the same way. A job without a function has its exact sum.
+    pub fn group_ceiling(&self, group: u32, share: u64) -> u64
+        requires { group < length self.now.clusters }
+        ensures { value_in self.now group share ≤ result }
+    {
+        self.clusters[group as usize].ceiling(share)
     }
 
     /// What a group may have at the greatest share, in kilobits per second.

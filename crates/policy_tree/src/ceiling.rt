@@ -1,0 +1,49 @@
+//! Ceilings: no less than a value, found without a search.
+
+ghost use Rattle.std.specs.Prelude.{ℕ, ◌≤◌, map};
+ghost use Rattle.bwe_specs.specs.Distribution.{children_sum};
+ghost use Rattle.function_sum.specs.Meaning.{IsMeaning};
+ghost use Rattle.policy_tree.specs.States.{transformed};
+
+use bw_function::BwFunction;
+use bwe_specs::MAX_TOTAL;
+use capped_sum::CappedSum;
+use function_sum::ShareFunction;
+
+/// A share function that tells how high its values are at most.
+pub(crate) trait Ceiling: ShareFunction {
+    /// No less than the value at a share, in kilobits per second, found without a search.
+    fn ceiling(&self, share: u64) -> u64
+        ensures { Self.meaning self.now share ≤ result };
+}
+
+impl Ceiling for CappedSum {
+    // The value itself, which needs no share to be searched for.
+    fn ceiling(&self, share: u64) -> u64 {
+        self.value(share)
+    }
+}
+
+/// No less than a node's value at a share: what its configured function gives there, or without one
+/// what the children have there at most.
+pub(crate) fn ceiling_at<P: Ceiling>(function: &Option<BwFunction>, sum: &P, share: u64) -> u64
+    requires { IsMeaning (P.meaning sum.now) }
+    ensures { transformed function.now (P.meaning sum.now) share ≤ result }
+{
+    match function {
+        None => sum.ceiling(share),
+        Some(parent) => parent.value(share),
+    }
+}
+
+/// No less than the sum of the nodes' values at a share.
+pub(crate) fn ceiling_sum<C: Ceiling>(nodes: &[C], share: u64) -> u64
+    requires { children_sum (map C.meaning nodes.now) share ≤ MAX_TOTAL }
+    ensures { children_sum (map C.meaning nodes.now) share ≤ result }
+{
+    let mut sum: u64 = 0;
+    for node in nodes {
+        sum = sum.saturating_add(node.ceiling(share));
+    }
+    sum
+}
