@@ -25,4 +25,8 @@ impl GroupValues for TreeValues<'_> {
     fn value(&self, group: u32, share: u64) -> u64 {
         self.tree.group_value(group, share)
     }
+
+    fn ceiling(&self, group: u32, share: u64) -> Option<u64> {
+        self.tree.group_ceiling(group, share)
+    }
 }

@@ -83,6 +83,10 @@ impl<K: Meant> GroupValues for KnownValues<'_, K> {
         self.list(group, share, value);
         value
     }
+
+    fn ceiling(&self, group: u32, share: u64) -> Option<u64> {
+        self.tree.group_ceiling(group, share)
+    }
 }
 
 /// The filling with the values of the tree. Values that it asks for are kept from now on.

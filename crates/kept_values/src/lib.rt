@@ -111,6 +111,10 @@ impl<V: GroupValues, K: Meant> GroupValues for KeptValues<'_, V, K> {
         self.keep(group, share, value);
         value
     }
+
+    fn ceiling(&self, group: u32, share: u64) -> Option<u64> {
+        self.values.ceiling(group, share)
+    }
 }
 
 // No answer of so many groups.

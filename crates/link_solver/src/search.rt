@@ -168,7 +168,33 @@ fn load_at<V: GroupValues, L: Ledger>(
     front.growth.load_at(terms, link, share)
 }
 
-// The same, where the link is over at the end of its due.
+// A load that tells whether the link fits at the share, which is a look at it: no less than its load
+// where it fits, and else its load.
+fn load_within<V: GroupValues, L: Ledger>(
+    front: &Front<V>,
+    terms: &[Term],
+    link: u32,
+    share: u64,
+    capacity: u128,
+    steps: &mut Steps<L>,
+) -> u128
+    requires front { IsFront V.meaning front.now }
+    requires link { link < length (wan_in V.meaning front.now).capacities }
+    requires terms { AreTermsOn (wan_in V.meaning front.now) (closings_in front.now)
+        (added_in front.now) link terms.now }
+    requires last { last_share (closings_in front.now) ≤ share }
+    requires within { share ≤ (wan_in V.meaning front.now).top }
+    ensures within { result ≤ capacity
+        → load_at (wan_in V.meaning front.now) (closings_in front.now) share link ≤ result }
+    ensures above { capacity < result
+        → result ≡ load_at (wan_in V.meaning front.now) (closings_in front.now) share link }
+    ensures ticks { steps.new ≡ steps.old + 1 }
+{
+    steps.tick();
+    front.growth.load_within(terms, link, share, capacity)
+}
+
+// The same as `looked`, where the link is over at the end of its due.
 fn halved<V: GroupValues, L: Ledger>(
     front: &Front<V>,
     terms: &[Term],
@@ -201,7 +227,7 @@ fn halved<V: GroupValues, L: Ledger>(
     let mut over_load = due.over_load;
     while high - low > 1 && low <= enough {
         let middle = low + (high - low) / 2;
-        let load = load_at(front, terms, link, middle, steps);
+        let load = load_within(front, terms, link, middle, capacity, steps);
         if load > capacity {
             high = middle;
             over_load = load;

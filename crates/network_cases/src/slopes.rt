@@ -68,6 +68,10 @@ impl GroupValues for Slopes {
         }
         value_at(self.slopes[group as usize], share)
     }
+
+    fn ceiling(&self, _group: u32, _share: u64) -> Option<u64> {
+        None
+    }
 }
 
 // The value of one group.

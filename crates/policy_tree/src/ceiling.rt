@@ -15,12 +15,20 @@ pub(crate) trait Ceiling: ShareFunction {
     /// No less than the value at a share, in kilobits per second, found without a search.
     fn ceiling(&self, share: u64) -> u64
         ensures { Self.meaning self.now share ≤ result };
+
+    /// Whether a function is configured here or below, so that the ceiling takes fewer steps than
+    /// the value.
+    fn is_configured(&self) -> bool;
 }
 
 impl Ceiling for CappedSum {
     // The value itself, which needs no share to be searched for.
     fn ceiling(&self, share: u64) -> u64 {
         self.value(share)
+    }
+
+    fn is_configured(&self) -> bool {
+        false
     }
 }
 

@@ -145,4 +145,8 @@ impl Ceiling for JobNode {
     fn ceiling(&self, share: u64) -> u64 {
         ceiling_at(&self.function, &self.sum, share)
     }
+
+    fn is_configured(&self) -> bool {
+        self.function.is_some() || self.sum.is_configured()
+    }
 }

@@ -67,4 +67,13 @@ impl<C: Ceiling> Ceiling for Siblings<'_, C> {
     fn ceiling(&self, share: u64) -> u64 {
         ceiling_sum(self.nodes, share)
     }
+
+    fn is_configured(&self) -> bool {
+        for node in self.nodes {
+            if node.is_configured() {
+                return true;
+            }
+        }
+        false
+    }
 }

@@ -1,6 +1,6 @@
 //! The tree of all groups.
 
-ghost use Rattle.std.specs.Prelude.{◌≡◌, ℕ, ◌^◌, ◌<◌, ◌≤◌, length, All, IfOk, IfErr, OnOk, OnErr, None};
+ghost use Rattle.std.specs.Prelude.{◌≡◌, ℕ, ◌^◌, ◌<◌, ◌≤◌, length, All, IfOk, IfErr, IfSome, OnOk, OnErr, None};
 ghost use Rattle.bwe_specs.specs.Values.{AreValues};
 ghost use Rattle.policy_tree.specs.Trees.{asking, demand_in, value_in, task_numbers, IsTree};
 ghost use Rattle.policy_tree.specs.Asked.{HasClusterTop, HasClusterWeights};
@@ -240,12 +240,17 @@ impl PolicyTree {
 
     /// No less than what a group may have at a share, in kilobits per second, found without a
     /// search: what the configured function of its cluster gives there, or without one the sum over
-    /// its users, each bounded in the same way. A job without a function has its exact sum.
-    pub fn group_ceiling(&self, group: u32, share: u64) -> u64
+    /// its users, each bounded in the same way. A job without a function has its exact sum. `None`
+    /// where the group has no configured function: its value takes no search then.
+    pub fn group_ceiling(&self, group: u32, share: u64) -> Option<u64>
         requires { group < length self.now.clusters }
-        ensures { value_in self.now group share ≤ result }
+        ensures { IfSome result (λ ceiling. value_in self.now group share ≤ ceiling) }
     {
-        self.clusters[group as usize].ceiling(share)
+        let cluster = &self.clusters[group as usize];
+        if !cluster.is_configured() {
+            return None;
+        }
+        Some(cluster.ceiling(share))
     }
 
     /// What a group may have at the greatest share, in kilobits per second.

@@ -134,4 +134,8 @@ impl Ceiling for UserNode {
     fn ceiling(&self, share: u64) -> u64 {
         ceiling_at(&self.function, &self.siblings(), share)
     }
+
+    fn is_configured(&self) -> bool {
+        self.function.is_some() || self.siblings().is_configured()
+    }
 }

@@ -34,6 +34,14 @@ impl GroupValues for TierValues<'_> {
             0
         }
     }
+
+    fn ceiling(&self, group: u32, share: u64) -> Option<u64> {
+        if is_in_tier(self.tiers, self.tier, group) {
+            self.tree.group_ceiling(group, share)
+        } else {
+            None
+        }
+    }
 }
 
 // Whether the group is one of the tier.

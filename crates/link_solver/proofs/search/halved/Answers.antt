@@ -16,15 +16,15 @@ loop-high-preserved-then-load-capacity g c =
       order = omega (arith, c.loop-high-test.true);
       upto = omega (arith, c.loop-high-test.true, i.upto);
       fits = i.fits;
-      over = lt-ltb (slice_index wan.capacities c.args.link) (load_at wan (closings_in c.args.front.now) (low + (high - low) / 2) c.args.link) (omega (arith, c.load_at-load.ensures.load, c.capacity-capacity.ensures, c.if-load-capacity.true));
+      over = lt-ltb (slice_index wan.capacities c.args.link) (load_at wan (closings_in c.args.front.now) (low + (high - low) / 2) c.args.link) (omega (arith, c.load_within-load.ensures.above c.if-load-capacity.true, c.capacity-capacity.ensures, c.if-load-capacity.true));
       low_load = i.low_load;
-      over_load = λ _. omega (arith, c.load_at-load.ensures.load);
-      more = omega (arith, i.more, c.load_at-load.ensures.ticks);
-      some = λ _. omega (arith, i.more, c.load_at-load.ensures.ticks);
+      over_load = λ _. omega (arith, c.load_within-load.ensures.above c.if-load-capacity.true);
+      more = omega (arith, i.more, c.load_within-load.ensures.ticks);
+      some = λ _. omega (arith, i.more, c.load_within-load.ensures.ticks);
       ticks = omega (
         arith,
         i.ticks,
-        c.load_at-load.ensures.ticks,
+        c.load_within-load.ensures.ticks,
         one-less (high - low) (low + (high - low) / 2 - low) width (omega (arith, c.loop-high-test.true)) (omega (arith, c.loop-high-test.true)),
       );
     }
@@ -40,16 +40,16 @@ loop-high-preserved g c =
       from = omega (arith, i.from);
       order = omega (arith, c.loop-high-test.true);
       upto = i.upto;
-      fits = λ above. le-ltb (slice_index wan.capacities c.args.link) (load_at wan (closings_in c.args.front.now) (low + (high - low) / 2) c.args.link) (omega (arith, c.load_at-load.ensures.load, c.capacity-capacity.ensures, c.if-load-capacity.false));
+      fits = λ above. le-ltb (slice_index wan.capacities c.args.link) (load_at wan (closings_in c.args.front.now) (low + (high - low) / 2) c.args.link) (omega (arith, c.load_within-load.ensures.within c.if-load-capacity.false, c.capacity-capacity.ensures, c.if-load-capacity.false));
       over = i.over;
-      low_load = λ _. omega (arith, c.load_at-load.ensures.load);
+      low_load = λ _. omega (arith, c.load_within-load.ensures.within c.if-load-capacity.false);
       over_load = i.over_load;
-      more = omega (arith, i.more, c.load_at-load.ensures.ticks);
-      some = λ _. omega (arith, i.more, c.load_at-load.ensures.ticks);
+      more = omega (arith, i.more, c.load_within-load.ensures.ticks);
+      some = λ _. omega (arith, i.more, c.load_within-load.ensures.ticks);
       ticks = omega (
         arith,
         i.ticks,
-        c.load_at-load.ensures.ticks,
+        c.load_within-load.ensures.ticks,
         one-less (high - low) (high - (low + (high - low) / 2)) width (omega (arith, c.loop-high-test.true)) (omega (arith, c.loop-high-test.true)),
       );
     }
