@@ -10,10 +10,11 @@
 //! What a value costs: without configured functions one sum a job, each a search in the job's order
 //! of demands. A node with a configured function looks its inner share up. A job tells it without a
 //! search, by its order of demands turned round, and so does a chain of single children over one
-//! job. Another node searches, and each look is a look at each of its children, so with functions
-//! on all three levels the looks of the levels multiply. They are few: `rematch` draws of each
-//! node's children an outline (`function_sum::Outline`), whose points are at the shares where the
-//! children's functions have theirs and where a child has all that it may have. A search begins
+//! job. So does a single child with a configured function, by at most one search among its own
+//! children. Another node searches, and each look is a look at each of its children, so with
+//! functions on all three levels the looks of the levels multiply. They are few: `rematch` draws of
+//! each node's children an outline (`function_sum::Outline`), whose points are at the shares where
+//! the children's functions have theirs and where a child has all that it may have. A search begins
 //! where the outline meets the amount, and a look comes with guesses of the last share at which the
 //! value stays the same and of what it is after that. It never takes more than 62 looks. A
 //! `rematch` itself takes no search: some values of functions for each point, at most 64 points a

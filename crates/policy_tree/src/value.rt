@@ -7,6 +7,7 @@ ghost use Rattle.function_sum.specs.Meaning.{IsMeaning};
 ghost use Rattle.policy_tree.specs.States.{transformed, IsKeptFunction};
 
 use bw_function::BwFunction;
+use bwe_specs::MAX_SHARE;
 use function_sum::{Look, Outline, ShareFunction, Stretch};
 use mono_search::Steps;
 use share_transform::{look_by, meeting_of};
@@ -104,8 +105,10 @@ pub(crate) fn stretch_of<P: ShareFunction>(
     }
 }
 
-/// The greatest share up to `top` at which the value is at most so much, where the children's sum
-/// tells its own.
+/// The greatest share up to `top` at which the value is at most so much.
+///
+/// Under a configured function it is always told, by at most one search among the children. Without
+/// one it is told where the children's sum tells its own.
 pub(crate) fn last_share_at<P: ShareFunction>(
     function: &Option<BwFunction>,
     sum: &P,
@@ -119,33 +122,37 @@ pub(crate) fn last_share_at<P: ShareFunction>(
 {
     match function {
         None => sum.last_share_within(amount, top),
-        Some(parent) => last_by_parent(parent, sum, amount, top),
+        Some(parent) => Some(last_by_parent(parent, sum, amount, top)),
     }
 }
 
 // The same under a configured function: the sum gets past the amount at one inner share, and the
 // function gives the sum there from one share on.
-fn last_by_parent<P: ShareFunction>(
-    parent: &BwFunction,
-    sum: &P,
-    amount: u64,
-    top: u64,
-) -> Option<u64>
-    ensures last { IfSome result (λ last. last ≡ greatest_upto top (λ share. nat_le
+fn last_by_parent<P: ShareFunction>(parent: &BwFunction, sum: &P, amount: u64, top: u64) -> u64
+    ensures last { result ≡ greatest_upto top (λ share. nat_le
         (P.meaning sum.now (inner_share parent.now.top parent.now.points (P.meaning sum.now) share))
-        amount)) }
+        amount) }
     ensures meaning { IsMeaning (P.meaning sum.now) }
 {
     let end = parent.top();
+    let inner = last_inner(sum, amount, end);
+    if inner == end {
+        return top;
+    }
+    let next = sum.value(inner + 1);
+    parent.last_share_within(next - 1, top)
+}
+
+// The greatest share up to `end` at which the sum is at most the amount: a search finds it where
+// the sum does not tell it.
+fn last_inner<P: ShareFunction>(sum: &P, amount: u64, end: u64) -> u64
+    requires { end ≤ MAX_SHARE }
+    ensures last { result ≡ greatest_upto end (λ share. nat_le (P.meaning sum.now share) amount) }
+    ensures meaning { IsMeaning (P.meaning sum.now) }
+{
     match sum.last_share_within(amount, end) {
-        None => None,
-        Some(inner) => {
-            if inner == end {
-                return Some(top);
-            }
-            let next = sum.value(inner + 1);
-            Some(parent.last_share_within(next - 1, top))
-        }
+        Some(inner) => inner,
+        None => meeting_of(sum, amount, end).share,
     }
 }
 

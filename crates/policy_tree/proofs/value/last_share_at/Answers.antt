@@ -27,11 +27,10 @@ pub returns-in-Some-clause-last : goal.returns-in-Some-clause-last
 returns-in-Some-clause-last g c =
     let meaning = g.P.ShareFunction.meaning c.args.sum.now in
     let parent = c.in-Some.parent in
-    if-some-same c.last_by_parent.result _ _
-    (same_last c.args.top c.args.amount (λ share. meaning (inner_share parent.top parent.points meaning share)) (transformed c.args.function.now meaning)
-    (λ share.
-    sym (transformed-some parent meaning share) ∙ ap (λ (t : Option Function). transformed t meaning share) (sym c.in-Some.is)))
     c.last_by_parent.ensures.last
+    ∙ same_last c.args.top c.args.amount (λ share. meaning (inner_share parent.top parent.points meaning share)) (transformed c.args.function.now meaning)
+    (λ share.
+    sym (transformed-some parent meaning share) ∙ ap (λ (t : Option Function). transformed t meaning share) (sym c.in-Some.is))
 
 pub returns-in-Some-clause-meaning : goal.returns-in-Some-clause-meaning
 returns-in-Some-clause-meaning g c = transformed-meaning _ _ c.requires c.last_by_parent.ensures.meaning
