@@ -42,15 +42,18 @@ fn number_in_member(alloc: Global, key: DocKey, table: &NameTable, name: &str) -
 }
 
 // The same, where the name is guessed to have a number.
-fn reporter_near(alloc: Global, reporters: &NameTable, name: &str, guess: u32) -> Result<u32, Fault>
-    ensures { Gives (λ number. number) result
-        (under (Key keys.Reporter) (number_in reporters.now name.now)) }
+fn number_near_in_member(
+    alloc: Global,
+    key: DocKey,
+    table: &NameTable,
+    name: &str,
+    guess: u32,
+) -> Result<u32, Fault>
+    ensures { Gives (λ number. number) result (under (Key key) (number_in table.now name.now)) }
 {
     under(
-        PathStep::Key {
-            name: DocKey::Reporter,
-        },
-        reporters.number_near(alloc, name, guess),
+        PathStep::Key { name: key },
+        table.number_near(alloc, name, guess),
     )
 }
 
@@ -195,7 +198,13 @@ impl<'a, 'b> Walked<NameTable<'b>, Vec<u32>, ()> for RawTask<'a> {
     ) -> Result<(), Fault> {
         // The tasks of a job mostly have one owner.
         let guess = owners.last().copied().unwrap_or(0);
-        let owner = reporter_near(alloc, reporters, self.reporter, guess)?;
+        let owner = number_near_in_member(
+            alloc,
+            DocKey::Reporter,
+            reporters,
+            self.reporter,
+            guess,
+        )?;
         owners.push(owner)?;
         Ok(())
     }
@@ -301,19 +310,34 @@ fn target_number(
     target: &RawTarget,
     links: &NameTable,
     tasks: &NameTable,
+    likely_task: u32,
 ) -> Result<Target, Fault>
     ensures { Gives (λ target. target) result
         (spec.target_number links.now tasks.now (target_view target.now)) }
 {
     match target {
         RawTarget::Task(name) => {
-            let number = number_in_member(alloc, DocKey::Task, tasks, name)?;
+            let number = number_near_in_member(alloc, DocKey::Task, tasks, name, likely_task)?;
             Ok(Target::Task { number })
         }
         RawTarget::Link(name) => {
             let number = number_in_member(alloc, DocKey::Link, links, name)?;
             Ok(Target::Link { number })
         }
+    }
+}
+
+// The task behind the last report's, of which a script that goes through the tasks in their order
+// reports next. It is a guess, and no clause is needed.
+fn likely_task(found: &[Report]) -> u32 {
+    match found.last() {
+        Some(
+            Report {
+                target: Target::Task { number },
+                ..
+            },
+        ) => number.saturating_add(1),
+        _ => 0,
     }
 }
 
@@ -334,13 +358,20 @@ fn report_numbers(
     tasks: &NameTable,
     reporters: &NameTable,
     task_owners: &[u32],
+    likely_task: u32,
 ) -> Result<Report, Fault>
     ensures { Gives (λ report. report) result
         (spec.report_numbers links.now tasks.now reporters.now (report_view report.now)) }
 {
-    let target = target_number(alloc, &report.target, links, tasks);
+    let target = target_number(alloc, &report.target, links, tasks, likely_task);
     let guess = likely_reporter(&target, task_owners);
-    let reporter = reporter_near(alloc, reporters, report.reporter, guess)?;
+    let reporter = number_near_in_member(
+        alloc,
+        DocKey::Reporter,
+        reporters,
+        report.reporter,
+        guess,
+    )?;
     let target = target?;
     Ok(Report {
         reporter,
@@ -364,7 +395,8 @@ fn each_report(
 {
     let mut found = Vec::with_capacity(alloc, script.len())?;
     for (place, report) in script.iter().enumerate() {
-        match report_numbers(alloc, report, links, tasks, reporters, task_owners) {
+        let guess = likely_task(&found);
+        match report_numbers(alloc, report, links, tasks, reporters, task_owners, guess) {
             Ok(numbers) => found.push(numbers)?,
             Err(fault) => return Err(fault.under(PathStep::Index {
                 place: place as u64,
