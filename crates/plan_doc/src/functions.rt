@@ -143,7 +143,7 @@ fn job_specs(alloc: Global, jobs: &[RawJob], top: u64) -> Result<Vec<JobSpec>, B
         (functions.first_refused (functions.refused_in_job top) 0 (map job_view jobs.now))
         (map (job_part top) (map job_view jobs.now)) }
 {
-    let mut specs = Vec::new(alloc);
+    let mut specs = Vec::with_capacity(alloc, jobs.len())?;
     for (place, job) in jobs.iter().enumerate() {
         match job_spec(alloc, job, top) {
             Ok(spec) => specs.push(spec)?,
@@ -179,7 +179,7 @@ fn user_specs(alloc: Global, users: &[RawUser], top: u64) -> Result<Vec<UserSpec
         (functions.first_refused (functions.refused_in_user top) 0 (map user_view users.now))
         (map (user_part top) (map user_view users.now)) }
 {
-    let mut specs = Vec::new(alloc);
+    let mut specs = Vec::with_capacity(alloc, users.len())?;
     for (place, user) in users.iter().enumerate() {
         match user_spec(alloc, user, top) {
             Ok(spec) => specs.push(spec)?,
@@ -222,7 +222,7 @@ fn each_cluster_spec(
         (functions.first_refused (functions.refused_in_group top) 0 (map group_view groups.now))
         (map (cluster_part top) (map group_view groups.now)) }
 {
-    let mut specs = Vec::new(alloc);
+    let mut specs = Vec::with_capacity(alloc, groups.len())?;
     for (place, group) in groups.iter().enumerate() {
         match cluster_spec(alloc, group, top) {
             Ok(spec) => specs.push(spec)?,

@@ -7,7 +7,7 @@ use Rattle.plan_doc.proofs.Buildings.{building_later, building_fails, building_w
 use Rattle.plan_doc.proofs.functions.user_specs.Goals as goal
 
 pub loop-place-init : goal.loop-place-init
-loop-place-init c = record { none = refl; parts = rw c.new-specs.ensures.items refl }
+loop-place-init c = record { none = refl; parts = rw c.in_ok-specs.ensures.items refl }
 
 pub returns-in-Err : goal.returns-in-Err
 returns-in-Err c = building_fails user_view idle_user (refused_in_user c.args.top) (user_part c.args.top) c.args.users.now c.loop-place.place c.index-users-place.result c.loop-place.specs.items c.in-Err.error c.under.result (omega arith) c.index-users-place.is c.in-Err.ensures c.under.ensures c.loop-place.invariant
