@@ -70,3 +70,15 @@ transformed-some function sum share = refl
 pub transformed-fits : (function : Function) (sum : ℕ → ℕ) (share : ℕ) → IsMeaning sum → transformed (Some function) sum share ≤ function_value function.points share
 unfolding transformed
 transformed-fits function sum share is = inner_share-fits function.top function.points sum share is.starts
+
+-- where the function gives no less than the value at a higher share, that value is reached
+pub transformed-full : (function : Function) (sum : ℕ → ℕ) (share higher : ℕ) → IsBwFunction function → IsMeaning sum → share ≤ higher
+    → transformed (Some function) sum higher ≤ function_value function.points share → transformed (Some function) sum share ≡ transformed (Some function) sum higher
+unfolding transformed
+transformed-full function sum share higher kept is below full =
+    let inner = inner_share function.top function.points sum in
+    omega (
+      arith,
+      is.grows (inner higher) (inner share) (inner_share-greatest function.top function.points sum share (inner higher) (inner_share-le function.top function.points sum higher) full),
+      (transformed-meaning (Some function) sum kept is).grows share higher below,
+    )

@@ -1,9 +1,9 @@
-//! Ceilings: no less than a value, found without a search.
+//! Ceilings: no less than a value, found without a search; and whether a value is the greatest.
 
-ghost use Rattle.std.specs.Prelude.{ℕ, ◌≤◌, map};
+ghost use Rattle.std.specs.Prelude.{◌≡◌, ℕ, ◌≤◌, map, IsTrue};
 ghost use Rattle.bwe_specs.specs.Distribution.{children_sum};
 ghost use Rattle.function_sum.specs.Meaning.{IsMeaning};
-ghost use Rattle.policy_tree.specs.States.{transformed};
+ghost use Rattle.policy_tree.specs.States.{transformed, IsKeptFunction};
 
 use bw_function::BwFunction;
 use bwe_specs::MAX_TOTAL;
@@ -41,6 +41,26 @@ pub(crate) fn ceiling_at<P: Ceiling>(function: &Option<BwFunction>, sum: &P, sha
     match function {
         None => sum.ceiling(share),
         Some(parent) => parent.value(share),
+    }
+}
+
+/// Whether a node is told to have at a share all that it has at a higher one, `most`: where its
+/// configured function gives no less there.
+pub(crate) fn is_full_at<P: ShareFunction>(
+    function: &Option<BwFunction>,
+    _sum: &P,
+    share: u64,
+    most: u64,
+) -> bool
+    requires function { IsKeptFunction function.now }
+    requires sum { IsMeaning (P.meaning _sum.now) }
+    ensures { IsTrue result → (higher : ℕ) → share ≤ higher
+        → most ≡ transformed function.now (P.meaning _sum.now) higher
+        → transformed function.now (P.meaning _sum.now) share ≡ most }
+{
+    match function {
+        None => false,
+        Some(parent) => most <= parent.value(share),
     }
 }
 

@@ -1,12 +1,12 @@
 //! A cluster of the tree.
 
-ghost use Rattle.std.specs.Prelude.{◌≡◌, ℕ, ◌<◌, ◌≤◌, length, OnOk, OnErr};
+ghost use Rattle.std.specs.Prelude.{◌≡◌, ℕ, IsTrue, ◌<◌, ◌≤◌, length, OnOk, OnErr};
 ghost use Rattle.function_sum.specs.Meaning.{IsMeaning};
 ghost use Rattle.policy_tree.specs.States.{cluster_meaning, users_meaning, job_tasks, IsClusterState};
 ghost use Rattle.policy_tree.specs.Asked.{HasClusterWeights, cluster_weights, idle_cluster};
 ghost use Rattle.policy_tree.specs.Changes.{job_at, user_at, cluster_with};
 
-use crate::ceiling::{Ceiling, ceiling_at};
+use crate::ceiling::{Ceiling, ceiling_at, is_full_at};
 use crate::level::{LevelNode, nodes_of, rematch_all};
 use crate::siblings::Siblings;
 use crate::spec::ClusterSpec;
@@ -77,6 +77,14 @@ impl ClusterNode {
             nodes: self.users.as_slice(),
             outline: &self.outline,
         }
+    }
+
+    /// Whether it is told to have at a share all that it has at a higher one, `most`.
+    pub(crate) fn is_full(&self, share: u64, most: u64) -> bool
+        ensures { IsTrue result → (higher : ℕ) → share ≤ higher
+            → most ≡ cluster_meaning self.now higher → cluster_meaning self.now share ≡ most }
+    {
+        is_full_at(&self.function, &self.siblings(), share, most)
     }
 }
 

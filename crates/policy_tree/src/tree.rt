@@ -1,6 +1,6 @@
 //! The tree of all groups.
 
-ghost use Rattle.std.specs.Prelude.{◌≡◌, ℕ, ◌^◌, ◌<◌, ◌≤◌, length, All, IfOk, IfErr, IfSome, OnOk, OnErr, None};
+ghost use Rattle.std.specs.Prelude.{◌≡◌, ℕ, ◌^◌, ◌<◌, ◌≤◌, length, All, IfOk, IfErr, IfSome, IsTrue, OnOk, OnErr, None};
 ghost use Rattle.bwe_specs.specs.Values.{AreValues};
 ghost use Rattle.policy_tree.specs.Trees.{asking, demand_in, value_in, task_numbers, IsTree};
 ghost use Rattle.policy_tree.specs.Asked.{HasClusterTop, HasClusterWeights};
@@ -251,6 +251,17 @@ impl PolicyTree {
             return None;
         }
         Some(cluster.ceiling(share))
+    }
+
+    /// Whether a group is told to have at a share all that it has at the greatest one, `most`: where
+    /// the configured function of its cluster gives no less there. It takes no search.
+    pub fn is_full(&self, group: u32, share: u64, most: u64) -> bool
+        requires group { group < length self.now.clusters }
+        requires within { share ≤ self.now.top }
+        requires most { most ≡ value_in self.now group self.now.top }
+        ensures { IsTrue result → value_in self.now group share ≡ most }
+    {
+        self.clusters[group as usize].is_full(share, most)
     }
 
     /// What a group may have at the greatest share, in kilobits per second.
