@@ -29,4 +29,8 @@ impl GroupValues for TreeValues<'_> {
     fn ceiling(&self, group: u32, share: u64) -> Option<u64> {
         self.tree.group_ceiling(group, share)
     }
+
+    fn is_full(&self, group: u32, share: u64, most: u64) -> bool {
+        self.tree.is_full(group, share, most)
+    }
 }

@@ -87,6 +87,10 @@ impl<K: Meant> GroupValues for KnownValues<'_, K> {
     fn ceiling(&self, group: u32, share: u64) -> Option<u64> {
         self.tree.group_ceiling(group, share)
     }
+
+    fn is_full(&self, group: u32, share: u64, most: u64) -> bool {
+        self.tree.is_full(group, share, most)
+    }
 }
 
 /// The filling with the values of the tree. Values that it asks for are kept from now on.

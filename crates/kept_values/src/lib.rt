@@ -115,6 +115,10 @@ impl<V: GroupValues, K: Meant> GroupValues for KeptValues<'_, V, K> {
     fn ceiling(&self, group: u32, share: u64) -> Option<u64> {
         self.values.ceiling(group, share)
     }
+
+    fn is_full(&self, group: u32, share: u64, most: u64) -> bool {
+        self.values.is_full(group, share, most)
+    }
 }
 
 // No answer of so many groups.

@@ -471,7 +471,7 @@ impl<'a, V: GroupValues> Growth<'a, V> {
     }
 
     // The value of the group of the term at the share, which is asked for unless it is known; or
-    // where that is not asked for exactly, no less, and no more than at a share where it is known.
+    // where that is not asked for exactly, no less, and no more than at the top where that is known.
     // And whether it is the value itself.
     fn value_by(&self, term: Term, share: u64, exactly: bool) -> (u64, bool)
         requires growth { IsGrowth V.meaning self.now }
@@ -491,7 +491,13 @@ impl<'a, V: GroupValues> Growth<'a, V> {
         if known.share == share {
             return (known.value, true);
         }
-        if exactly || known.share < share || self.values.top() < known.share {
+        if known.share != self.values.top() {
+            return (self.values.value(term.group, share), true);
+        }
+        if self.values.is_full(term.group, share, known.value) {
+            return (known.value, true);
+        }
+        if exactly {
             return (self.values.value(term.group, share), true);
         }
         match self.values.ceiling(term.group, share) {

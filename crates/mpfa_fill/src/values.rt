@@ -1,6 +1,6 @@
 //! What is filled.
 
-ghost use Rattle.std.specs.Prelude.{◌≡◌, ◌<◌, ◌≤◌, IfSome};
+ghost use Rattle.std.specs.Prelude.{◌≡◌, ◌<◌, ◌≤◌, IfSome, IsTrue};
 ghost use Rattle.mpfa_fill.specs.GroupValues.{Values, AreGroupValues};
 
 /// What each group may have at each share, in kilobits per second.
@@ -33,4 +33,12 @@ pub trait GroupValues {
         requires group { group < (meaning self.now).groups }
         requires share { share ≤ (meaning self.now).top }
         ensures { IfSome result (λ ceiling. (meaning self.now).value group share ≤ ceiling) };
+
+    /// Whether the group is told in few steps to have at the share all that it has at the top,
+    /// `most`.
+    fn is_full(&self, group: u32, share: u64, most: u64) -> bool
+        requires group { group < (meaning self.now).groups }
+        requires share { share ≤ (meaning self.now).top }
+        requires most { most ≡ (meaning self.now).value group (meaning self.now).top }
+        ensures { IsTrue result → (meaning self.now).value group share ≡ most };
 }

@@ -72,6 +72,10 @@ impl GroupValues for Slopes {
     fn ceiling(&self, _group: u32, _share: u64) -> Option<u64> {
         None
     }
+
+    fn is_full(&self, _group: u32, _share: u64, _most: u64) -> bool {
+        false
+    }
 }
 
 // The value of one group.

@@ -42,6 +42,10 @@ impl GroupValues for TierValues<'_> {
             None
         }
     }
+
+    fn is_full(&self, group: u32, share: u64, most: u64) -> bool {
+        is_in_tier(self.tiers, self.tier, group) && self.tree.is_full(group, share, most)
+    }
 }
 
 // Whether the group is one of the tier.

@@ -25,8 +25,8 @@ pub returns-in-Some-ceiling-clause-least : goal.returns-in-Some-ceiling-clause-l
 returns-in-Some-ceiling-clause-least g c =
     let wan : Wan = wan_in g.V.GroupValues.meaning c.args.self.now in
     let known : c.in-Some.known.value ≡ wan.value c.args.term.group c.in-Some.known.share = subst (IsKnown wan c.args.term.group) c.in-Some.is c.requires.known in
-    let before : c.args.share ≤ c.in-Some.known.share = omega (arith, c.if-known-share-2.false) in
-    let within : c.in-Some.known.share ≤ wan.top = omega (arith, c.if-top-known.false, c.top.ensures.top) in
+    let before : c.args.share ≤ c.in-Some.known.share = omega (arith, c.requires.within, c.if-known-top.false, c.top.ensures.top) in
+    let within : c.in-Some.known.share ≤ wan.top = omega (arith, c.if-known-top.false, c.top.ensures.top) in
     let mono = value-mono wan (never_falls _ _ _ c.requires.growth.known) c.args.term.group c.args.share c.in-Some.known.share before within in
     omega (arith, c.min.ensures, c.in-Some-ceiling.ensures, known, mono)
 
@@ -34,7 +34,7 @@ pub returns-in-Some-ceiling-clause-most : goal.returns-in-Some-ceiling-clause-mo
 returns-in-Some-ceiling-clause-most g c =
     let wan : Wan = wan_in g.V.GroupValues.meaning c.args.self.now in
     let known : c.in-Some.known.value ≡ wan.value c.args.term.group c.in-Some.known.share = subst (IsKnown wan c.args.term.group) c.in-Some.is c.requires.known in
-    let within : c.in-Some.known.share ≤ wan.top = omega (arith, c.if-top-known.false, c.top.ensures.top) in
+    let within : c.in-Some.known.share ≤ wan.top = omega (arith, c.if-known-top.false, c.top.ensures.top) in
     let mono = value-mono wan (never_falls _ _ _ c.requires.growth.known) c.args.term.group c.in-Some.known.share wan.top within (le_refl wan.top) in
     omega (arith, c.min.ensures, known, mono)
 
@@ -42,3 +42,8 @@ pub returns-in-None-clause-most : goal.returns-in-None-clause-most
 returns-in-None-clause-most g c =
     let wan : Wan = wan_in g.V.GroupValues.meaning c.args.self.now in
     omega (arith, c.value-in-None.ensures, value-mono wan (never_falls _ _ _ c.requires.growth.known) c.args.term.group c.args.share wan.top c.requires.within (le_refl wan.top))
+
+pub returns-then-known-top-clause-most : goal.returns-then-known-top-clause-most
+returns-then-known-top-clause-most g c =
+    let wan : Wan = wan_in g.V.GroupValues.meaning c.args.self.now in
+    omega (arith, c.value-then-known-top.ensures, value-mono wan (never_falls _ _ _ c.requires.growth.known) c.args.term.group c.args.share wan.top c.requires.within (le_refl wan.top))
