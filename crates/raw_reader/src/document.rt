@@ -64,6 +64,8 @@ impl<'a> Slots<'a> for DocumentSlots<'a> {
 }
 
 impl<'a> Part<'a> for RawDocument<'a> {
+    const USUAL_COUNT: usize = 4;
+
     ghost is_read = { λ version d document. document_at d ≡ Ok (raw_view document) };
 
     fn read(

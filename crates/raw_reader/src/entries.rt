@@ -53,6 +53,8 @@ impl<'a> Slots<'a> for ReportSlots<'a> {
 }
 
 impl<'a> Part<'a> for RawReport<'a> {
+    const USUAL_COUNT: usize = 4;
+
     ghost is_read = { λ version d report. report_at version d ≡ Ok (report_view report) };
 
     fn read(
@@ -114,6 +116,8 @@ impl<'a> Slots<'a> for ClosingSlots<'a> {
 }
 
 impl<'a> Part<'a> for RawClosing<'a> {
+    const USUAL_COUNT: usize = 4;
+
     ghost is_read = { λ version d closing. closing_at d ≡ Ok (closing_view closing) };
 
     fn read(

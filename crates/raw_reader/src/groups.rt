@@ -53,6 +53,8 @@ impl<'a> Slots<'a> for LinkSlots<'a> {
 }
 
 impl<'a> Part<'a> for RawLink<'a> {
+    const USUAL_COUNT: usize = 4;
+
     ghost is_read = { λ version d link. link_at version d ≡ Ok (link_view link) };
 
     fn read(
@@ -112,6 +114,8 @@ impl<'a> Slots<'a> for PathSlots<'a> {
 }
 
 impl<'a> Part<'a> for RawPath<'a> {
+    const USUAL_COUNT: usize = 1;
+
     ghost is_read = { λ version d path. path_at d ≡ Ok (path_view path) };
 
     fn read(
@@ -178,6 +182,8 @@ impl<'a> Slots<'a> for GroupSlots<'a> {
 }
 
 impl<'a> Part<'a> for RawGroup<'a> {
+    const USUAL_COUNT: usize = 4;
+
     ghost is_read = { λ version d group. group_at version d ≡ Ok (group_view group) };
 
     fn read(

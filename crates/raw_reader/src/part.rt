@@ -1,6 +1,6 @@
 //! Values and lists of values.
 
-ghost use Rattle.std.specs.Prelude.{IfSome, OnSome, ◌<◌, length};
+ghost use Rattle.std.specs.Prelude.{IfSome, OnSome, ◌≡◌, ◌<◌, ◌∷◌, ◌++◌, [], length};
 ghost use Rattle.raw_reader.specs.Takes.{Takes, ListRead};
 
 use crate::values::{number, open_array, text};
@@ -9,6 +9,10 @@ use std::alloc::Global;
 
 /// What is read of a value.
 pub trait Part<'a>: Sized + Drop {
+    /// How many of it a list mostly has at least. It is a guess at the room, and no clause is
+    /// needed.
+    const USUAL_COUNT: usize;
+
     ghost use Rattle.std.specs.Prelude.{ℕ};
     ghost use Rattle.serde_json.specs.Data.{Data};
 
@@ -23,6 +27,8 @@ pub trait Part<'a>: Sized + Drop {
 }
 
 impl<'a> Part<'a> for &'a str {
+    const USUAL_COUNT: usize = 4;
+
     ghost use Rattle.std.specs.Prelude.{◌≡◌, Ok};
     ghost use Rattle.raw_document.specs.Shape.{text};
 
@@ -39,6 +45,8 @@ impl<'a> Part<'a> for &'a str {
 }
 
 impl<'a> Part<'a> for u64 {
+    const USUAL_COUNT: usize = 4;
+
     ghost use Rattle.std.specs.Prelude.{◌≡◌, Ok};
     ghost use Rattle.raw_document.specs.Shape.{whole};
 
@@ -51,6 +59,8 @@ impl<'a> Part<'a> for u64 {
 
 /// A point of a function.
 impl<'a> Part<'a> for (u64, u64) {
+    const USUAL_COUNT: usize = 4;
+
     ghost use Rattle.std.specs.Prelude.{◌≡◌, Ok};
     ghost use Rattle.raw_document.specs.Shape.{point};
 
@@ -73,6 +83,8 @@ impl<'a> Part<'a> for (u64, u64) {
 }
 
 impl<'a, T: Part<'a>> Part<'a> for Vec<T> {
+    const USUAL_COUNT: usize = 4;
+
     ghost is_read = { λ version d xs. ListRead (T.is_read version) d xs.items };
 
     fn read(alloc: Global, version: u64, reader: &mut Reader<'a>, depth: usize) -> Option<Vec<T>> {
@@ -80,8 +92,18 @@ impl<'a, T: Part<'a>> Part<'a> for Vec<T> {
         let mut found = Vec::new(alloc);
         'items: while !reader.take_end_array() {
             let item = T::read(alloc, version, reader, depth - 1)?;
-            found.push(item).ok()?;
+            add(&mut found, item)?;
         }
         Some(found)
     }
+}
+
+// Adds an item to a list, whose first item takes room for as many as lists of such mostly hold.
+fn add<'a, T: Part<'a>>(found: &mut Vec<T>, item: T) -> Option<()>
+    ensures { OnSome result (found.new.items ≡ found.old.items ++ item ∷ []) }
+{
+    if found.is_empty() {
+        found.reserve_exact(T::USUAL_COUNT).ok()?;
+    }
+    found.push(item).ok()
 }

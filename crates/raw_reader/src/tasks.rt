@@ -45,6 +45,8 @@ impl<'a> Slots<'a> for TaskSlots<'a> {
 }
 
 impl<'a> Part<'a> for RawTask<'a> {
+    const USUAL_COUNT: usize = 1;
+
     ghost is_read = { λ version d task. task_at version d ≡ Ok (task_view task) };
 
     fn read(
@@ -105,6 +107,8 @@ impl<'a> Slots<'a> for JobSlots<'a> {
 }
 
 impl<'a> Part<'a> for RawJob<'a> {
+    const USUAL_COUNT: usize = 1;
+
     ghost is_read = { λ version d job. job_at version d ≡ Ok (job_view job) };
 
     fn read(
@@ -166,6 +170,8 @@ impl<'a> Slots<'a> for UserSlots<'a> {
 }
 
 impl<'a> Part<'a> for RawUser<'a> {
+    const USUAL_COUNT: usize = 1;
+
     ghost is_read = { λ version d user. user_at version d ≡ Ok (user_view user) };
 
     fn read(

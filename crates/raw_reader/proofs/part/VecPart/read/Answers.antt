@@ -1,4 +1,4 @@
-use Rattle.std.proofs.Common.{◌≡◌, ◌-◌, [], ◌∷◌, ◌++◌, Some, None, refl, sym, ap, ◌∙◌, subst, arith, rules}
+use Rattle.std.proofs.Common.{◌≡◌, ◌-◌, [], ◌∷◌, ◌++◌, Some, None, refl, sym, ap, ◌∙◌, subst, arith}
 use Rattle.json.specs.Json.{parse_map, after_end_array, value}
 use Rattle.serde_json.specs.Data.{array, no_items}
 use Rattle.serde_json.specs.Read.{of_json, converted}
@@ -12,7 +12,7 @@ items-preserved g c =
     let IsRead = g.T.Part.is_read c.args.version in
     let going : (after_end_array l.reader ≡ None) × (c.take_end_array.new.self ≡ l.reader) = grind arith in
     let read = c.in_ok-item.ensures in
-    let pushed : c.push.new.self.items ≡ l.found.items ++ c.in_ok-item.item ∷ [] = search rules in
+    let pushed : c.add.new.found.items ≡ l.found.items ++ c.in_ok-item.item ∷ [] = c.in_ok-add.ensures in
     subst (λ xs. Amid (c.args.depth - 1) IsRead c.open_array.new.reader xs c.read.new.reader) (sym pushed)
     (Amid-more (c.args.depth - 1) IsRead c.open_array.new.reader l.found.items l.reader c.read.new.reader c.in_ok-item.item read.value.0 l.invariant going.0 (rw (← going.1) read.value.1) read.value.2 (rw (← going.1) read.shorter))
 
