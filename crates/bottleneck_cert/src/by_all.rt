@@ -50,7 +50,8 @@ pub(crate) fn verdict_by_all<V: GroupValues, L: Ledger>(
     ))
 }
 
-// Why the closing is not right after those of the moment, which goes to the closing's share on the way, or past it.
+// Why the closing is not right after those of the moment, which goes to the closing's share on the
+// way, or past it.
 fn cause_of<V: GroupValues, L: Ledger>(
     moment: &mut Moment<'_, V>,
     closing: Closing,
