@@ -195,6 +195,18 @@ fn write(rows: &mut Vec<Vec<Told>>, number: u32, entry: Told) -> Result<(), Allo
     ensures refused { OnErr result (lists_of rows.new.items ≡ lists_of rows.old.items) }
 {
     let row = &mut rows[number as usize];
+    write_last(row, entry)?;
+    Ok(())
+}
+
+// The same at the row. Mostly a document tells it once, so the first entry takes the room of one.
+fn write_last(row: &mut Vec<Told>, entry: Told) -> Result<(), AllocError>
+    ensures ok { OnOk result (row.new.items ≡ row.old.items ++ entry ∷ []) }
+    ensures refused { OnErr result (row.new.items ≡ row.old.items) }
+{
+    if row.is_empty() {
+        row.reserve_exact(1)?;
+    }
     row.push(entry)?;
     Ok(())
 }
