@@ -8,8 +8,9 @@ a hundred thousand lines, is proved; cases have to refuse it. An edit of wrong_m
 crate, the file, one line and the one that takes its place, and the case that has to fail.
 
 Each is planted in a copy of the checkout, proved and built there (a minute for a `main`, ten and
-more for a crate far below), and its case is run. A line says what came of each; the exit status is
-0 where every body was refused by its case. Run `make` before.
+more for a crate far below), and its case is run. A program that fails what its crate's files `args`
+and `stdin` ask for, on which `make` runs it, is refused by that run. A line says what came of each;
+the exit status is 0 where every body was refused by a run. Run `make` before.
 """
 
 import shutil
@@ -21,6 +22,9 @@ from pathlib import Path
 
 TOP = Path(__file__).resolve().parents[2]
 EDITS = Path(__file__).resolve().parent / "wrong_mains"
+
+BY_RUN = "refused by its own run"
+BY_CASE = "refused by its case"
 
 
 @dataclass(frozen=True)
@@ -68,13 +72,18 @@ def outcome_of(edit: Edit) -> str:
         copy = copy_of_checkout(Path(room))
         plant(edit, copy)
         built = subprocess.run(["make", edit.program], cwd=copy, capture_output=True, text=True)
-        if built.returncode != 0:
-            return "refused by proof"
         program = copy / "crates" / edit.program / "out" / edit.program
+        if built.returncode != 0:
+            return BY_RUN if was_run(program) else "refused by proof"
         ran = subprocess.run(
             [copy / "tools/check/cases.py", program, edit.case], capture_output=True, text=True
         )
-        return "refused by its case" if ran.returncode == 1 else "not refused"
+        return BY_CASE if ran.returncode == 1 else "not refused"
+
+
+def was_run(program: Path) -> bool:
+    """Whether the program was proved and built, and failed as it ran."""
+    return "rt: running" in (program.parent / "prove.log").read_text()
 
 
 def main(names: list[str]) -> int:
@@ -88,7 +97,7 @@ def main(names: list[str]) -> int:
         if not names or file.stem in names:
             outcomes.append(outcome_of(edit_of(file)))
             print(f"{file.stem}: {outcomes[-1]}", flush=True)
-    return 0 if outcomes and set(outcomes) == {"refused by its case"} else 1
+    return 0 if outcomes and set(outcomes) <= {BY_CASE, BY_RUN} else 1
 
 
 if __name__ == "__main__":
