@@ -42,13 +42,22 @@ pub(crate) fn parts_of(alloc: Global, paths: &[PathSpec]) -> Result<Vec<LinkPart
     ensures { IfOk result (λ parts. AreParts (map path_of paths.now) parts.items) }
 {
     let whole = all_weights(paths);
-    let mut parts = Vec::new(alloc);
+    // Mostly there is one path, which has no link twice.
+    let mut parts = Vec::with_capacity(alloc, first_links(paths))?;
     for path in paths {
         for link in &path.links {
             parts = with_part(parts, paths, whole, *link)?;
         }
     }
     Ok(parts)
+}
+
+// How many links the first path has.
+fn first_links(paths: &[PathSpec]) -> usize {
+    match paths.first() {
+        Some(path) => path.links.len(),
+        None => 0,
+    }
 }
 
 // The parts, with that of the link.

@@ -67,7 +67,7 @@ impl PathPlan {
         if let Some(fault) = first_fault(topology, &groups) {
             return Err(PathError::Refused { fault });
         }
-        let mut held = Vec::new(alloc);
+        let mut held = Vec::with_capacity(alloc, groups.len())?;
         for group in groups {
             held.push(PathPlan::path_groups(alloc, group.places)?)?;
         }
@@ -141,7 +141,7 @@ impl PathPlan {
             (λ held. path_groups_held held ≡ map path_group_of places.items) }
         ensures parts { IfOk result (λ held. All HoldsParts held.items) }
     {
-        let mut held = Vec::new(alloc);
+        let mut held = Vec::with_capacity(alloc, places.len())?;
         for paths in places {
             let parts = parts_of(alloc, &paths)?;
             held.push(PathGroup { paths, parts })?;

@@ -6,7 +6,7 @@ use Rattle.path_groups.proofs.Parts.{IsUnderWay, IsUnderWay-start, IsUnderWay-li
 use Rattle.path_groups.proofs.part.parts_of.Goals as goal
 
 pub loop-path-init : goal.loop-path-init
-loop-path-init c = subst (λ parts. IsUnderWay (map path_of c.args.paths.now) parts [] []) (sym c.new-parts.ensures.items) (IsUnderWay-start (map path_of c.args.paths.now))
+loop-path-init c = subst (λ parts. IsUnderWay (map path_of c.args.paths.now) parts [] []) (sym c.in_ok-parts.ensures.items) (IsUnderWay-start (map path_of c.args.paths.now))
 
 pub loop-link-init : goal.loop-link-init
 loop-link-init c = c.loop-path.invariant
@@ -19,8 +19,8 @@ with_part-requires-clause-used c =
 
 pub loop-link-preserved : goal.loop-link-preserved
 loop-link-preserved c =
-    subst (IsUnderWay (map path_of c.args.paths.now) c.in_ok-parts.parts.items (take c.loop-path.path-index c.args.paths.now)) (sym (take_more c.deref-link-items.result.now c.loop-link.link-index 0 c.loop-link-test.true))
-    (IsUnderWay-link (map path_of c.args.paths.now) c.loop-link.parts.items c.in_ok-parts.parts.items (take c.loop-path.path-index c.args.paths.now) (take c.loop-link.link-index c.deref-link-items.result.now) (get_or c.deref-link-items.result.now c.loop-link.link-index 0) c.loop-link.invariant c.in_ok-parts.ensures)
+    subst (IsUnderWay (map path_of c.args.paths.now) c.in_ok-parts-2.parts.items (take c.loop-path.path-index c.args.paths.now)) (sym (take_more c.deref-link-items.result.now c.loop-link.link-index 0 c.loop-link-test.true))
+    (IsUnderWay-link (map path_of c.args.paths.now) c.loop-link.parts.items c.in_ok-parts-2.parts.items (take c.loop-path.path-index c.args.paths.now) (take c.loop-link.link-index c.deref-link-items.result.now) (get_or c.deref-link-items.result.now c.loop-link.link-index 0) c.loop-link.invariant c.in_ok-parts-2.ensures)
 
 pub loop-path-preserved : goal.loop-path-preserved
 loop-path-preserved c =

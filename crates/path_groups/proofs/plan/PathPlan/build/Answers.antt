@@ -22,7 +22,7 @@ sound network groups looked_at same found is none = plan-sound network (groups_o
 pub loop-group-init : goal.loop-group-init
 loop-group-init c =
     let given : into_iter_items c.into_iter-group-iterator.result ≡ c.args.groups.items = search rules in
-    let none : c.new-held.result.items ≡ [] = c.new-held.ensures.items in
+    let none : c.in_ok-held.held.items ≡ [] = c.in_ok-held.ensures.items in
     record {
       together = ap₂ (λ held rest. map path_groups_held held ++ path_groups_of (groups_of rest)) none given;
       parts = subst AllHoldParts (sym none) (λ k d lt. absurd (omega arith));
