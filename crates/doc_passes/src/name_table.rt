@@ -1,6 +1,6 @@
 //! Names in the order in which they stand, each with its number.
 
-ghost use Rattle.std.specs.Prelude.{◌≡◌, ◌↔◌, [], map, string_bytes, IfOk, IsTrue, Ok};
+ghost use Rattle.std.specs.Prelude.{◌≡◌, ◌↔◌, [], length, map, string_bytes, IfOk, IsTrue, Ok};
 ghost use Rattle.raw_document.specs.Reading.{Gives};
 ghost use Rattle.raw_document.specs.Raw.{name_view};
 ghost use Rattle.doc_passes.specs.Names.{fresh, number_in};
@@ -39,6 +39,13 @@ impl<'a> NameTable<'a> {
         ensures { IsTrue result ↔ (self.now ≡ []) }
     {
         self.names.as_slice().is_empty()
+    }
+
+    /// How many names there are.
+    pub fn len(&self) -> usize
+        ensures { result ≡ length self.now }
+    {
+        self.names.as_slice().len()
     }
 
     /// Adds a name at the end, or answers a fault here where it stood before. Takes about the time

@@ -457,8 +457,8 @@ pub fn document_numbers(
         (spec.numbers links.now tasks.now reporters.now (raw_view raw.now)) }
 {
     let link_owners = link_owners(alloc, &raw.links, reporters)?;
-    let mut groups = Vec::new(alloc);
-    let mut task_owners = Vec::new(alloc);
+    let mut groups = Vec::with_capacity(alloc, raw.groups.len())?;
+    let mut task_owners = Vec::with_capacity(alloc, tasks.len())?;
     let tables = GroupTables { links, reporters };
     walk_member(
         alloc,
