@@ -71,6 +71,12 @@ pub transformed-fits : (function : Function) (sum : ℕ → ℕ) (share : ℕ) �
 unfolding transformed
 transformed-fits function sum share is = inner_share-fits function.top function.points sum share is.starts
 
+-- and no more than what the children have at the top
+pub transformed-within : (function : Function) (sum : ℕ → ℕ) (share : ℕ) → IsMeaning sum → transformed (Some function) sum share ≤ sum function.top
+unfolding transformed
+transformed-within function sum share is =
+    is.grows (inner_share function.top function.points sum share) function.top (inner_share-le function.top function.points sum share)
+
 -- where the function gives no less than the value at a higher share, that value is reached
 pub transformed-full : (function : Function) (sum : ℕ → ℕ) (share higher : ℕ) → IsBwFunction function → IsMeaning sum → share ≤ higher
     → transformed (Some function) sum higher ≤ function_value function.points share → transformed (Some function) sum share ≡ transformed (Some function) sum higher

@@ -44,6 +44,18 @@ pub(crate) fn ceiling_at<P: Ceiling>(function: &Option<BwFunction>, sum: &P, sha
     }
 }
 
+/// The same, and no more than what the children have at the top at most: nearer where all of them
+/// have all that they may have.
+pub(crate) fn near_ceiling_at<P: Ceiling>(function: &Option<BwFunction>, sum: &P, share: u64) -> u64
+    requires { IsMeaning (P.meaning sum.now) }
+    ensures { transformed function.now (P.meaning sum.now) share ≤ result }
+{
+    match function {
+        None => sum.ceiling(share),
+        Some(parent) => parent.value(share).min(sum.ceiling(parent.top())),
+    }
+}
+
 /// Whether a node is told to have at a share all that it has at a higher one, `most`: where its
 /// configured function gives no less there.
 pub(crate) fn is_full_at<P: ShareFunction>(

@@ -8,7 +8,7 @@ ghost use Rattle.policy_tree.specs.Asked.{HasJobWeights, job_weights, idle_job};
 ghost use Rattle.policy_tree.specs.Changes.{job_with};
 ghost use Rattle.policy_tree.specs.Seen.{value_at};
 
-use crate::ceiling::{Ceiling, ceiling_at};
+use crate::ceiling::{Ceiling, near_ceiling_at};
 use crate::level::LevelNode;
 use crate::spec::JobSpec;
 use crate::value::{
@@ -143,7 +143,7 @@ impl ShareFunction for JobNode {
 
 impl Ceiling for JobNode {
     fn ceiling(&self, share: u64) -> u64 {
-        ceiling_at(&self.function, &self.sum, share)
+        near_ceiling_at(&self.function, &self.sum, share)
     }
 
     fn is_configured(&self) -> bool {

@@ -240,8 +240,9 @@ impl PolicyTree {
 
     /// No less than what a group may have at a share, in kilobits per second, found without a
     /// search: what the configured function of its cluster gives there, or without one the sum over
-    /// its users, each bounded in the same way. A job without a function has its exact sum. `None`
-    /// where the group has no configured function: its value takes no search then.
+    /// its users. A user or a job has what its function gives, and no more than its children have at
+    /// the top at most. A job without a function has its exact sum. `None` where the group has no
+    /// configured function: its value takes no search then.
     pub fn group_ceiling(&self, group: u32, share: u64) -> Option<u64>
         requires { group < length self.now.clusters }
         ensures { IfSome result (λ ceiling. value_in self.now group share ≤ ceiling) }

@@ -6,7 +6,7 @@ ghost use Rattle.policy_tree.specs.States.{user_meaning, jobs_meaning, job_tasks
 ghost use Rattle.policy_tree.specs.Asked.{HasUserWeights, user_weights, idle_user};
 ghost use Rattle.policy_tree.specs.Changes.{job_at, user_with};
 
-use crate::ceiling::{Ceiling, ceiling_at};
+use crate::ceiling::{Ceiling, near_ceiling_at};
 use crate::job::JobNode;
 use crate::level::{LevelNode, nodes_of, rematch_all};
 use crate::siblings::Siblings;
@@ -132,7 +132,7 @@ impl ShareFunction for UserNode {
 
 impl Ceiling for UserNode {
     fn ceiling(&self, share: u64) -> u64 {
-        ceiling_at(&self.function, &self.siblings(), share)
+        near_ceiling_at(&self.function, &self.siblings(), share)
     }
 
     fn is_configured(&self) -> bool {
