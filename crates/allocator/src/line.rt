@@ -23,7 +23,7 @@ pub fn group_lines(
         lines.items ≡ map (line_in plan.now filling.now) (numbers (length plan.now))) }
 {
     let firsts = FirstClosings::of(alloc, &filling.closings)?;
-    let mut lines = Vec::new(alloc);
+    let mut lines = Vec::with_capacity(alloc, plan.groups() as usize)?;
     for group in 0..plan.groups() {
         let at = group as usize;
         let amounts = &filling.amounts[at];
@@ -51,7 +51,7 @@ pub fn group_line(
     ensures { IfOk result
         (λ line. line ≡ line_of_group plan.now closings.now group amounts.now share) }
 {
-    let mut places = Vec::new(alloc);
+    let mut places = Vec::with_capacity(alloc, plan.places(group) as usize)?;
     for place in 0..plan.places(group) {
         places.push(PlaceLine {
             amount: amounts[place as usize],

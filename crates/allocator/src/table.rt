@@ -271,7 +271,7 @@ pub fn limits_of(
 fn amounts_of(alloc: Global, groups: &[GroupLine]) -> Result<Vec<u64>, OutOfMemory>
     ensures { IfOk result (λ amounts. amounts.items ≡ map (λ line. line.amount) groups.now) }
 {
-    let mut amounts = Vec::new(alloc);
+    let mut amounts = Vec::with_capacity(alloc, groups.len())?;
     for line in groups {
         amounts.push(line.amount)?;
     }
