@@ -74,7 +74,7 @@ grows : (points : List Point) (top low high : ℕ) → IsFunction points top →
 grows points top low high is le = share-mono high (function_value points) (function_value-is_share_function points top high is) low high le (le_refl high)
 
 -- amounts never fall along the pairs
-amounts-grow : (pairs : List (ℕ × ℕ)) (top : ℕ) → IsFunction (points_of pairs) top → (i j : ℕ) (d : ℕ × ℕ) → i ≤ j → j < length pairs → (get_or pairs i d).1 ≤ (get_or pairs j d).1
+pub amounts-grow : (pairs : List (ℕ × ℕ)) (top : ℕ) → IsFunction (points_of pairs) top → (i j : ℕ) (d : ℕ × ℕ) → i ≤ j → j < length pairs → (get_or pairs i d).1 ≤ (get_or pairs j d).1
 amounts-grow pairs top is i j d le lt =
     let size = length-points pairs in
     let shares = function-shares (points_of pairs) top i j (point_of d) is le (omega (arith, size)) in

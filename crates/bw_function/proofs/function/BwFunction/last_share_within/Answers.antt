@@ -9,7 +9,7 @@ use Rattle.bw_function.proofs.function.BwFunction.last_share_within.Goals.{After
 
 -- the points are a function, and so many of them have at most the amount
 kept : (c : After-partition_point-after) → IsBwFunction (record { points = points_of c.as_slice-points.result.now; top = c.self.inside.top })
-kept c = subst (λ (l : List (ℕ × ℕ)). IsBwFunction (record { points = points_of l; top = c.self.inside.top })) (sym c.as_slice-points.ensures.value) c.self.invariant
+kept c = subst (λ (l : List (ℕ × ℕ)). IsBwFunction (record { points = points_of l; top = c.self.inside.top })) (sym c.as_slice-points.ensures.value) c.self.invariant.is_function
 
 found : (c : After-partition_point-after) → IsUpTo c.as_slice-points.result.now c.args.amount c.partition_point-after.result
 found c =

@@ -9,7 +9,7 @@ use Rattle.bw_function.proofs.function.BwFunction.look.Goals.{After-partition_po
 
 -- the points are a function, and where the share is among them
 kept : (c : After-partition_point-after) → IsBwFunction (record { points = points_of c.as_slice-points.result.now; top = c.self.inside.top })
-kept c = subst (λ (l : List (ℕ × ℕ)). IsBwFunction (record { points = points_of l; top = c.self.inside.top })) (sym c.as_slice-points.ensures.value) c.self.invariant
+kept c = subst (λ (l : List (ℕ × ℕ)). IsBwFunction (record { points = points_of l; top = c.self.inside.top })) (sym c.as_slice-points.ensures.value) c.self.invariant.is_function
 
 found : (c : After-partition_point-after) → IsAfter c.as_slice-points.result.now c.args.share c.partition_point-after.result
 found c =
