@@ -1,12 +1,13 @@
 //! The sum.
 
 ghost use Rattle.std.specs.Prelude.{◌≡◌, ℕ, ◌+◌, ◌<◌, ◌≤◌, length, map, All, IfOk, OnOk, OnErr, vec_len};
+ghost use Rattle.bw_function.specs.Rise.{RisesAtMost};
 ghost use Rattle.function_sum.specs.Meaning.{IsMeaning};
 ghost use Rattle.capped_sum.specs.CappedSum.{tasks_value, task_at, with_demand, without_demand};
 
 use crate::index::{
-    IndexedSum, RankedTask, SumsBefore, add_sums, indexed_sum, per_weight_within, plain_sum,
-    rebuild,
+    IndexedSum, RankedTask, SumsBefore, add_sums, all_weights, indexed_sum, per_weight_within,
+    plain_sum, rebuild,
 };
 use crate::task::Task;
 use bw_function::{BwFunction, Look};
@@ -127,6 +128,22 @@ impl CappedSum {
         ensures few { result ≤ MAX_TASKS }
     {
         self.tasks.as_slice().len() as u32
+    }
+
+    /// By how much the sum rises at most from one share to the next, in kilobits per second: told
+    /// where the index is fresh, else a number above every sum. It takes a constant time.
+    pub fn steepest(&self) -> u64
+        ensures { RisesAtMost (tasks_value self.now) result }
+    {
+        if !self.is_fresh {
+            return u64::MAX;
+        }
+        let weights = all_weights(
+            self.tasks.as_slice(),
+            self.ranked.as_slice(),
+            self.before.as_slice(),
+        );
+        weights.saturating_mul(self.function.steepest())
     }
 
     /// The tasks' function.
