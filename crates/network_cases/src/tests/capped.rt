@@ -48,7 +48,7 @@ fn weights_multiply_the_function(rt: HostRuntime) -> Result<(), Fail> {
         ((100, 104), 100, 104)
     );
     assert_eq!(rt; (sum.weight(0), sum.demand(1), sum.tasks()), (3, 1_000, 2));
-    assert_eq!(rt; sum.function().last_value(), 100);
+    assert_eq!(rt; (sum.steepest(), sum.function().last_value()), (4, 100));
     Ok(())
 }
 
@@ -66,7 +66,10 @@ fn a_fresh_index_tells_where_the_sum_changes(rt: HostRuntime) -> Result<(), Fail
 #[test]
 fn a_fresh_index_tells_the_last_share(rt: HostRuntime) -> Result<(), Fail> {
     let stale = half_slopes(rt.alloc(), false)?;
-    assert_eq!(rt; stale.last_share_within(8, 100), None);
+    assert_eq!(rt;
+        (stale.last_share_within(8, 100), stale.steepest()),
+        (None, u64::MAX)
+    );
     let sum = half_slopes(rt.alloc(), true)?;
     assert!(rt; tells_last_shares(&sum));
     Ok(())

@@ -107,3 +107,13 @@ fn the_last_share_is_found_by_an_amount(rt: HostRuntime) -> Result<(), Fail> {
     assert_eq!(rt; function.last_share_within(9, 1), 1);
     Ok(())
 }
+
+// The line from (0,0) to (2,5) is the steepest: 2 and a half a share, rounded up.
+#[test]
+fn the_steepest_line_is_told(rt: HostRuntime) -> Result<(), Fail> {
+    let points = [(0, 0), (2, 5), (4, 5), (10, 15)];
+    let function = BwFunction::new(rt.alloc(), &points, 10)?;
+    assert_eq!(rt; function.steepest(), 3);
+    assert_eq!(rt; BwFunction::new(rt.alloc(), &[(0, 0)], 1)?.steepest(), 0);
+    Ok(())
+}
