@@ -7,9 +7,10 @@ ghost use Rattle.serde_json.specs.Read.{read};
 ghost use Rattle.raw_document.specs.Json.{json};
 ghost use Rattle.raw_document.specs.Forms.{document_at};
 
+use crate::guess::guess_version;
 use crate::part::Part;
 use crate::slots::{Slots, fill, fill_slots};
-use crate::values::{is, number, open_object};
+use crate::values::{MAX_DEPTH, is};
 use json::{Reader, Scratch};
 use raw_document::{DocKey, RawClosing, RawDocument, RawGroup, RawLink, RawReport};
 use std::alloc::Global;
@@ -109,22 +110,6 @@ impl<'a> Part<'a> for RawDocument<'a> {
             _ => None,
         }
     }
-}
-
-// Most arrays and objects that may stand in one another.
-const MAX_DEPTH: usize = 127;
-
-// The number of the version, wherever it stands. A wrong one is noticed when the document is read.
-fn guess_version(text: &str, scratch: &mut Scratch) -> Option<u64> {
-    let mut reader = Reader::new(text, scratch).ok()?;
-    open_object(&mut reader, MAX_DEPTH)?;
-    while let Some(key) = reader.next_key().ok()? {
-        if is(key, DocKey::Version) {
-            return number(&mut reader);
-        }
-        reader.skip_value(MAX_DEPTH).ok()?;
-    }
-    None
 }
 
 /// The document of a JSON text in UTF-8, where it can be read straight from its tokens: mostly

@@ -8,6 +8,7 @@
 mod document;
 mod entries;
 mod groups;
+mod guess;
 mod part;
 mod slots;
 mod tasks;

@@ -10,7 +10,11 @@ use json::{Reader, Token};
 use raw_document::DocKey;
 use version_scan::whole_number;
 
+/// Most arrays and objects that may stand in one another.
+pub const MAX_DEPTH: usize = 127;
+
 /// Whether this is the key.
+#[inline(always)]
 pub fn is(text: &str, key: DocKey) -> bool
     ensures { IsTrue result → text.now ≡ word key }
 {
