@@ -32,6 +32,16 @@ impl Ceiling for CappedSum {
     }
 }
 
+/// Whether a function is configured at one of the nodes or below.
+pub(crate) fn is_any_configured<C: Ceiling>(nodes: &[C]) -> bool {
+    for node in nodes {
+        if node.is_configured() {
+            return true;
+        }
+    }
+    false
+}
+
 /// No less than a node's value at a share: what its configured function gives there, or without one
 /// what the children have there at most.
 pub(crate) fn ceiling_at<P: Ceiling>(function: &Option<BwFunction>, sum: &P, share: u64) -> u64

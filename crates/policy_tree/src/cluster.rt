@@ -6,7 +6,8 @@ ghost use Rattle.policy_tree.specs.States.{cluster_meaning, users_meaning, job_t
 ghost use Rattle.policy_tree.specs.Asked.{HasClusterWeights, cluster_weights, idle_cluster};
 ghost use Rattle.policy_tree.specs.Changes.{job_at, user_at, cluster_with};
 
-use crate::ceiling::{Ceiling, ceiling_at, is_full_at};
+use crate::ceiling::{Ceiling, ceiling_at, is_any_configured, is_full_at};
+use crate::floor::floor_within;
 use crate::level::{LevelNode, nodes_of, rematch_all};
 use crate::siblings::Siblings;
 use crate::spec::ClusterSpec;
@@ -26,6 +27,8 @@ pub struct ClusterNode {
     function: Option<BwFunction>,
     users: Vec<UserNode>,
     outline: Outline,
+    // Worked out once, since no function changes.
+    is_configured: bool,
 }
 
 impl Model for ClusterNode {
@@ -86,6 +89,15 @@ impl ClusterNode {
     {
         is_full_at(&self.function, &self.siblings(), share, most)
     }
+
+    /// No more than the value at a share, in kilobits per second, where it is told to have `most`
+    /// at some share. It takes no search.
+    pub(crate) fn floor(&self, share: u64, most: u64) -> u64
+        ensures { (other : ℕ) → most ≡ cluster_meaning self.now other
+            → result ≤ cluster_meaning self.now share }
+    {
+        floor_within(&self.function, &self.siblings(), share, most)
+    }
 }
 
 impl LevelNode for ClusterNode {
@@ -104,10 +116,12 @@ impl LevelNode for ClusterNode {
         what_holds(&function);
         let users: Vec<UserNode> = nodes_of(alloc, users)?;
         let outline = Outline::new(alloc, users.as_slice())?;
+        let is_configured = function.is_some() || is_any_configured(users.as_slice());
         Ok(ClusterNode {
             function,
             users,
             outline,
+            is_configured,
         })
     }
 
@@ -151,6 +165,6 @@ impl Ceiling for ClusterNode {
     }
 
     fn is_configured(&self) -> bool {
-        self.function.is_some() || self.siblings().is_configured()
+        self.is_configured
     }
 }

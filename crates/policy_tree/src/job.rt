@@ -9,6 +9,7 @@ ghost use Rattle.policy_tree.specs.Changes.{job_with};
 ghost use Rattle.policy_tree.specs.Seen.{value_at};
 
 use crate::ceiling::{Ceiling, near_ceiling_at};
+use crate::floor::{Floor, floor_at, steepest_at};
 use crate::level::LevelNode;
 use crate::spec::JobSpec;
 use crate::value::{
@@ -148,5 +149,15 @@ impl Ceiling for JobNode {
 
     fn is_configured(&self) -> bool {
         self.function.is_some() || self.sum.is_configured()
+    }
+}
+
+impl Floor for JobNode {
+    fn floor(&self, share: u64) -> u64 {
+        floor_at(&self.function, &self.sum, share)
+    }
+
+    fn steepest(&self) -> u64 {
+        steepest_at(&self.function, &self.sum)
     }
 }

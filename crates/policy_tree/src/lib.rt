@@ -20,15 +20,18 @@
 //! `rematch` itself takes no search: some values of functions for each point, at most 64 points a
 //! node, and a sort of the demands of each job that was told a new one; docs/PERFORMANCE.md counts
 //! them. A changed demand makes the sum of its own job slow until the next `rematch`, and no other.
-//! A node is looked up by its number in the order of the numbers. `PolicyTree::group_ceiling` never
-//! searches for a share: it asks a configured function alone, and where there is none the children.
-//! Nothing is promised of that cost in a contract, nor of how values are kept.
+//! A node is looked up by its number in the order of the numbers. `PolicyTree::group_ceiling` and
+//! `group_floor` never search for a share: they ask a configured function, and where there is none
+//! the children. A floor is what the function gives, less what the children rise at most from one
+//! share to the next, and no more than they have at the top. Nothing is promised of that cost in a
+//! contract, nor of how values are kept.
 #![tactic(auto)]
 
 mod ceiling;
 mod childless;
 mod cluster;
 mod fault;
+mod floor;
 mod home;
 mod job;
 mod kind;

@@ -4,7 +4,8 @@ ghost use Rattle.std.specs.Prelude.{◌≡◌, ℕ, map};
 ghost use Rattle.bwe_specs.specs.Distribution.{children_sum};
 ghost use Rattle.function_sum.specs.Meaning.{IsMeaning};
 
-use crate::ceiling::{Ceiling, ceiling_sum};
+use crate::ceiling::{Ceiling, ceiling_sum, is_any_configured};
+use crate::floor::{Floor, floor_sum, steepest_sum};
 use function_sum::{Look, Outline, ShareFunction, Stretch, look_at, near_sum, sum_at};
 
 /// Nodes that are the children of one, so that their sum is a share function, and its outline.
@@ -69,11 +70,16 @@ impl<C: Ceiling> Ceiling for Siblings<'_, C> {
     }
 
     fn is_configured(&self) -> bool {
-        for node in self.nodes {
-            if node.is_configured() {
-                return true;
-            }
-        }
-        false
+        is_any_configured(self.nodes)
+    }
+}
+
+impl<C: Floor> Floor for Siblings<'_, C> {
+    fn floor(&self, share: u64) -> u64 {
+        floor_sum(self.nodes, share)
+    }
+
+    fn steepest(&self) -> u64 {
+        steepest_sum(self.nodes)
     }
 }

@@ -254,6 +254,24 @@ impl PolicyTree {
         Some(cluster.ceiling(share))
     }
 
+    /// No more than what a group may have at a share, in kilobits per second, found without a
+    /// search: what the configured function of its cluster gives there, and at most `most`, less
+    /// what its users may rise from one share to the next; or without such a function the sum of
+    /// the floors of its users. `None` where the group has no configured function: its value takes
+    /// no search then. `most` is what the group has at the greatest share.
+    pub fn group_floor(&self, group: u32, share: u64, most: u64) -> Option<u64>
+        requires group { group < length self.now.clusters }
+        requires within { share ≤ self.now.top }
+        requires most { most ≡ value_in self.now group self.now.top }
+        ensures { IfSome result (λ floor. floor ≤ value_in self.now group share) }
+    {
+        let cluster = &self.clusters[group as usize];
+        if !cluster.is_configured() {
+            return None;
+        }
+        Some(cluster.floor(share, most))
+    }
+
     /// Whether a group is told to have at a share all that it has at the greatest one, `most`: where
     /// the configured function of its cluster gives no less there. It takes no search.
     pub fn is_full(&self, group: u32, share: u64, most: u64) -> bool

@@ -7,6 +7,7 @@ ghost use Rattle.policy_tree.specs.Asked.{HasUserWeights, user_weights, idle_use
 ghost use Rattle.policy_tree.specs.Changes.{job_at, user_with};
 
 use crate::ceiling::{Ceiling, near_ceiling_at};
+use crate::floor::{Floor, floor_at, steepest_at};
 use crate::job::JobNode;
 use crate::level::{LevelNode, nodes_of, rematch_all};
 use crate::siblings::Siblings;
@@ -137,5 +138,15 @@ impl Ceiling for UserNode {
 
     fn is_configured(&self) -> bool {
         self.function.is_some() || self.siblings().is_configured()
+    }
+}
+
+impl Floor for UserNode {
+    fn floor(&self, share: u64) -> u64 {
+        floor_at(&self.function, &self.siblings(), share)
+    }
+
+    fn steepest(&self) -> u64 {
+        steepest_at(&self.function, &self.siblings())
     }
 }

@@ -1,4 +1,4 @@
-use Rattle.std.proofs.Common.{◌≡◌, ◌≤◌, ◌∙◌, sym, ap, Option, Some, arith, leb-true}
+use Rattle.std.proofs.Common.{◌≡◌, ap, Option, Some, arith, leb-true}
 use Rattle.bw_function.specs.BwFunction.{Function}
 use Rattle.policy_tree.specs.States.{transformed}
 use Rattle.policy_tree.proofs.Transforms.{transformed-full}
