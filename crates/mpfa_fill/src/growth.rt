@@ -14,7 +14,9 @@ ghost use Rattle.mpfa_fill.specs.Standing.{IsPlaced, standing_under};
 ghost use Rattle.mpfa_fill.specs.LastFit.{is_over_at, GrowsNotOver, GrowsOver};
 ghost use Rattle.mpfa_fill.specs.Growth.{wan_in, closings_in, added_in, standing_at, IsUp, IsUpOver, KeepsParts, KeepsNetwork, IsGrowth, IsKnown, IsTermOf, AreTermsOn};
 ghost use Rattle.mpfa_fill.specs.Filling.{IsFilling};
+ghost use Rattle.mpfa_fill.specs.Told.{IsTold};
 
+use crate::asked::Asked;
 use crate::closings::Closings;
 use crate::standing::{Standing, first_standings, next_place, standing_after, stop_shares};
 use crate::steps::Filling;
@@ -337,12 +339,13 @@ impl<'a, V: GroupValues> Growth<'a, V> {
         ensures { let wan = wan_in V.meaning self.now in
             result ≡ link_load wan.groups (amounts_at wan (closings_in self.now) share) link }
     {
-        let (load, _) = self.load_by(terms, link, share, true);
+        let (load, _) = self.load_by(terms, link, share, Asked::Exactly);
         load
     }
 
     /// A load that tells whether that load is at most so much: no less than it where it is, and else
-    /// the load itself. Where the ceilings of the groups' values tell, no value is asked for.
+    /// no more than it, but above so much. Where the ceilings of the groups' values tell, or else
+    /// the floors, no value is asked for.
     pub fn load_within(&self, terms: &[Term], link: u32, share: u64, most: u128) -> u128
         requires growth { IsGrowth V.meaning self.now }
         requires link { link < length (wan_in V.meaning self.now).capacities }
@@ -353,11 +356,15 @@ impl<'a, V: GroupValues> Growth<'a, V> {
         ensures within { let wan = wan_in V.meaning self.now in result ≤ most
             → link_load wan.groups (amounts_at wan (closings_in self.now) share) link ≤ result }
         ensures above { let wan = wan_in V.meaning self.now in most < result
-            → result ≡ link_load wan.groups (amounts_at wan (closings_in self.now) share) link }
+            → result ≤ link_load wan.groups (amounts_at wan (closings_in self.now) share) link }
     {
-        let (load, is_exact) = self.load_by(terms, link, share, false);
-        if is_exact || load <= most {
-            return load;
+        let (high, is_exact) = self.load_by(terms, link, share, Asked::AtMost);
+        if is_exact || high <= most {
+            return high;
+        }
+        let (low, _) = self.load_by(terms, link, share, Asked::AtLeast);
+        if low > most {
+            return low;
         }
         self.load_at(terms, link, share)
     }
@@ -423,65 +430,62 @@ impl<'a, V: GroupValues> Growth<'a, V> {
         Some(self.plan.load(group, place, link, amount))
     }
 
-    // The load of the link at the share, or no less than it, and whether it is the load itself: as
+    // The load of the link at the share, as it is asked, and whether it is the load itself: as
     // `amount_by` tells the amounts.
-    fn load_by(&self, terms: &[Term], link: u32, share: u64, exactly: bool) -> (u128, bool)
+    fn load_by(&self, terms: &[Term], link: u32, share: u64, asked: Asked) -> (u128, bool)
         requires growth { IsGrowth V.meaning self.now }
         requires link { link < length (wan_in V.meaning self.now).capacities }
         requires terms { AreTermsOn (wan_in V.meaning self.now) (closings_in self.now)
             (added_in self.now) link terms.now }
         requires last { last_share (closings_in self.now) ≤ share }
         requires within { share ≤ (wan_in V.meaning self.now).top }
-        ensures least { let wan = wan_in V.meaning self.now in
-            link_load wan.groups (amounts_at wan (closings_in self.now) share) link ≤ result.0 }
+        ensures told { let wan = wan_in V.meaning self.now in IsTold asked
+            (link_load wan.groups (amounts_at wan (closings_in self.now) share) link) result.0 }
         ensures exact { let wan = wan_in V.meaning self.now in result.1 ≡ true
             → result.0 ≡ link_load wan.groups (amounts_at wan (closings_in self.now) share) link }
-        ensures asked { exactly ≡ true → result.1 ≡ true }
     {
         let mut load = self.sums.load(link) as u128;
         let mut held: u128 = 0;
         let mut is_exact = true;
         for term in terms {
-            let (then, is_amount) = self.amount_by(*term, share, exactly);
+            let (then, is_amount) = self.amount_by(*term, share, asked);
             is_exact = is_exact & is_amount;
             held += self.plan.load(term.group, term.place, link, term.amount) as u128;
             load += self.plan.load(term.group, term.place, link, then) as u128;
         }
-        (load - held, is_exact)
+        (load.saturating_sub(held), is_exact)
     }
 
-    // What the group of the term has at the share, on the path group where it grows; or where that
-    // is not asked for exactly, no less. And whether it is the amount itself.
-    fn amount_by(&self, term: Term, share: u64, exactly: bool) -> (u64, bool)
+    // What the group of the term has at the share, on the path group where it grows, as it is asked.
+    // And whether it is the amount itself.
+    fn amount_by(&self, term: Term, share: u64, asked: Asked) -> (u64, bool)
         requires growth { IsGrowth V.meaning self.now }
         requires term { IsTermOf (wan_in V.meaning self.now) (closings_in self.now)
             (added_in self.now) term.group term }
         requires last { last_share (closings_in self.now) ≤ share }
         requires within { share ≤ (wan_in V.meaning self.now).top }
-        ensures least { amounts_at (wan_in V.meaning self.now) (closings_in self.now) share
-            term.group term.place ≤ result.0 }
+        ensures told { IsTold asked (amounts_at (wan_in V.meaning self.now) (closings_in self.now)
+            share term.group term.place) result.0 }
         ensures exact { result.1 ≡ true → result.0
             ≡ amounts_at (wan_in V.meaning self.now) (closings_in self.now) share
             term.group term.place }
-        ensures asked { exactly ≡ true → result.1 ≡ true }
         ensures small { result.0 ≤ MAX_TOTAL }
     {
-        let (value, is_exact) = self.value_by(term, share, exactly);
-        (term.amount + value - term.value, is_exact)
+        let (value, is_exact) = self.value_by(term, share, asked);
+        ((term.amount + value).saturating_sub(term.value), is_exact)
     }
 
-    // The value of the group of the term at the share, which is asked for unless it is known; or
-    // where that is not asked for exactly, no less, and no more than at the top where that is known.
+    // The value of the group of the term at the share, as it is asked, and no more than at the top;
+    // it is asked for unless it is known, or few steps tell a ceiling or a floor where that will do.
     // And whether it is the value itself.
-    fn value_by(&self, term: Term, share: u64, exactly: bool) -> (u64, bool)
+    fn value_by(&self, term: Term, share: u64, asked: Asked) -> (u64, bool)
         requires growth { IsGrowth V.meaning self.now }
         requires group { term.group < length self.now.plan.now }
         requires known { IsKnown (wan_in V.meaning self.now) term.group term.known }
         requires within { share ≤ (wan_in V.meaning self.now).top }
-        ensures least { (wan_in V.meaning self.now).value term.group share ≤ result.0 }
+        ensures told { IsTold asked ((wan_in V.meaning self.now).value term.group share) result.0 }
         ensures exact { result.1 ≡ true
             → result.0 ≡ (wan_in V.meaning self.now).value term.group share }
-        ensures asked { exactly ≡ true → result.1 ≡ true }
         ensures most { result.0
             ≤ (wan_in V.meaning self.now).value term.group (wan_in V.meaning self.now).top }
     {
@@ -497,12 +501,27 @@ impl<'a, V: GroupValues> Growth<'a, V> {
         if self.values.is_full(term.group, share, known.value) {
             return (known.value, true);
         }
-        if exactly {
-            return (self.values.value(term.group, share), true);
-        }
-        match self.values.ceiling(term.group, share) {
-            Some(ceiling) => (ceiling.min(known.value), false),
+        match self.bound_by(term.group, share, known.value, asked) {
+            Some(bound) => (bound.min(known.value), false),
             None => (self.values.value(term.group, share), true),
+        }
+    }
+
+    // A ceiling or a floor of the group's value at the share, as it is asked, where few steps tell
+    // one. `most` is what the group has at the top.
+    fn bound_by(&self, group: u32, share: u64, most: u64, asked: Asked) -> Option<u64>
+        requires growth { IsGrowth V.meaning self.now }
+        requires group { group < length self.now.plan.now }
+        requires within { share ≤ (wan_in V.meaning self.now).top }
+        requires most { most
+            ≡ (wan_in V.meaning self.now).value group (wan_in V.meaning self.now).top }
+        ensures { IfSome result (λ bound.
+            IsTold asked ((wan_in V.meaning self.now).value group share) bound) }
+    {
+        match asked {
+            Asked::Exactly => None,
+            Asked::AtMost => self.values.ceiling(group, share),
+            Asked::AtLeast => self.values.floor(group, share, most),
         }
     }
 

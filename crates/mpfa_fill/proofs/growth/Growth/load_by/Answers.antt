@@ -1,15 +1,16 @@
-use Rattle.std.proofs.Common.{◌≡◌, ℕ, ◌<◌, ◌+◌, ◌&&◌, Bool, true, false, arith, ap, ap₂, refl, ◌∙◌, List, get_or, take, length, None}
+use Rattle.std.proofs.Common.{◌≡◌, ℕ, ◌<◌, ◌+◌, ◌&&◌, Bool, true, false, arith, ap, refl, ◌∙◌, List, get_or, take, length, None}
 use Rattle.std.proofs.lemmas.List.{take_more}
 use Rattle.std.proofs.lemmas.List.Sums.{sum_by_push}
 use Rattle.bwe_specs.specs.declared.network.Closing.{Closing}
 use Rattle.bwe_specs.specs.Filling.{Wan, closed_links}
-use Rattle.bwe_specs.specs.Paths.{path_group_at, load_on}
+use Rattle.bwe_specs.specs.Paths.{path_group_at, load_on, link_load}
 use Rattle.bwe_specs.specs.RightClosings.{amounts_at}
-use Rattle.bwe_specs.proofs.Loads.{current-open, load_on-mono}
+use Rattle.bwe_specs.proofs.Loads.{current-open}
 use Rattle.link_sums.proofs.Totals.{link_load-le}
 use Rattle.mpfa_fill.specs.declared.growth.Term.{Term}
 use Rattle.mpfa_fill.specs.Growth.{wan_in, closings_in, added_in, IsTermOf, terms_load}
 use Rattle.mpfa_fill.proofs.Small.{added-small}
+use Rattle.mpfa_fill.proofs.Told.{told-itself, told-more, told-load}
 use Rattle.mpfa_fill.proofs.growth.Growth.load_by.Goals as goal
 
 both-left : (a b : Bool) → a && b ≡ true → a ≡ true
@@ -31,9 +32,10 @@ more wan link i amounts terms d lt =
 pub loop-term-init : goal.loop-term-init
 loop-term-init g c =
     let m = c.requires.growth in
+    let wan : Wan = wan_in g.V.GroupValues.meaning c.args.self.now in
+    let closings : List Closing = closings_in c.args.self.now in
     record {
-      least = omega (arith, c.load-load.ensures, m.summed.loads c.args.link (omega (arith, m.links, c.requires.link)));
-      asked = λ _. refl;
+      told = told-itself c.args.asked (link_load wan.groups (added_in c.args.self.now) c.args.link + terms_load wan c.args.link (amounts_at wan closings c.args.share) (take 0 c.args.terms.now)) c.load-load.result (omega (arith, c.load-load.ensures, m.summed.loads c.args.link (omega (arith, m.links, c.requires.link))));
       exact = λ _. omega (arith, c.load-load.ensures, m.summed.loads c.args.link (omega (arith, m.links, c.requires.link)));
       held = refl;
       load_small = omega (
@@ -75,14 +77,13 @@ loop-term-preserved g c =
     let load : ℕ → ℕ = load_on (path_group_at wan.groups term.group term.place) c.args.link in
     let small = added-small c.args.self.now.plan.now c.args.self.now.sums c.requires.growth.summed term.group term.place is.in_range (current-open _ (closed_links closings) term.place is.grows).0 in
     record {
-      least = omega (
-        arith,
-        c.loop-term.invariant.least,
-        c.load-in-loop-term.ensures.load,
-        load_on-mono (path_group_at wan.groups term.group term.place) c.args.link (amounts_at wan closings c.args.share term.group term.place) c.amount_by-then.result.0 c.amount_by-then.ensures.least,
-        more wan c.args.link i (amounts_at wan closings c.args.share) c.args.terms.now d c.loop-term-test.true,
-      );
-      asked = λ exactly. ap₂ ◌&&◌ (c.loop-term.invariant.asked exactly) (c.amount_by-then.ensures.asked exactly);
+      told = told-more c.args.asked (link_load wan.groups (added_in c.args.self.now) c.args.link)
+          (terms_load wan c.args.link (amounts_at wan closings c.args.share) (take i c.args.terms.now))
+          (terms_load wan c.args.link (amounts_at wan closings c.args.share) (take (i + 1) c.args.terms.now))
+          (load (amounts_at wan closings c.args.share term.group term.place)) c.loop-term.load (load c.amount_by-then.result.0) c.load-in-loop-term.result
+          (more wan c.args.link i (amounts_at wan closings c.args.share) c.args.terms.now d c.loop-term-test.true) c.loop-term.invariant.told
+          (told-load c.args.asked (path_group_at wan.groups term.group term.place) c.args.link (amounts_at wan closings c.args.share term.group term.place) c.amount_by-then.result.0 c.amount_by-then.ensures.told)
+          c.load-in-loop-term.ensures.load;
       exact = λ both. omega (arith, c.loop-term.invariant.exact (both-left c.loop-term.is_exact c.amount_by-then.result.1 both), c.load-in-loop-term.ensures.load, ap load (c.amount_by-then.ensures.exact (both-right c.loop-term.is_exact c.amount_by-then.result.1 both)), more wan c.args.link i (amounts_at wan closings c.args.share) c.args.terms.now d c.loop-term-test.true);
       held = omega (arith, c.loop-term.invariant.held, c.load.ensures.load, ap load is.amount, more wan c.args.link i (added_in c.args.self.now) c.args.terms.now d c.loop-term-test.true);
       load_small = omega (arith, c.loop-term.invariant.load_small, c.load-in-loop-term.ensures.at_most, c.amount_by-then.ensures.small);
