@@ -116,6 +116,10 @@ impl<V: GroupValues, K: Meant> GroupValues for KeptValues<'_, V, K> {
         self.values.ceiling(group, share)
     }
 
+    fn floor(&self, group: u32, share: u64, most: u64) -> Option<u64> {
+        self.values.floor(group, share, most)
+    }
+
     fn is_full(&self, group: u32, share: u64, most: u64) -> bool {
         self.values.is_full(group, share, most)
     }
