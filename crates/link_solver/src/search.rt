@@ -169,7 +169,7 @@ fn load_at<V: GroupValues, L: Ledger>(
 }
 
 // A load that tells whether the link fits at the share, which is a look at it: no less than its load
-// where it fits, and else its load.
+// where it fits, and else no more than its load, but above its capacity.
 fn load_within<V: GroupValues, L: Ledger>(
     front: &Front<V>,
     terms: &[Term],
@@ -187,7 +187,7 @@ fn load_within<V: GroupValues, L: Ledger>(
     ensures within { result ≤ capacity
         → load_at (wan_in V.meaning front.now) (closings_in front.now) share link ≤ result }
     ensures above { capacity < result
-        → result ≡ load_at (wan_in V.meaning front.now) (closings_in front.now) share link }
+        → result ≤ load_at (wan_in V.meaning front.now) (closings_in front.now) share link }
     ensures ticks { steps.new ≡ steps.old + 1 }
 {
     steps.tick();
