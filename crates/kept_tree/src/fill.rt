@@ -88,6 +88,10 @@ impl<K: Meant> GroupValues for KnownValues<'_, K> {
         self.tree.group_ceiling(group, share)
     }
 
+    fn floor(&self, group: u32, share: u64, most: u64) -> Option<u64> {
+        self.tree.group_floor(group, share, most)
+    }
+
     fn is_full(&self, group: u32, share: u64, most: u64) -> bool {
         self.tree.is_full(group, share, most)
     }

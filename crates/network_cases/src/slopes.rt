@@ -73,6 +73,10 @@ impl GroupValues for Slopes {
         None
     }
 
+    fn floor(&self, _group: u32, _share: u64, _most: u64) -> Option<u64> {
+        None
+    }
+
     fn is_full(&self, _group: u32, _share: u64, _most: u64) -> bool {
         false
     }

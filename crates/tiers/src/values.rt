@@ -43,6 +43,14 @@ impl GroupValues for TierValues<'_> {
         }
     }
 
+    fn floor(&self, group: u32, share: u64, most: u64) -> Option<u64> {
+        if is_in_tier(self.tiers, self.tier, group) {
+            self.tree.group_floor(group, share, most)
+        } else {
+            None
+        }
+    }
+
     fn is_full(&self, group: u32, share: u64, most: u64) -> bool {
         is_in_tier(self.tiers, self.tier, group) && self.tree.is_full(group, share, most)
     }
