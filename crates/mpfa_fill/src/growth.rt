@@ -343,9 +343,9 @@ impl<'a, V: GroupValues> Growth<'a, V> {
         load
     }
 
-    /// A load that tells whether that load is at most so much: no less than it where it is, and else
-    /// no more than it, but above so much. Where the ceilings of the groups' values tell, or else
-    /// the floors, no value is asked for.
+    /// A load that tells whether that load is at most so much: no less than it where it is, and
+    /// else no more than it, but above so much. Where the ceilings of the groups' values tell, or
+    /// else the floors, no value is asked for.
     pub fn load_within(&self, terms: &[Term], link: u32, share: u64, most: u128) -> u128
         requires growth { IsGrowth V.meaning self.now }
         requires link { link < length (wan_in V.meaning self.now).capacities }
@@ -456,7 +456,7 @@ impl<'a, V: GroupValues> Growth<'a, V> {
         (load.saturating_sub(held), is_exact)
     }
 
-    // What the group of the term has at the share, on the path group where it grows, as it is asked.
+    // What the group of the term has at the share, on the path group where it grows, as is asked.
     // And whether it is the amount itself.
     fn amount_by(&self, term: Term, share: u64, asked: Asked) -> (u64, bool)
         requires growth { IsGrowth V.meaning self.now }
@@ -475,8 +475,8 @@ impl<'a, V: GroupValues> Growth<'a, V> {
         ((term.amount + value).saturating_sub(term.value), is_exact)
     }
 
-    // The value of the group of the term at the share, as it is asked, and no more than at the top;
-    // it is asked for unless it is known, or few steps tell a ceiling or a floor where that will do.
+    // The value of the group of the term at the share, as is asked, and no more than at the top. It
+    // is asked for unless it is known, or few steps tell a ceiling or a floor where that will do.
     // And whether it is the value itself.
     fn value_by(&self, term: Term, share: u64, asked: Asked) -> (u64, bool)
         requires growth { IsGrowth V.meaning self.now }

@@ -34,8 +34,8 @@ pub trait GroupValues {
         requires share { share ≤ (meaning self.now).top }
         ensures { IfSome result (λ ceiling. (meaning self.now).value group share ≤ ceiling) };
 
-    /// No more than the group's value at the share, where that is told in fewer steps than the value
-    /// itself. `most` is what the group has at the top.
+    /// No more than the group's value at the share, where that is told in fewer steps than the
+    /// value itself. `most` is what the group has at the top.
     fn floor(&self, group: u32, share: u64, most: u64) -> Option<u64>
         requires group { group < (meaning self.now).groups }
         requires share { share ≤ (meaning self.now).top }
