@@ -114,7 +114,7 @@ fn matched_tree(opened: OpenedDocument) -> (PolicyTree, Names)
         ..
     } = opened;
     let (mut tree, _topology, _plan) = allocator.into_parts();
-    tree.rematch();
+    tree.refresh();
     (tree, names)
 }
 

@@ -8,7 +8,7 @@ ghost use Rattle.policy_tree.specs.Changes.{job_at, user_at, cluster_with};
 
 use crate::ceiling::{Ceiling, ceiling_at, is_any_configured, is_full_at};
 use crate::floor::floor_within;
-use crate::level::{LevelNode, nodes_of, rematch_all};
+use crate::level::{LevelNode, nodes_of, outline_of, refresh_all, rematch_all};
 use crate::siblings::Siblings;
 use crate::spec::ClusterSpec;
 use crate::user::UserNode;
@@ -111,12 +111,16 @@ impl LevelNode for ClusterNode {
 
     ghost IsState = { IsClusterState };
 
-    fn new(alloc: Global, spec: ClusterSpec) -> Result<ClusterNode, OutOfMemory> {
+    fn new(
+        alloc: Global,
+        spec: ClusterSpec,
+        _is_searched: bool,
+    ) -> Result<ClusterNode, OutOfMemory> {
         let ClusterSpec { function, users } = spec;
         what_holds(&function);
-        let users: Vec<UserNode> = nodes_of(alloc, users)?;
-        let outline = Outline::new(alloc, users.as_slice())?;
+        let users: Vec<UserNode> = nodes_of(alloc, users, function.is_some())?;
         let is_configured = function.is_some() || is_any_configured(users.as_slice());
+        let outline = outline_of(alloc, users.as_slice(), is_configured)?;
         Ok(ClusterNode {
             function,
             users,
@@ -127,7 +131,13 @@ impl LevelNode for ClusterNode {
 
     fn rematch(&mut self, top: u64) {
         rematch_all(self.users.as_mut_slice(), top);
-        self.outline.redraw(self.users.as_slice(), top);
+        if self.is_configured {
+            self.outline.redraw(self.users.as_slice(), top);
+        }
+    }
+
+    fn refresh(&mut self) {
+        refresh_all(self.users.as_mut_slice());
     }
 }
 

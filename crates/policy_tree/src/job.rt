@@ -96,7 +96,7 @@ impl LevelNode for JobNode {
 
     ghost IsState = { IsJobState };
 
-    fn new(alloc: Global, spec: JobSpec) -> Result<JobNode, OutOfMemory> {
+    fn new(alloc: Global, spec: JobSpec, _is_searched: bool) -> Result<JobNode, OutOfMemory> {
         let JobSpec {
             function,
             task,
@@ -110,6 +110,10 @@ impl LevelNode for JobNode {
 
     // Over a fresh index the sum tells each inner share itself.
     fn rematch(&mut self, _top: u64) {
+        self.sum.refresh();
+    }
+
+    fn refresh(&mut self) {
         self.sum.refresh();
     }
 }

@@ -17,7 +17,7 @@ use crate::fault::TreeError;
 use crate::home::{Home, homes_of};
 use crate::job::JobNode;
 use crate::kind::Kind;
-use crate::level::{nodes_of, rematch_all};
+use crate::level::{nodes_of, refresh_all, rematch_all};
 use crate::spec::TreeSpec;
 use crate::walked::{children_of, count_of, kind_among, value_among};
 use bwe_specs::{MAX_AMOUNT, MAX_SHARE, OutOfMemory};
@@ -70,7 +70,7 @@ impl PolicyTree {
             return Err(TreeError::Refused { fault });
         }
         let firsts = firsts_of(alloc, clusters.as_slice())?;
-        let clusters: Vec<ClusterNode> = nodes_of(alloc, clusters)?;
+        let clusters: Vec<ClusterNode> = nodes_of(alloc, clusters, false)?;
         let homes = homes_of(alloc, clusters.as_slice())?;
         Ok(PolicyTree {
             top,
@@ -107,6 +107,14 @@ impl PolicyTree {
         ensures { self.new ≡ self.old }
     {
         rematch_all(self.clusters.as_mut_slice(), self.top);
+    }
+
+    /// The same where few values of a group are asked for before the next demand. It takes no
+    /// memory, and less time.
+    pub fn refresh(&mut self)
+        ensures { self.new ≡ self.old }
+    {
+        refresh_all(self.clusters.as_mut_slice());
     }
 
     /// What a task asks for, in kilobits per second. At first it is 0.

@@ -6,10 +6,10 @@ ghost use Rattle.policy_tree.specs.States.{user_meaning, jobs_meaning, job_tasks
 ghost use Rattle.policy_tree.specs.Asked.{HasUserWeights, user_weights, idle_user};
 ghost use Rattle.policy_tree.specs.Changes.{job_at, user_with};
 
-use crate::ceiling::{Ceiling, near_ceiling_at};
+use crate::ceiling::{Ceiling, is_any_configured, near_ceiling_at};
 use crate::floor::{Floor, floor_at, steepest_at};
 use crate::job::JobNode;
-use crate::level::{LevelNode, nodes_of, rematch_all};
+use crate::level::{LevelNode, nodes_of, outline_of, refresh_all, rematch_all};
 use crate::siblings::Siblings;
 use crate::spec::UserSpec;
 use crate::value::{
@@ -27,6 +27,7 @@ pub struct UserNode {
     function: Option<BwFunction>,
     jobs: Vec<JobNode>,
     outline: Outline,
+    is_outlined: bool,
 }
 
 impl Model for UserNode {
@@ -85,21 +86,30 @@ impl LevelNode for UserNode {
 
     ghost IsState = { IsUserState };
 
-    fn new(alloc: Global, spec: UserSpec) -> Result<UserNode, OutOfMemory> {
+    fn new(alloc: Global, spec: UserSpec, is_searched: bool) -> Result<UserNode, OutOfMemory> {
         let UserSpec { function, jobs } = spec;
         what_holds(&function);
-        let jobs: Vec<JobNode> = nodes_of(alloc, jobs)?;
-        let outline = Outline::new(alloc, jobs.as_slice())?;
+        let is_searched = is_searched || function.is_some();
+        let jobs: Vec<JobNode> = nodes_of(alloc, jobs, is_searched)?;
+        let is_outlined = is_searched || is_any_configured(jobs.as_slice());
+        let outline = outline_of(alloc, jobs.as_slice(), is_outlined)?;
         Ok(UserNode {
             function,
             jobs,
             outline,
+            is_outlined,
         })
     }
 
     fn rematch(&mut self, top: u64) {
         rematch_all(self.jobs.as_mut_slice(), top);
-        self.outline.redraw(self.jobs.as_slice(), top);
+        if self.is_outlined {
+            self.outline.redraw(self.jobs.as_slice(), top);
+        }
+    }
+
+    fn refresh(&mut self) {
+        refresh_all(self.jobs.as_mut_slice());
     }
 }
 
