@@ -1,6 +1,6 @@
 -- A call that serves the command `solve` alone.
-use Rattle.std.specs.Prelude.{◌≡◌, ℕ, ⊤, true, Some}
-use Rattle.one_run.specs.Endings.{Ending, Served}
+use Rattle.std.specs.Prelude.{◌≡◌, ℕ, ⊤, true, false, List, Option, Some, None}
+use Rattle.one_run.specs.Endings.{Ending, Reply, Served}
 use Rattle.input_lengths.specs.Lengths.{document_is_too_long}
 use Rattle.opened_document.specs.Refused.{document_reply}
 use Rattle.solve_answer.specs.SolveReply.{solve_accepted}
@@ -14,3 +14,9 @@ IsSolved served status =
       is_too_long = λ _ input. document_is_too_long input;
       replies = λ _ input given. given ≡ document_reply solve_accepted input;
     }) (Some tt) served status
+
+-- what `solve` has for an input, or nothing where the input is too long for what it is
+abbrev pub IsForInput : List ℕ → Option Reply → Type 0
+IsForInput input None = document_is_too_long input ≡ true
+IsForInput input (Some reply) =
+    (document_is_too_long input ≡ false) × (reply ≡ document_reply solve_accepted input)

@@ -1,0 +1,2 @@
+mod Versions
+mod LongInputs

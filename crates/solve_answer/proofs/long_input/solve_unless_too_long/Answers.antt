@@ -1,0 +1,10 @@
+use Rattle.std.proofs.Common.{◌<◌, arith, length}
+use Rattle.one_run.specs.Endings.{max_input}
+use Rattle.solve_answer.proofs.LongInputs.{accepted-for-input}
+use Rattle.solve_answer.proofs.long_input.solve_unless_too_long.Goals as goal
+
+pub returns-in-Ok : goal.returns-in-Ok
+returns-in-Ok c =
+    let long : max_input < length c.args.input.now = omega arith in
+    accepted-for-input c.args.input.now c.in-Ok.document c.in-Ok.ensures.exact long
+    c.solve_of_version_4.result c.solve_of_version_4.ensures.table c.solve_of_version_4.ensures.other

@@ -1,0 +1,96 @@
+//! The answer to an input of any length.
+
+ghost use Rattle.std.specs.Prelude.{◌≡◌, ◌≢◌, IfOk, IfSome, IsNone};
+ghost use Rattle.doc_names.specs.NameTexts.{texts_of};
+ghost use Rattle.plan_doc.specs.Accepted.{NamesRefusal};
+ghost use Rattle.plan_doc.specs.Conditions.{IsUsable};
+ghost use Rattle.plan_doc.specs.Document.{document};
+ghost use Rattle.plan_doc.specs.Plans.{plan_in};
+ghost use Rattle.solve_answer.specs.SolveCall.{IsForInput};
+ghost use Rattle.solve_answer.specs.SolveReply.{table_reply};
+
+use crate::solve_line::{solve, solve_document};
+use bwe_specs::{MAX_INPUT, OutOfMemory};
+use input_lengths::document_is_too_long;
+use memchr::memmem;
+use one_run::Answer;
+use opened_document::refused;
+use plan_doc::{DocError, Document, read_document};
+use std::alloc::Global;
+
+// How many bytes at each end of an input are looked at for its version.
+const END: usize = 1_024;
+
+/// The answer to an input, or `None` where it is too long for what it is: above 67,108,864 bytes,
+/// and not a document of version 4.
+///
+/// An accepted document that is likely of version 4 is read once, whatever its length: what was read
+/// has its version. Any other input that is that long is passed over for its version.
+pub(crate) fn solve_unless_too_long(
+    alloc: Global,
+    input: &[u8],
+) -> Result<Option<Answer>, OutOfMemory>
+    ensures { IfOk result (IsForInput input.now) }
+{
+    if input.len() as u64 <= MAX_INPUT {
+        let answer = solve(alloc, input)?;
+        return Ok(Some(answer));
+    }
+    if !is_likely_of_version_4(input) && document_is_too_long(alloc, input)? {
+        return Ok(None);
+    }
+    match read_document(alloc, input) {
+        Ok(document) => solve_of_version_4(alloc, document),
+        Err(error) => refused_unless_too_long(alloc, input, &error),
+    }
+}
+
+// The table of an accepted document of version 4, and nothing for another version.
+fn solve_of_version_4(alloc: Global, document: Document) -> Result<Option<Answer>, OutOfMemory>
+    requires { IsUsable document }
+    ensures table { IfOk result (λ found. IfSome found (λ answer. (document.version ≡ 4) × (answer
+        ≡ table_reply (texts_of document.names) (plan_in document) document.script.items))) }
+    ensures other { IfOk result (λ found. IsNone found → document.version ≢ 4) }
+{
+    if document.version != 4 {
+        return Ok(None);
+    }
+    let answer = solve_document(alloc, document)?;
+    Ok(Some(answer))
+}
+
+// The row of a refused document, unless it is too long for what it is.
+fn refused_unless_too_long(
+    alloc: Global,
+    input: &[u8],
+    error: &DocError,
+) -> Result<Option<Answer>, OutOfMemory>
+    requires { NamesRefusal (document input.now) error.now }
+    ensures { IfOk result (IsForInput input.now) }
+{
+    if document_is_too_long(alloc, input)? {
+        return Ok(None);
+    }
+    let answer = refused(alloc, error)?;
+    Ok(Some(answer))
+}
+
+// Whether an input is likely to be of version 4: it ends as an object does, and a member `version`
+// near its begin or its end is 4. Nothing is owed of the answer, and a wrong one costs time or
+// memory alone: what is too long is then read before it is refused, or a document of version 4 is
+// passed over for its version before it is read.
+fn is_likely_of_version_4(input: &[u8]) -> bool {
+    let size = input.len().min(END);
+    let (first, last) = (&input[..size], &input[input.len() - size..]);
+    last.trim_ascii_end().ends_with(b"}")
+        && (says_version_4(first) == Some(true) || says_version_4(last) == Some(true))
+}
+
+// Whether the first member `version` in a part of a text is 4.
+fn says_version_4(part: &[u8]) -> Option<bool> {
+    let key = b"\"version\"";
+    let place = memmem::find(part, key)?;
+    let behind = part.get(place..)?.strip_prefix(key)?;
+    let value = behind.trim_ascii_start().strip_prefix(b":")?;
+    Some(value.trim_ascii_start().starts_with(b"4"))
+}
