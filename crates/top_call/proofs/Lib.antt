@@ -1,4 +1,4 @@
 pub mod RunsAreLegal
 pub mod Statuses
 mod WhatRan
-mod Solved
+pub mod Solved

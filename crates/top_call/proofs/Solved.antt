@@ -1,5 +1,5 @@
 -- A call that serves `solve` alone ends as a call for that command does.
-use Rattle.std.proofs.Common.{◌≡◌, ℕ, List, true, false, refl, sym, subst, Option, Some, None}
+use Rattle.std.proofs.Common.{◌≡◌, ℕ, List, true, false, refl, subst, Option, Some, None}
 use Rattle.std.specs.Prelude.{⊤}
 use Rattle.command_line.specs.declared.CommandLine.{CommandLine}
 use Rattle.command_line.specs.declared.CommandLine.TheVariants.{Solve}
@@ -54,3 +54,7 @@ module _ {S K : Type 0} (served : Served S K) where
 
 pub solved-is-served : {S K : Type 0} → SolvedIsServed S K
 solved-is-served served status = (forth served, back served)
+
+-- the same where the line is known by an equation alone
+pub solved-serves : {S K : Type 0} (line : Option CommandLine) (served : Served S K) (status : ℕ) → Some Solve ≡ line → IsSolved served status → IsServed line served status
+solved-serves line served status is solved = subst (λ (line : Option CommandLine). IsServed line served status) is (forth served solved)
