@@ -15,6 +15,7 @@ use one_run::Answer;
 use opened_document::{OpenedDocument, open_after_script, refused};
 use plan_doc::{Document, read_document};
 use std::alloc::Global;
+use std::mem::forget;
 use table_text::table_text;
 
 /// The answer to its input.
@@ -28,13 +29,18 @@ pub fn solve(alloc: Global, input: &[u8]) -> Result<Answer, OutOfMemory>
 }
 
 /// The table of an accepted document's script.
+///
+/// What was made of the document is left to the end of the program, which takes its memory back at
+/// once, and not piece by piece.
 pub fn solve_document(alloc: Global, document: Document) -> Result<Answer, OutOfMemory>
     requires { IsUsable document }
     ensures { IfOk result (λ answer. answer
         ≡ table_reply (texts_of document.names) (plan_in document) document.script.items) }
 {
     let mut opened = open_after_script(alloc, document)?;
-    solve_opened(alloc, &mut opened)
+    let answer = solve_opened(alloc, &mut opened)?;
+    forget(opened);
+    Ok(answer)
 }
 
 // The table of what a document's allocator has taken in.
@@ -45,8 +51,7 @@ fn solve_opened(alloc: Global, opened: &mut OpenedDocument) -> Result<Answer, Ou
         (⟦<Allocator as Maker>⟧.plan opened.old.allocator) script) }
 {
     let table = opened.allocator.table(alloc)?;
-    Ok(Answer {
-        status: 0,
-        text: table_text(alloc, &table, &opened.names)?,
-    })
+    let text = table_text(alloc, &table, &opened.names)?;
+    forget(table);
+    Ok(Answer { status: 0, text })
 }

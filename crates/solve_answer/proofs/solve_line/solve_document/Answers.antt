@@ -1,5 +1,4 @@
 use Rattle.std.proofs.Common.{ap, ◌∙◌}
-use Rattle.std.proofs.lemmas.Result.{IfOk-weaker}
 use Rattle.doc_names.specs.declared.Names.{Names}
 use Rattle.doc_names.specs.NameTexts.{texts_of}
 use Rattle.plan_doc.specs.Plans.{plan_in}
@@ -13,4 +12,4 @@ returns c =
     let opened = c.in_ok-opened.ensures in
     let same = ap (λ plan. table_reply (texts_of c.in_ok-opened.opened.names) plan script) opened.plan
     ∙ ap (λ (names : Names). table_reply (texts_of names) (plan_in document) script) opened.names in
-    IfOk-weaker c.solve_opened.result _ _ (λ answer is. is script opened.absorbed ∙ same) c.solve_opened.ensures
+    c.in_ok-answer.ensures script opened.absorbed ∙ same

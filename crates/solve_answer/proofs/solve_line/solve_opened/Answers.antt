@@ -9,4 +9,4 @@ reply_of text = record { status = 0; text = text }
 
 pub returns : goal.returns
 returns c = λ script after.
-    ap reply_of (c.in_ok-table_text.ensures ∙ ap (text_of (texts_of c.args.opened.now.names)) (c.in_ok-table.ensures.table script after))
+    ap reply_of (c.in_ok-text.ensures ∙ ap (text_of (texts_of c.args.opened.now.names)) (c.in_ok-table.ensures.table script after))
