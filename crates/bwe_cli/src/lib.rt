@@ -23,6 +23,7 @@ use command_line::{CommandLine, command_line_of_words};
 use crew_actors::Gate;
 use one_run::{finish, refuse_input, write_usage};
 use run::serve_run;
+use solve_answer::solve_once;
 use std::alloc::Global;
 use std::sync::Wait;
 use std::thread::Threads;
@@ -93,6 +94,9 @@ pub fn serve_in_time<S: Source, K: Sink, R: Threads + Sync>(
       write_faults = K.faults;
     }) result }
 {
+    if let CommandLine::Solve = line {
+        return solve_once(alloc, source, sink);
+    }
     match read_input_of(alloc, line, source) {
         Ok(input) => finish(sink, answer_in_time(rt, alloc, line, &input)),
         Err(error) => refuse_input(sink, error),

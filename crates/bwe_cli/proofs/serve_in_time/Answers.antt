@@ -1,6 +1,10 @@
-use Rattle.std.proofs.Common.{refl, ap, Err}
+use Rattle.std.proofs.Common.{refl, sym, ap, Some, Err}
 use Rattle.one_run.proofs.Ends.{ending-finished, ending-refused}
+use Rattle.top_call.proofs.Solved.{solved-serves}
 use Rattle.bwe_cli.proofs.serve_in_time.Goals as goal
+
+pub returns-in-Solve : goal.returns-in-Solve
+returns-in-Solve g c = solved-serves _ _ _ (sym (ap Some c.in-Solve.is)) c.solve_once.ensures
 
 pub returns-in-Ok : goal.returns-in-Ok
 returns-in-Ok g c =
