@@ -32,17 +32,24 @@ pub(crate) fn solve_unless_too_long(
 ) -> Result<Option<Answer>, OutOfMemory>
     ensures { IfOk result (IsForInput input.now) }
 {
-    if input.len() as u64 <= MAX_INPUT {
-        let answer = solve(alloc, input)?;
-        return Ok(Some(answer));
-    }
-    if !is_likely_of_version_4(input) && document_is_too_long(alloc, input)? {
-        return Ok(None);
+    if input.len() as u64 <= MAX_INPUT || !is_likely_of_version_4(input) {
+        return solve_after_a_look(alloc, input);
     }
     match read_document(alloc, input) {
         Ok(document) => solve_of_version_4(alloc, document),
         Err(error) => refused_unless_too_long(alloc, input, &error),
     }
+}
+
+// The same, where the version is looked for before anything is read.
+fn solve_after_a_look(alloc: Global, input: &[u8]) -> Result<Option<Answer>, OutOfMemory>
+    ensures { IfOk result (IsForInput input.now) }
+{
+    if document_is_too_long(alloc, input)? {
+        return Ok(None);
+    }
+    let answer = solve(alloc, input)?;
+    Ok(Some(answer))
 }
 
 // The table of an accepted document of version 4, and nothing for another version.
@@ -68,7 +75,8 @@ fn refused_unless_too_long(
     requires { NamesRefusal (document input.now) error.now }
     ensures { IfOk result (IsForInput input.now) }
 {
-    if document_is_too_long(alloc, input)? {
+    let is_too_long = document_is_too_long(alloc, input)?;
+    if is_too_long {
         return Ok(None);
     }
     let answer = refused(alloc, error)?;
