@@ -1,9 +1,10 @@
 //! Inputs that have more bytes than they may, by what stands in them as the document.
 //!
 //! A command asks one of the two calls before anything else is looked at: for an input that is one
-//! document, or for one of two parts. The answers are exact (`specs/Lengths.antt`). An input of up
-//! to 67,108,864 bytes is not looked at, so its answer is what it was before version 4. Nothing is
-//! promised of time, nor that memory is there.
+//! document, or for one of two parts. `solve` alone may read a document first, and ask where that is
+//! refused. The answers are exact (`specs/Lengths.antt`). An input of up to 67,108,864 bytes is not
+//! looked at, so its answer is what it was before version 4. Nothing is promised of time, nor that
+//! memory is there.
 #![tactic(auto)]
 
 ghost use Rattle.std.specs.Prelude.{◌≡◌, IfOk};
