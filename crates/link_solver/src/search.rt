@@ -21,11 +21,15 @@ use mpfa_fill::{Filling, GroupValues, Term, ValueAt};
 use std::alloc::Global;
 use std::sync::ledger::Ledger;
 
+// So few groups are asked in less time than a turn takes.
+const FEW_GROUPS: usize = 4;
+
 /// What is known of a link after some looks: it is known at which share it is over first, or it
 /// fits at a share above `enough`.
 ///
 /// It asks for the values of the groups that grow over the link, once for each look, and of no
-/// others; where the value is known at the share of the look, not for that.
+/// others; where the value is known at the share of the look, not for that. Where they are few, it
+/// goes on until it is known at which share the link is over first, whatever is enough.
 pub(crate) fn looked<V: GroupValues, L: Ledger>(
     front: &Front<V>,
     alloc: Global,
@@ -54,6 +58,7 @@ pub(crate) fn looked<V: GroupValues, L: Ledger>(
     ensures none { OnErr result (steps.new ≡ steps.old) }
 {
     let terms = front.terms_on(alloc, link, known)?;
+    let enough = reach(&terms, enough, top);
     if due.over <= top {
         return Ok(halved(front, &terms, link, due, enough, steps));
     }
@@ -144,6 +149,18 @@ pub(crate) fn into_filling<V: GroupValues>(
     let mut growth = front.growth;
     growth.bring_all_up(top);
     growth.into_filling(alloc, top)
+}
+
+// How far a search goes on: to the end where few groups grow over the link, so that the link takes
+// one turn until a group comes or leaves.
+fn reach(terms: &[Term], enough: u64, top: u64) -> u64
+    ensures { enough ≤ result }
+{
+    if terms.len() <= FEW_GROUPS {
+        enough.max(top)
+    } else {
+        enough
+    }
 }
 
 // The load of the link at the share: a look at it.
