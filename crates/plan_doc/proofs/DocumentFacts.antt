@@ -8,12 +8,9 @@ use Rattle.path_groups.specs.Given.{Group, path_groups_of}
 use Rattle.path_groups.specs.Plan.{IsBuiltOn}
 use Rattle.path_groups.specs.Faults.{plan_fault}
 use Rattle.bwe_specs.specs.Paths.{PathGroups}
-use Rattle.policy_tree.specs.declared.spec.TreeSpec.{TreeSpec}
 use Rattle.policy_tree.specs.States.{cluster_tasks}
-use Rattle.policy_tree.specs.Asked.{idle_cluster}
-use Rattle.policy_tree.specs.Numbering.{numbered_cluster, numbered_clusters}
+use Rattle.policy_tree.specs.Numbering.{numbered_cluster}
 use Rattle.policy_tree.specs.Trees.{Tree, task_numbers}
-use Rattle.policy_tree.specs.Childless.{idle_tree}
 use Rattle.doc_names.specs.declared.Names.{Names}
 use Rattle.raw_document.specs.Raw as raw
 use Rattle.doc_passes.specs.declared.numbers.DocumentNumbers.{DocumentNumbers}
@@ -28,7 +25,7 @@ use Rattle.doc_passes.specs.NumbersView.{numbers_view}
 use Rattle.plan_doc.specs.Functions.{refused_in_groups}
 use Rattle.plan_doc.specs.TreeParts.{cluster_part}
 use Rattle.doc_names.specs.Owners.{not_owned}
-use Rattle.plan_doc.specs.Refusals.{Refusal, refused_function, refused_links, refused_paths, refused_tree, not_owner}
+use Rattle.plan_doc.specs.Refusals.{Refusal, unknown_name, refused_function, refused_links, refused_paths, refused_tree, not_owner}
 use Rattle.plan_doc.specs.Document as documents
 use Rattle.plan_doc.specs.Document.{Accepted, accepted, unless, links_of, clusters_of, network_fault, policy_fault, document_by}
 use Rattle.plan_doc.specs.Accepted.{tree_of, IsDocumentOf}
@@ -58,6 +55,11 @@ passed_of raw lists names found u few range listed same known =
       each_named = subst (AreNamesOf raw) (sym same) named;
       each_numbered = subst (λ n. AreNumbersOf (length raw.links) (task_count raw.groups) n raw found) named.reporters by_tasks;
     }
+
+-- where each name is known, the refusals 7 to 11 are left
+pub numbered_left : (raw : raw.Raw) (lists names : NameTexts) (found : Numbers) → names ≡ lists → numbers lists.links lists.tasks lists.reporters raw ≡ Ok found → documents.document_numbered raw lists ≡ document_by raw names found
+numbered_left raw lists names found same known =
+    ap (λ read. documents.◌>>=◌ (documents.refused_by unknown_name read) (document_by raw lists)) known ∙ ap (λ texts. document_by raw texts found) (sym same)
 
 -- ---- the builders, in the order of their refusals
 
@@ -106,16 +108,11 @@ pub document_is : (raw : raw.Raw) (names : NameTexts) (numbers : Numbers) (netwo
 unfolding document_by
 document_is raw names numbers network functions links topology paths tree owners = rw (functions, links, sym topology, paths, tree, owners) refl
 
--- the tree of specs that were built of the groups
-pub idle_tree_is : (spec : TreeSpec) (groups : List raw.Group) → map idle_cluster spec.clusters.items ≡ map (cluster_part spec.top) groups
-    → idle_tree spec ≡ record { top = spec.top; clusters = numbered_clusters (map (cluster_part spec.top) groups); demands = replicate (length (task_numbers (numbered_clusters (map (cluster_part spec.top) groups)))) 0 }
-idle_tree_is spec groups e = ap (λ states. record { top = spec.top; clusters = numbered_clusters states; demands = replicate (length (task_numbers (numbered_clusters states))) 0 }) e
-
-pub is_document : (raw : raw.Raw) (names : Names) (numbers : DocumentNumbers) (tree : Tree) (topology : Network) (plan : List PathGroups)
-    → tree ≡ tree_of (accepted raw (texts_of names) (numbers_view numbers)) → topology ≡ network_of (links_of raw) → plan ≡ path_groups_of (numbers_view numbers).groups
-    → IsDocumentOf (accepted raw (texts_of names) (numbers_view numbers)) (record { version = raw.version; tree = tree; topology = topology; plan = plan; script = numbers.script; closings = numbers.closings; names = names; task_owners = numbers.task_owners; link_owners = numbers.link_owners })
-is_document raw names numbers tree topology plan tree_is topology_is plan_is = record {
-  version = refl;
+pub is_document : (raw : raw.Raw) (version : ℕ) (names : Names) (numbers : DocumentNumbers) (tree : Tree) (topology : Network) (plan : List PathGroups)
+    → version ≡ raw.version → tree ≡ tree_of (accepted raw (texts_of names) (numbers_view numbers)) → topology ≡ network_of (links_of raw) → plan ≡ path_groups_of (numbers_view numbers).groups
+    → IsDocumentOf (accepted raw (texts_of names) (numbers_view numbers)) (record { version = version; tree = tree; topology = topology; plan = plan; script = numbers.script; closings = numbers.closings; names = names; task_owners = numbers.task_owners; link_owners = numbers.link_owners })
+is_document raw version names numbers tree topology plan version_is tree_is topology_is plan_is = record {
+  version = version_is;
   tree = tree_is;
   topology = topology_is;
   plan = plan_is;

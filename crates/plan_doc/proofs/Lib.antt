@@ -5,3 +5,4 @@ pub mod PlanFacts
 pub mod ChildlessFacts
 pub mod TooManyFacts
 pub mod DocumentFacts
+pub mod GatheringFacts

@@ -10,5 +10,6 @@ pub mod TooMany
 pub mod Tables
 pub mod Document
 pub mod Accepted
+pub mod Gathering
 pub mod Conditions
 pub mod Plans

@@ -1,28 +1,40 @@
-use Rattle.std.proofs.Common.{◌≡◌, ◌&&◌, not, nat_lt, true, false, Some, ap, sym, subst, ◌∙◌}
+use Rattle.std.proofs.Common.{◌≡◌, ◌&&◌, not, nat_lt, ℕ, Bool, List, Some, ap, ap₂, sym, subst, ◌∙◌}
 use Rattle.bwe_specs.specs.DocumentLimits.{limits_of}
-use Rattle.raw_document.specs.Raw.{raw_view}
 use Rattle.policy_tree.specs.declared.fault.TreeFault.TheVariants.{TooManyTasks}
 use Rattle.policy_tree.specs.Childless.{idle_tree}
-use Rattle.plan_doc.specs.Childless.{has_childless}
+use Rattle.policy_tree.specs.Numbering.{numbered_clusters}
+use Rattle.policy_tree.specs.States.{ClusterState}
+use Rattle.policy_tree.specs.Walk.{tree_fault}
+use Rattle.plan_doc.specs.Accepted.{Makes}
 use Rattle.plan_doc.specs.Document.{unless}
 use Rattle.plan_doc.specs.Refusals.{refused_tree}
+use Rattle.plan_doc.specs.TooMany.{clusters_fault}
 use Rattle.plan_doc.proofs.TooManyFacts.{many_tasks, makes_tree}
 use Rattle.plan_doc.proofs.document.build_tree.Goals as goal
 
+abbrev passes : ℕ → ℕ → Bool → Bool
+passes most tasks childless = nat_lt most tasks && not childless
+
 pub returns-then-has_too_many : goal.returns-then-has_too_many
 returns-then-has_too_many c =
-    let groups = (raw_view c.args.raw.now).groups in
-    let most = (limits_of c.args.raw.now.version).tasks in
+    let raw = c.requires.parts.0 in
+    let are = c.requires.parts.1 in
+    let tasks = c.requires.parts.3 in
+    let most = (limits_of c.args.version).tasks in
     ap (unless refused_tree) (
-    many_tasks c.args.raw.now.top groups most
-    (subst (λ tasks. (nat_lt most tasks && not (has_childless groups)) ≡ true) c.requires.tasks (sym c.has_too_many.ensures ∙ c.if-has_too_many.true))
-    ∙ ap (λ n. Some (TooManyTasks n)) (sym c.requires.tasks)
+    ap (λ (states : List ClusterState). clusters_fault most (numbered_clusters states)) are.clusters
+    ∙ many_tasks raw.top raw.groups most (ap₂ (passes most) (sym tasks) (sym are.childless) ∙ sym c.has_too_many.ensures ∙ c.if-has_too_many.true)
+    ∙ ap (λ n. Some (TooManyTasks n)) (sym tasks)
     )
 
 pub returns : goal.returns
 returns c =
-    let groups = (raw_view c.args.raw.now).groups in
-    let most = (limits_of c.args.raw.now.version).tasks in
-    makes_tree c.args.raw.now.top groups most c.tree_of.result (λ tree. tree ≡ idle_tree (record { top = c.args.raw.now.top; clusters = c.args.clusters }))
-    (subst (λ tasks. (nat_lt most tasks && not (has_childless groups)) ≡ false) c.requires.tasks (sym c.has_too_many.ensures ∙ c.if-has_too_many.false))
-    c.tree_of.ensures
+    let raw = c.requires.parts.0 in
+    let are = c.requires.parts.1 in
+    let tasks = c.requires.parts.3 in
+    let most = (limits_of c.args.version).tasks in
+    subst (λ (states : List ClusterState). Makes c.tree_of.result refused_tree (clusters_fault most (numbered_clusters states)) (λ tree. tree ≡ idle_tree c.args.parts.spec)) (sym are.clusters) (
+    makes_tree raw.top raw.groups most c.tree_of.result (λ tree. tree ≡ idle_tree c.args.parts.spec)
+    (ap₂ (passes most) (sym tasks) (sym are.childless) ∙ sym c.has_too_many.ensures ∙ c.if-has_too_many.false)
+    (subst (λ (states : List ClusterState). Makes c.tree_of.result refused_tree (tree_fault (numbered_clusters states)) (λ tree. tree ≡ idle_tree c.args.parts.spec)) are.clusters c.tree_of.ensures)
+    )

@@ -1,8 +1,9 @@
-use Rattle.std.proofs.Common.{◌≡◌, ◌<◌, ℕ, length, ap, ◌∙◌, arith}
+use Rattle.std.proofs.Common.{◌≡◌, ◌<◌, ℕ, Bool, true, false, not, length, refl, ap, sym, subst, ◌∙◌, arith}
+use Rattle.std.specs.Prelude.{All, IsTrue}
+use Rattle.policy_tree.specs.Asked.{HasClusterTop}
 use Rattle.policy_tree.specs.Numbering.{numbered_clusters}
 use Rattle.policy_tree.specs.Trees.{task_numbers}
 use Rattle.policy_tree.specs.Walk.{walk}
-use Rattle.raw_document.specs.Raw.{raw_view}
 use Rattle.plan_doc.proofs.TreeFacts.{have_top, have_weights}
 use Rattle.plan_doc.proofs.NodeFacts.{length-walk, length-task_numbers}
 use Rattle.plan_doc.proofs.document.tree_of.Goals as goal
@@ -10,16 +11,31 @@ use Rattle.plan_doc.proofs.document.tree_of.Goals as goal
 is_below : {n m : ℕ} (bound : ℕ) → n ≡ m → m < bound → n < bound
 is_below bound e below = omega arith
 
+holds : (b : Bool) → not b ≡ false → IsTrue b
+holds true e = refl
+holds false e = absurd cc
+
 pub build-requires-clause-tops : goal.build-requires-clause-tops
-build-requires-clause-tops c = have_top c.args.raw.now.top c.args.clusters.items (raw_view c.args.raw.now).groups c.requires.clusters
+build-requires-clause-tops c =
+    let raw = c.requires.parts.0 in
+    let are = c.requires.parts.1 in
+    let specs = c.args.parts.spec.clusters.items in
+    subst (λ top. All (HasClusterTop top) specs) (sym are.top) (have_top raw.top specs raw.groups are.clusters)
 
 pub build-requires-clause-weights : goal.build-requires-clause-weights
-build-requires-clause-weights c = have_weights c.args.raw.now.top c.args.clusters.items (raw_view c.args.raw.now).groups c.requires.range.weights c.requires.clusters
+build-requires-clause-weights c =
+    let raw = c.requires.parts.0 in
+    let are = c.requires.parts.1 in
+    have_weights raw.top c.args.parts.spec.clusters.items raw.groups c.requires.parts.2.weights are.clusters
 
 pub build-requires-clause-nodes : goal.build-requires-clause-nodes
 build-requires-clause-nodes c =
-    is_below 4294967296 (ap (λ states. length (walk (numbered_clusters states))) c.requires.clusters ∙ length-walk c.args.raw.now.top (raw_view c.args.raw.now).groups) (rw c.deref.ensures.value at (c.has_node_numbers.ensures c.if-not-has_node_numbers.false))
+    let raw = c.requires.parts.0 in
+    let are = c.requires.parts.1 in
+    is_below 4294967296 (ap (λ states. length (walk (numbered_clusters states))) are.clusters ∙ length-walk raw.top raw.groups) (are.numbered (holds c.args.parts.numbered c.if-not-parts.false))
 
 pub build-requires-clause-tasks : goal.build-requires-clause-tasks
 build-requires-clause-tasks c =
-    is_below 18446744073709551616 (ap (λ states. length (task_numbers (numbered_clusters states))) c.requires.clusters ∙ length-task_numbers c.args.raw.now.top (raw_view c.args.raw.now).groups) c.requires.tasks
+    let raw = c.requires.parts.0 in
+    let are = c.requires.parts.1 in
+    is_below 18446744073709551616 (ap (λ states. length (task_numbers (numbered_clusters states))) are.clusters ∙ length-task_numbers raw.top raw.groups) c.requires.parts.3

@@ -8,7 +8,7 @@ use Rattle.plan_doc.specs.Document.{unless}
 use Rattle.plan_doc.specs.Links.{link_part}
 use Rattle.plan_doc.specs.Refusals.{refused_links}
 use Rattle.plan_doc.proofs.TooManyFacts.{many_links, few_links}
-use Rattle.plan_doc.proofs.document.topology_within.Goals as goal
+use Rattle.plan_doc.proofs.gathered.topology_within.Goals as goal
 
 pub returns-then-count-most : goal.returns-then-count-most
 returns-then-count-most c =

@@ -6,7 +6,7 @@ use Rattle.plan_doc.specs.Accepted.{Makes}
 use Rattle.plan_doc.specs.Document.{links_of}
 use Rattle.plan_doc.specs.Refusals.{refused_links}
 use Rattle.plan_doc.specs.TooMany.{links_fault}
-use Rattle.plan_doc.proofs.document.build_topology.Goals as goal
+use Rattle.plan_doc.proofs.gathered.build_topology.Goals as goal
 
 pub returns : goal.returns
 returns c =
