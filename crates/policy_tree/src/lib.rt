@@ -20,6 +20,7 @@
 //! `rematch` itself takes no search: some values of functions for each point, at most 64 points a
 //! node, and a sort of the demands of each job that was told a new one; docs/PERFORMANCE.md counts
 //! them. A changed demand makes the sum of its own job slow until the next `rematch`, and no other.
+//! `rematch_on_threads` shares the clusters out among threads, one for each processor.
 //! A node is looked up by its number in the order of the numbers. `PolicyTree::group_ceiling` and
 //! `group_floor` never search for a share: they ask a configured function, and where there is none
 //! the children. A floor is what the function gives, less what the children rise at most from one

@@ -17,13 +17,15 @@ use crate::fault::TreeError;
 use crate::home::{Home, homes_of};
 use crate::job::JobNode;
 use crate::kind::Kind;
-use crate::level::{nodes_of, refresh_all, rematch_all};
+use crate::level::{LevelNode, nodes_of, refresh_all, rematch_all};
 use crate::spec::TreeSpec;
 use crate::walked::{children_of, count_of, kind_among, value_among};
 use bwe_specs::{MAX_AMOUNT, MAX_SHARE, OutOfMemory};
 use function_sum::ShareFunction;
+use rayon::prelude::*;
 use std::alloc::Global;
 use std::marker::Model;
+use std::thread::Threads;
 
 /// The clusters of all groups, with their users, jobs and tasks, and what each task asks for.
 #[derive(Drop)]
@@ -109,8 +111,16 @@ impl PolicyTree {
         rematch_all(self.clusters.as_mut_slice(), self.top);
     }
 
-    /// The same where few values of a group are asked for before the next demand. It takes no
-    /// memory, and less time.
+    /// The same on threads, one for each processor, which has a piece of the list of clusters. That
+    /// more than one works is promised by no clause, nor is time.
+    pub fn rematch_on_threads<R: Threads + Sync>(&mut self, rt: &R)
+        ensures { self.new ≡ self.old }
+    {
+        rematch_clusters(rt, self.clusters.as_mut_slice(), self.top);
+    }
+
+    /// The same as `rematch` where few values of a group are asked for before the next demand. It
+    /// takes no memory, and less time.
     pub fn refresh(&mut self)
         ensures { self.new ≡ self.old }
     {
@@ -309,4 +319,19 @@ impl PolicyTree {
         let user = &cluster.users()[home.user as usize];
         (&user.jobs()[home.job as usize], home.task)
     }
+}
+
+// Makes the value of each cluster cheap again, on threads.
+fn rematch_clusters<R: Threads + Sync>(rt: &R, clusters: &mut [ClusterNode], top: u64)
+    ensures { clusters.new ≡ clusters.old }
+{
+    par_for_each_mut(
+        rt,
+        clusters,
+        |_place: usize, cluster: &mut ClusterNode|
+            ensures { cluster.new ≡ cluster.old }
+        {
+            cluster.rematch(top);
+        },
+    );
 }
