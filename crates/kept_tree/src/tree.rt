@@ -19,6 +19,7 @@ use policy_tree::PolicyTree;
 use push_down::all_limits;
 use std::alloc::Global;
 use std::marker::Model;
+use std::thread::Threads;
 use wan_topology::Topology;
 
 /// A tree, and what is kept of each group.
@@ -81,6 +82,13 @@ impl KeptTree {
         ensures { self.new ≡ self.old }
     {
         self.tree.rematch();
+    }
+
+    /// The same on threads, as `PolicyTree::rematch_on_threads`.
+    pub fn rematch_on_threads<R: Threads + Sync>(&mut self, rt: &R)
+        ensures { self.new ≡ self.old }
+    {
+        self.tree.rematch_on_threads(rt);
     }
 
     /// Sets what a task asks for, in kilobits per second, and drops what is kept of its group.
