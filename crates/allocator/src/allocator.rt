@@ -1,13 +1,13 @@
 //! The allocator.
 
-ghost use Rattle.std.specs.Prelude.{◌≡◌, ◌^◌, ◌<◌, ◌++◌, ◌∷◌, [], List, length, replicate, OnOk, OnErr};
+ghost use Rattle.std.specs.Prelude.{◌≡◌, ◌^◌, ◌<◌, ◌++◌, ◌∷◌, [], List, length, replicate, IfOk, OnOk, OnErr};
 ghost use Rattle.bwe_specs.specs.declared.report.Report.{Report};
 ghost use Rattle.demand_book.specs.Fit.{IsFit};
 ghost use Rattle.path_groups.specs.Plan.{IsBuiltOn};
 ghost use Rattle.policy_tree.specs.Trees.{task_numbers};
 
 use crate::reported::Reported;
-use crate::table::present_table;
+use crate::table::{present_table, present_table_on_threads};
 use crate::values::TreeValues;
 use bwe_specs::{OutOfMemory, Report};
 use demand_book::Maker;
@@ -16,6 +16,7 @@ use path_groups::PathPlan;
 use policy_tree::PolicyTree;
 use std::alloc::Global;
 use std::marker::Model;
+use std::thread::Threads;
 use wan_topology::Topology;
 
 /// Makes tables of limits from reports.
@@ -98,6 +99,28 @@ impl Allocator {
         ensures refused { OnErr result (self.new ≡ self.old) }
     {
         self.reported.absorb(alloc, report)
+    }
+
+    /// Makes the table as `table` does, the values of clusters and the limits on threads.
+    ///
+    /// After `keep` the limits are worked out on one thread, which goes into the groups that have
+    /// changed. That more than one works is promised by no clause, nor is time.
+    pub fn table_on_threads<R: Threads + Sync>(
+        &mut self,
+        rt: &R,
+        alloc: Global,
+    ) -> Result<LimitTable, OutOfMemory>
+        ensures plan { ⟦<Allocator as Maker>⟧.plan self.new ≡ ⟦<Allocator as Maker>⟧.plan self.old }
+        ensures absorbed { (reports : List Report)
+            → ⟦<Allocator as Maker>⟧.absorbed self.old reports
+            → ⟦<Allocator as Maker>⟧.absorbed self.new reports }
+        ensures table { IfOk result (λ table.
+            (reports : List Report) → ⟦<Allocator as Maker>⟧.absorbed self.old reports
+            → table ≡ ⟦<Allocator as Maker>⟧.table_of (⟦<Allocator as Maker>⟧.plan self.old)
+            reports) }
+    {
+        self.reported.rematch_on_threads(rt);
+        present_table_on_threads(rt, alloc, &mut self.reported, &self.plan)
     }
 
     /// From now on values and limits are kept from one table to the next.

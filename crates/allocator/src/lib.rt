@@ -12,7 +12,8 @@
 //! `Reported` keeps a tree and a network as they stand after reports; `TreeValues` lends a tree's
 //! groups to the filling. After `keep` the tree of an allocator keeps values and limits from one
 //! table to the next (`kept_tree`), so that a table after few reports costs what has changed. It is
-//! the same table, by the clause of `table`. Nothing is promised of time.
+//! the same table, by the clause of `table`; so is that of `table_on_threads`, whose values and
+//! limits are worked out on threads. Nothing is promised of time.
 #![tactic(auto)]
 
 mod allocator;

@@ -19,6 +19,7 @@ use path_groups::PathPlan;
 use policy_tree::PolicyTree;
 use std::alloc::Global;
 use std::marker::Model;
+use std::thread::Threads;
 use wan_topology::Topology;
 
 /// A tree and a network that take in reports one by one.
@@ -145,6 +146,13 @@ impl Reported {
         ensures { self.new ≡ self.old }
     {
         self.tree.rematch();
+    }
+
+    /// The same on threads, as `PolicyTree::rematch_on_threads`.
+    pub fn rematch_on_threads<R: Threads + Sync>(&mut self, rt: &R)
+        ensures { self.new ≡ self.old }
+    {
+        self.tree.rematch_on_threads(rt);
     }
 
     /// Takes in a report, of as many as 64 bits count. Out of memory, nothing has changed.

@@ -22,10 +22,11 @@ use mono_search::Steps;
 use mpfa_fill::Filling;
 use path_groups::PathPlan;
 use policy_tree::PolicyTree;
-use push_down::all_limits;
+use push_down::{all_limits, all_limits_on_threads};
 use std::alloc::Global;
 use std::marker::Brand;
 use std::sync::ledger::{Blank, Ledger};
+use std::thread::Threads;
 
 /// The table under the demands and capacities that were reported last: the allocation
 /// ("Allocation", docs/DEFINITIONS.md), with nine laws ("Laws" and "Laws of a table" there).
@@ -73,49 +74,8 @@ pub fn make_table(
 {
     reported.what_holds();
     let _tree = reported.tree();
-    counted_table::<Brand, Brand, Brand, Brand>(
-        alloc,
-        reported,
-        plan,
-        Blank::new(1),
-        Blank::new(1),
-        Blank::new(1),
-        Blank::new(1),
-    )
-}
-
-// The same table, with counters that are dropped.
-fn counted_table<L: Ledger, T: Ledger, P: Ledger, M: Ledger>(
-    alloc: Global,
-    reported: &Reported,
-    plan: &PathPlan,
-    looks: Blank,
-    turns: Blank,
-    plays: Blank,
-    moves: Blank,
-) -> Result<LimitTable, OutOfMemory>
-    requires fitted { IsFitted reported.now plan.now }
-    requires look_name { looks.name ≡ L.name }
-    requires look_parts { looks.parts ≡ L.parts }
-    requires some_look { 0 < L.parts }
-    requires turn_name { turns.name ≡ T.name }
-    requires turn_parts { turns.parts ≡ T.parts }
-    requires some_turn { 0 < T.parts }
-    requires play_name { plays.name ≡ P.name }
-    requires play_parts { plays.parts ≡ P.parts }
-    requires some_play { 0 < P.parts }
-    requires move_name { moves.name ≡ M.name }
-    requires move_parts { moves.parts ≡ M.parts }
-    requires some_move { 0 < M.parts }
-    ensures { IfOk result (λ table. table ≡ table_by reported.now plan.now) }
-{
-    let mut looks: Steps<L> = Steps::new(looks);
-    let mut work: Work<T, P, M> = Work {
-        turns: Steps::new(turns),
-        plays: Steps::new(plays),
-        moves: Steps::new(moves),
-    };
-    make_table_by_looks(alloc, reported, plan, &mut looks, &mut work)
+    let filling = plain_filling(alloc, reported, plan)?;
+    table_of_filling(alloc, reported, plan, filling)
 }
 
 /// The same table, with counters: `steps` counts the load probes, `work` the turns, the plays of
@@ -158,6 +118,25 @@ fn table_of_filling(
     let tree = reported.tree();
     let groups = group_lines(alloc, plan, &filling)?;
     let limits = limits_of(alloc, tree, &groups)?;
+    Ok(table_of_limits(reported, plan, filling, groups, limits))
+}
+
+// The same table, whose limits are worked out on threads.
+fn table_of_filling_on_threads<R: Threads + Sync>(
+    rt: &R,
+    alloc: Global,
+    reported: &Reported,
+    plan: &PathPlan,
+    filling: Filling,
+) -> Result<LimitTable, OutOfMemory>
+    requires fitted { IsFitted reported.now plan.now }
+    requires filling { IsFilling (wan_by reported.now plan.now) filling }
+    ensures { IfOk result (λ table. table ≡ table_by reported.now plan.now) }
+{
+    let tree = reported.tree();
+    let groups = group_lines(alloc, plan, &filling)?;
+    let amounts = amounts_of(alloc, &groups)?;
+    let limits = all_limits_on_threads(rt, alloc, tree, &amounts)?;
     Ok(table_of_limits(reported, plan, filling, groups, limits))
 }
 
@@ -206,6 +185,24 @@ pub(crate) fn present_table(
     }
 }
 
+/// The same table. Where the tree keeps no values and limits, its limits are worked out on threads.
+pub(crate) fn present_table_on_threads<R: Threads + Sync>(
+    rt: &R,
+    alloc: Global,
+    reported: &mut Reported,
+    plan: &PathPlan,
+) -> Result<LimitTable, OutOfMemory>
+    requires { IsFitted reported.old plan.now }
+    ensures same { reported.new ≡ reported.old }
+    ensures table { IfOk result (λ table. table ≡ table_by reported.old plan.now) }
+{
+    if reported.keeps() {
+        return remade_table(alloc, reported, plan);
+    }
+    let filling = plain_filling(alloc, reported, plan)?;
+    table_of_filling_on_threads(rt, alloc, reported, plan, filling)
+}
+
 // The same, where the tree keeps values and limits.
 fn remade_table(
     alloc: Global,
@@ -225,6 +222,60 @@ fn remade_table(
 }
 
 // The filling under the demands and capacities that were reported last.
+fn plain_filling(
+    alloc: Global,
+    reported: &Reported,
+    plan: &PathPlan,
+) -> Result<Filling, OutOfMemory>
+    requires { IsFitted reported.now plan.now }
+    ensures { IfOk result (IsFilling (wan_by reported.now plan.now)) }
+{
+    counted_filling::<Brand, Brand, Brand, Brand>(
+        alloc,
+        reported,
+        plan,
+        Blank::new(1),
+        Blank::new(1),
+        Blank::new(1),
+        Blank::new(1),
+    )
+}
+
+// The same filling, with counters that are dropped.
+fn counted_filling<L: Ledger, T: Ledger, P: Ledger, M: Ledger>(
+    alloc: Global,
+    reported: &Reported,
+    plan: &PathPlan,
+    looks: Blank,
+    turns: Blank,
+    plays: Blank,
+    moves: Blank,
+) -> Result<Filling, OutOfMemory>
+    requires fitted { IsFitted reported.now plan.now }
+    requires look_name { looks.name ≡ L.name }
+    requires look_parts { looks.parts ≡ L.parts }
+    requires some_look { 0 < L.parts }
+    requires turn_name { turns.name ≡ T.name }
+    requires turn_parts { turns.parts ≡ T.parts }
+    requires some_turn { 0 < T.parts }
+    requires play_name { plays.name ≡ P.name }
+    requires play_parts { plays.parts ≡ P.parts }
+    requires some_play { 0 < P.parts }
+    requires move_name { moves.name ≡ M.name }
+    requires move_parts { moves.parts ≡ M.parts }
+    requires some_move { 0 < M.parts }
+    ensures { IfOk result (IsFilling (wan_by reported.now plan.now)) }
+{
+    let mut looks: Steps<L> = Steps::new(looks);
+    let mut work: Work<T, P, M> = Work {
+        turns: Steps::new(turns),
+        plays: Steps::new(plays),
+        moves: Steps::new(moves),
+    };
+    filling_of(alloc, reported, plan, &mut looks, &mut work)
+}
+
+// The same filling. `steps` counts the load probes, `work` the rest.
 fn filling_of<L: Ledger, T: Ledger, P: Ledger, M: Ledger>(
     alloc: Global,
     reported: &Reported,
