@@ -21,14 +21,11 @@ use mpfa_fill::{Filling, GroupValues, Term, ValueAt};
 use std::alloc::Global;
 use std::sync::ledger::Ledger;
 
-// So few groups are asked in less time than a turn takes.
-const FEW_GROUPS: usize = 4;
-
 /// What is known of a link after some looks: it is known at which share it is over first, or it
 /// fits at a share above `enough`.
 ///
 /// It asks for the values of the groups that grow over the link, once for each look, and of no
-/// others; where the value is known at the share of the look, not for that. Where they are few, it
+/// others; where the value is known at the share of the look, not for that. Where it is one group, it
 /// goes on until it is known at which share the link is over first, whatever is enough.
 pub(crate) fn looked<V: GroupValues, L: Ledger>(
     front: &Front<V>,
@@ -151,12 +148,12 @@ pub(crate) fn into_filling<V: GroupValues>(
     growth.into_filling(alloc, top)
 }
 
-// How far a search goes on: to the end where few groups grow over the link, so that the link takes
-// one turn until a group comes or leaves.
+// How far a search goes on: to the end where one group grows over the link, so that the link takes
+// one turn until a group comes or leaves. To ask one group takes less than a turn does.
 fn reach(terms: &[Term], enough: u64, top: u64) -> u64
     ensures { enough ≤ result }
 {
-    if terms.len() <= FEW_GROUPS {
+    if terms.len() <= 1 {
         enough.max(top)
     } else {
         enough
