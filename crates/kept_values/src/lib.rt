@@ -2,8 +2,9 @@
 //!
 //! A search over shares asks for one group's value at the same share for link after link.
 //! `KeptValues` stands between it and the values: it answers what they answer, and asks them for no
-//! value that it has. The closings of a check and the fillings of tiers go through it. Out of
-//! memory, it keeps less, and answers the same. Nothing is promised of time.
+//! value that it has. It keeps those that take a search. Fillings of tables and of tiers and the
+//! closings of a check go through it. Out of memory, it keeps less, and answers the same. Nothing is
+//! promised of time.
 #![tactic(auto)]
 
 ghost use Rattle.std.specs.Prelude.{◌≡◌, ℕ, IfOk, IfSome};
@@ -103,7 +104,11 @@ impl<V: GroupValues, K: Meant> GroupValues for KeptValues<'_, V, K> {
         self.values.top()
     }
 
+    // A value of which no ceiling is told takes no search, and no longer than to look it up.
     fn value(&self, group: u32, share: u64) -> u64 {
+        if self.values.ceiling(group, 0).is_none() {
+            return self.values.value(group, share);
+        }
         if let Some(value) = self.answer(group, share) {
             return value;
         }
