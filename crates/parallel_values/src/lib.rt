@@ -1,9 +1,10 @@
 //! What all groups may have at one share, worked out on threads.
 //!
-//! The top call asks `values_at` for the line `levels`; a caller without threads asks the tree for
-//! one group after the other and gets the same list. Each piece of the groups is one thread's, and
-//! no more threads are started than rayon has pieces: two for each processor. That more than one
-//! thread works is promised by no clause, nor is time.
+//! The top call asks `values_at` for the line `levels`, and the allocator for what all groups may
+//! have at the greatest share; a caller without threads asks `values_in_turn` and gets the same
+//! list. Each piece of the groups is one thread's, and no more threads are started than rayon has
+//! pieces: two for each processor. That more than one thread works is promised by no clause, nor is
+//! time.
 #![tactic(auto)]
 
 ghost use Rattle.std.specs.Prelude.{◌≡◌, ◌<◌, ◌≤◌, IfOk, length};
@@ -40,5 +41,20 @@ pub fn values_at<R: Threads + Sync>(
             { tree.group_value(group, share) },
         )
         .collect(rt, alloc)?;
+    Ok(values)
+}
+
+/// The same list, of one group after the other.
+pub fn values_in_turn(
+    alloc: Global,
+    tree: &PolicyTree,
+    share: u64,
+) -> Result<Vec<u64>, OutOfMemory>
+    ensures { IfOk result (λ values. values.items ≡ levels_in tree.now share) }
+{
+    let mut values = Vec::with_capacity(alloc, tree.groups() as usize)?;
+    for group in 0..tree.groups() {
+        values.push(tree.group_value(group, share))?;
+    }
     Ok(values)
 }
