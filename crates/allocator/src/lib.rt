@@ -19,14 +19,17 @@
 mod allocator;
 mod firsts;
 mod history;
+mod kept;
 mod line;
 mod reported;
 mod table;
+mod tops;
 mod values;
 
 pub use allocator::{Allocator, AllocatorPlan};
 pub use firsts::FirstClosings;
 pub use history::after_script;
+pub use kept::fill_kept;
 pub use line::{group_line, group_lines};
 pub use reported::{Reported, capacities_of};
 pub use table::{limits_of, make_table, make_table_by_looks};

@@ -4,6 +4,7 @@ ghost use Rattle.std.specs.Prelude.{◌≡◌, ℕ, ◌+◌, ◌*◌, ◌<◌, �
 ghost use Rattle.bwe_specs.specs.Reports.{numbers};
 ghost use Rattle.bwe_specs.specs.Tree.{cluster_limits};
 ghost use Rattle.policy_tree.specs.Trees.{demand_in, value_in};
+ghost use Rattle.parallel_values.specs.Levels.{levels_in};
 ghost use Rattle.mpfa_fill.specs.Filling.{IsFilling};
 ghost use Rattle.link_front.specs.Moves.{links_over_all};
 ghost use Rattle.link_solver.specs.Counts.{path_groups_in};
@@ -12,20 +13,23 @@ ghost use Rattle.allocator.specs.Laws.{IsNoMoreThanAsked, IsConserved, IsShared,
 ghost use Rattle.allocator.specs.Lines.{line_in};
 ghost use Rattle.allocator.specs.Tables.{wan_by};
 
+use crate::kept::fill_kept;
 use crate::line::group_lines;
 use crate::reported::Reported;
+use crate::tops::ToppedValues;
 use crate::values::TreeValues;
 use bwe_specs::OutOfMemory;
 use limit_table::{GroupLine, LimitTable};
 use link_solver::{Work, solve_by_looks};
 use mono_search::Steps;
 use mpfa_fill::Filling;
+use parallel_values::{values_at, values_in_turn};
 use path_groups::PathPlan;
 use policy_tree::PolicyTree;
 use push_down::{all_limits, all_limits_on_threads};
 use std::alloc::Global;
 use std::marker::Brand;
-use std::sync::ledger::{Blank, Ledger};
+use std::sync::ledger::Ledger;
 use std::thread::Threads;
 
 /// The table under the demands and capacities that were reported last: the allocation
@@ -73,8 +77,9 @@ pub fn make_table(
     ensures told { IfOk result (IsTold reported.now) }
 {
     reported.what_holds();
-    let _tree = reported.tree();
-    let filling = plain_filling(alloc, reported, plan)?;
+    let tree = reported.tree();
+    let tops = values_in_turn(alloc, tree, tree.top())?;
+    let filling = plain_filling(alloc, reported, plan, &tops)?;
     table_of_filling(alloc, reported, plan, filling)
 }
 
@@ -185,7 +190,8 @@ pub(crate) fn present_table(
     }
 }
 
-/// The same table. Where the tree keeps no values and limits, its limits are worked out on threads.
+/// The same table. Where the tree keeps no values and limits, the groups' values at the greatest
+/// share and the limits are worked out on threads.
 pub(crate) fn present_table_on_threads<R: Threads + Sync>(
     rt: &R,
     alloc: Global,
@@ -199,7 +205,9 @@ pub(crate) fn present_table_on_threads<R: Threads + Sync>(
     if reported.keeps() {
         return remade_table(alloc, reported, plan);
     }
-    let filling = plain_filling(alloc, reported, plan)?;
+    let tree = reported.tree();
+    let tops = values_at(rt, alloc, tree, tree.top())?;
+    let filling = plain_filling(alloc, reported, plan, &tops)?;
     table_of_filling_on_threads(rt, alloc, reported, plan, filling)
 }
 
@@ -221,58 +229,21 @@ fn remade_table(
     Ok(table_of_limits(reported, plan, filling, groups, limits))
 }
 
-// The filling under the demands and capacities that were reported last.
+// The filling under the demands and capacities that were reported last. `tops` are the groups'
+// values at the greatest share. None that takes a search is asked for twice.
 fn plain_filling(
     alloc: Global,
     reported: &Reported,
     plan: &PathPlan,
-) -> Result<Filling, OutOfMemory>
-    requires { IsFitted reported.now plan.now }
-    ensures { IfOk result (IsFilling (wan_by reported.now plan.now)) }
-{
-    counted_filling::<Brand, Brand, Brand, Brand>(
-        alloc,
-        reported,
-        plan,
-        Blank::new(1),
-        Blank::new(1),
-        Blank::new(1),
-        Blank::new(1),
-    )
-}
-
-// The same filling, with counters that are dropped.
-fn counted_filling<L: Ledger, T: Ledger, P: Ledger, M: Ledger>(
-    alloc: Global,
-    reported: &Reported,
-    plan: &PathPlan,
-    looks: Blank,
-    turns: Blank,
-    plays: Blank,
-    moves: Blank,
+    tops: &[u64],
 ) -> Result<Filling, OutOfMemory>
     requires fitted { IsFitted reported.now plan.now }
-    requires look_name { looks.name ≡ L.name }
-    requires look_parts { looks.parts ≡ L.parts }
-    requires some_look { 0 < L.parts }
-    requires turn_name { turns.name ≡ T.name }
-    requires turn_parts { turns.parts ≡ T.parts }
-    requires some_turn { 0 < T.parts }
-    requires play_name { plays.name ≡ P.name }
-    requires play_parts { plays.parts ≡ P.parts }
-    requires some_play { 0 < P.parts }
-    requires move_name { moves.name ≡ M.name }
-    requires move_parts { moves.parts ≡ M.parts }
-    requires some_move { 0 < M.parts }
+    requires tops { tops.now ≡ levels_in reported.now.tree reported.now.tree.top }
     ensures { IfOk result (IsFilling (wan_by reported.now plan.now)) }
 {
-    let mut looks: Steps<L> = Steps::new(looks);
-    let mut work: Work<T, P, M> = Work {
-        turns: Steps::new(turns),
-        plays: Steps::new(plays),
-        moves: Steps::new(moves),
-    };
-    filling_of(alloc, reported, plan, &mut looks, &mut work)
+    let tree = reported.tree();
+    let values = ToppedValues { tree, tops };
+    fill_kept::<ToppedValues<'_>, Brand>(alloc, &values, reported.topology(), plan)
 }
 
 // The same filling. `steps` counts the load probes, `work` the rest.

@@ -6,19 +6,17 @@ ghost use Rattle.bwe_specs.specs.Values.{AreValues};
 ghost use Rattle.path_groups.specs.Plan.{IsBuiltOn};
 ghost use Rattle.policy_tree.specs.Trees.{IsTree, value_in};
 ghost use Rattle.mpfa_fill.specs.Filling.{IsFilling};
-ghost use Rattle.mpfa_fill.specs.GroupValues.{Values, wan_of};
+ghost use Rattle.mpfa_fill.specs.GroupValues.{wan_of};
 ghost use Rattle.tiers.specs.Tiered.{tier_count};
 ghost use Rattle.wan_topology.specs.Network.{Network};
 ghost use Rattle.tiers.specs.Fillings.{AreFilled, HasLine, IsFilledSome, IsFilledTo, line_in_tier};
 ghost use Rattle.tiers.specs.Fillings.{values_of_tier, wan_by, with_filling};
 
 use crate::values::TierValues;
-use allocator::{FirstClosings, group_line};
+use allocator::{FirstClosings, fill_kept, group_line};
 use bwe_specs::{Closing, OutOfMemory};
-use kept_values::{KeptValues, Meant};
 use limit_table::GroupLine;
-use link_solver::solve_by_links;
-use mpfa_fill::{Filling, GroupValues};
+use mpfa_fill::Filling;
 use path_groups::PathPlan;
 use policy_tree::PolicyTree;
 use std::alloc::Global;
@@ -183,23 +181,6 @@ fn fill_tier(
 {
     let values = TierValues { tree, tiers, tier };
     fill_kept::<TierValues<'_>, Brand>(alloc, &values, topology, plan)
-}
-
-// The filling of values, of which none is asked for twice.
-fn fill_kept<V: GroupValues, K: Meant>(
-    alloc: Global,
-    values: &V,
-    topology: &Topology,
-    plan: &PathPlan,
-) -> Result<Filling, OutOfMemory>
-    requires meant { K.value ≡ (V.meaning values.now).value }
-    requires built_on { IsBuiltOn topology.now plan.now }
-    requires groups { (V.meaning values.now).groups ≡ length plan.now }
-    ensures { IfOk result
-        (IsFilling (wan_of (V.meaning values.now) plan.now topology.now.capacities)) }
-{
-    let kept: KeptValues<V, K> = KeptValues::of(alloc, values)?;
-    solve_by_links(alloc, &kept, topology, plan)
 }
 
 // How many tiers there are, from 0 to the greatest one given.
