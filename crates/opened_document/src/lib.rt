@@ -11,5 +11,5 @@ mod parted;
 mod refusal;
 
 pub use opened::{OpenedDocument, open, open_after_script};
-pub use parted::{Parted, read_parts};
+pub use parted::{Parted, read_parts, read_parts_on_threads};
 pub use refusal::refused;

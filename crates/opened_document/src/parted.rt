@@ -7,8 +7,9 @@ ghost use Rattle.opened_document.specs.Parted.{AreRead, accepted_parts, no_parts
 use crate::refusal::refused;
 use bwe_specs::OutOfMemory;
 use one_run::Answer;
-use plan_doc::{Document, read_document};
+use plan_doc::{Document, read_document, read_document_on_threads};
 use std::alloc::Global;
+use std::thread::Threads;
 use two_part::{NO_PARTS, find_parts};
 
 /// The parts of an input, or what is written for a refused one.
@@ -28,6 +29,30 @@ pub fn read_parts(alloc: Global, input: &[u8]) -> Result<Parted<'_>, OutOfMemory
         return Ok(Parted::Refused { answer });
     };
     match read_document(alloc, parts.document(input)) {
+        Ok(document) => Ok(Parted::Read {
+            document,
+            part: parts.second(input),
+        }),
+        Err(error) => {
+            let answer = refused(alloc, &error)?;
+            Ok(Parted::Refused { answer })
+        }
+    }
+}
+
+/// The same, where the document is read on threads.
+pub fn read_parts_on_threads<'a, R: Threads + Sync>(
+    rt: &R,
+    alloc: Global,
+    input: &'a [u8],
+) -> Result<Parted<'a>, OutOfMemory>
+    ensures { IfOk result (AreRead (accepted_parts input.now)) }
+{
+    let Some(parts) = find_parts(input) else {
+        let answer = no_parts(alloc)?;
+        return Ok(Parted::Refused { answer });
+    };
+    match read_document_on_threads(rt, alloc, parts.document(input)) {
         Ok(document) => Ok(Parted::Read {
             document,
             part: parts.second(input),
