@@ -11,5 +11,5 @@ use std::process::ExitCode;
 fn main(rt: HostRuntime) -> ExitCode {
     let mut source = StdSource::new(rt.stdin());
     let mut sink = StdSink::new(rt.stdout());
-    ExitCode::from(solve_once(rt.alloc(), &mut source, &mut sink))
+    ExitCode::from(solve_once(&rt, rt.alloc(), &mut source, &mut sink))
 }

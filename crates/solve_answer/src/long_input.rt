@@ -9,14 +9,15 @@ ghost use Rattle.plan_doc.specs.Plans.{plan_in};
 ghost use Rattle.solve_answer.specs.SolveCall.{IsForInput};
 ghost use Rattle.solve_answer.specs.SolveReply.{table_reply};
 
-use crate::solve_line::{solve, solve_document};
+use crate::solve_line::{solve_document_on_threads, solve_on_threads};
 use bwe_specs::{MAX_INPUT, OutOfMemory};
 use input_lengths::document_is_too_long;
 use memchr::memmem;
 use one_run::Answer;
 use opened_document::refused;
-use plan_doc::{DocError, Document, read_document};
+use plan_doc::{DocError, Document, read_document_on_threads};
 use std::alloc::Global;
+use std::thread::Threads;
 
 // How many bytes at each end of an input are looked at for its version.
 const END: usize = 1_024;
@@ -26,34 +27,43 @@ const END: usize = 1_024;
 ///
 /// An accepted document that is likely of version 4 is read once, whatever its length: what was read
 /// has its version. Any other input that is that long is passed over for its version.
-pub(crate) fn solve_unless_too_long(
+pub(crate) fn solve_unless_too_long<R: Threads + Sync>(
+    rt: &R,
     alloc: Global,
     input: &[u8],
 ) -> Result<Option<Answer>, OutOfMemory>
     ensures { IfOk result (IsForInput input.now) }
 {
     if input.len() as u64 <= MAX_INPUT || !is_likely_of_version_4(input) {
-        return solve_after_a_look(alloc, input);
+        return solve_after_a_look(rt, alloc, input);
     }
-    match read_document(alloc, input) {
-        Ok(document) => solve_of_version_4(alloc, document),
+    match read_document_on_threads(rt, alloc, input) {
+        Ok(document) => solve_of_version_4(rt, alloc, document),
         Err(error) => refused_unless_too_long(alloc, input, &error),
     }
 }
 
 // The same, where the version is looked for before anything is read.
-fn solve_after_a_look(alloc: Global, input: &[u8]) -> Result<Option<Answer>, OutOfMemory>
+fn solve_after_a_look<R: Threads + Sync>(
+    rt: &R,
+    alloc: Global,
+    input: &[u8],
+) -> Result<Option<Answer>, OutOfMemory>
     ensures { IfOk result (IsForInput input.now) }
 {
     if document_is_too_long(alloc, input)? {
         return Ok(None);
     }
-    let answer = solve(alloc, input)?;
+    let answer = solve_on_threads(rt, alloc, input)?;
     Ok(Some(answer))
 }
 
 // The table of an accepted document of version 4, and nothing for another version.
-fn solve_of_version_4(alloc: Global, document: Document) -> Result<Option<Answer>, OutOfMemory>
+fn solve_of_version_4<R: Threads + Sync>(
+    rt: &R,
+    alloc: Global,
+    document: Document,
+) -> Result<Option<Answer>, OutOfMemory>
     requires { IsUsable document }
     ensures table { IfOk result (λ found. IfSome found (λ answer. (document.version ≡ 4) × (answer
         ≡ table_reply (texts_of document.names) (plan_in document) document.script.items))) }
@@ -62,7 +72,7 @@ fn solve_of_version_4(alloc: Global, document: Document) -> Result<Option<Answer
     if document.version != 4 {
         return Ok(None);
     }
-    let answer = solve_document(alloc, document)?;
+    let answer = solve_document_on_threads(rt, alloc, document)?;
     Ok(Some(answer))
 }
 

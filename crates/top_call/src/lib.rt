@@ -4,10 +4,9 @@
 //! `specs/TopCall.antt` has what each command may get for its input, and `Ending` of `one_run` how
 //! a call may end. `bwe_once` serves every command that needs no threads; its contract is one
 //! sentence: for the command that the arguments are, source and sink went from here to there as an
-//! ending with this exit status allows. `bwe_cli` above says the same of every command. Both serve
-//! `solve` by `solve_once` of `solve_answer`, and the others by `read_input_of` and
-//! `answer_in_turn`. The laws of exit statuses, and of a run that is audited, stand here too.
-//! Nothing is promised of time, nor that memory is there.
+//! ending with this exit status allows. `bwe_cli` above says the same of every command, by
+//! `read_input_of` and `answer_in_turn`. The laws of exit statuses, and of a run that is audited,
+//! stand here too. Nothing is promised of time, nor that memory is there.
 #![tactic(auto)]
 
 ghost use Rattle.std.specs.Prelude.{◌≡◌, false, IfSome};
@@ -30,7 +29,6 @@ pub use laws::{
 };
 use one_run::{finish, refuse_input, write_usage};
 pub use reading::read_input_of;
-use solve_answer::solve_once;
 use std::alloc::Global;
 
 /// Serves one command that needs no threads, and answers the exit status ("Exit statuses",
@@ -65,9 +63,6 @@ pub fn bwe_once<S: Source, K: Sink>(
     let Some(line) = line else {
         return write_usage(sink);
     };
-    if let CommandLine::Solve = line {
-        return solve_once(alloc, source, sink);
-    }
     match read_input_of(alloc, line, source) {
         Ok(input) => finish(sink, answer_in_turn(alloc, line, &input)),
         Err(error) => refuse_input(sink, error),

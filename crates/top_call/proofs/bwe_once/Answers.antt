@@ -1,7 +1,6 @@
-use Rattle.std.proofs.Common.{refl, sym, ap, ◌∙◌, Some, Err}
+use Rattle.std.proofs.Common.{refl, sym, ap, ◌∙◌, Err}
 use Rattle.one_run.proofs.Ends.{Keeps-same, ending-usage, ending-unparsed, ending-finished, ending-refused}
 use Rattle.top_call.specs.TopCall.{of_one_thread}
-use Rattle.top_call.proofs.Solved.{solved-serves}
 use Rattle.top_call.proofs.bwe_once.Goals as goal
 
 pub returns-in-Err : goal.returns-in-Err
@@ -10,11 +9,6 @@ returns-in-Err g c = ending-unparsed _ _ _ refl (Keeps-same _)
 pub returns-in_default : goal.returns-in_default
 returns-in_default g c =
     ending-usage _ _ _ (ap of_one_thread (sym c.in-Ok.ensures.line) ∙ sym c.in_one_thread-line.ensures.line ∙ c.in_default.is) refl c.write_usage.ensures
-
-pub returns-in-Solve : goal.returns-in-Solve
-returns-in-Solve g c =
-    solved-serves _ _ _ (sym (ap of_one_thread (sym c.in-Ok.ensures.line) ∙ sym c.in-Some.ensures.line ∙ ap Some c.in-Solve.is))
-    c.solve_once.ensures
 
 pub returns-in-Ok-read_input_of : goal.returns-in-Ok-read_input_of
 returns-in-Ok-read_input_of g c =

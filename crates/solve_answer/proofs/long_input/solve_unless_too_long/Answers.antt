@@ -4,7 +4,7 @@ use Rattle.solve_answer.proofs.LongInputs.{accepted-for-input}
 use Rattle.solve_answer.proofs.long_input.solve_unless_too_long.Goals as goal
 
 pub returns-in-Ok : goal.returns-in-Ok
-returns-in-Ok c =
+returns-in-Ok g c =
     let long : max_input < length c.args.input.now = omega arith in
     accepted-for-input c.args.input.now c.in-Ok.document c.in-Ok.ensures.exact long
     c.solve_of_version_4.result c.solve_of_version_4.ensures.table c.solve_of_version_4.ensures.other
