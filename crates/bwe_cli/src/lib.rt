@@ -1,5 +1,5 @@
 //! The top call: one command, from its arguments and the bytes of its input to the bytes of its
-//! answer and an exit status, with `run` and `levels` on threads.
+//! answer and an exit status, on threads where that pays.
 //!
 //! The program calls `bwe` with the standard streams. The arguments are read once. Its contract is
 //! one sentence: for the command that the arguments are, source and sink went from here to there as
@@ -34,9 +34,9 @@ use top_call::read_input_of;
 ///
 /// `words` are the arguments after the program's name. `run` puts a reporter for each of the
 /// document's reporters, the allocator and the readers on threads; `gate` is called round each of
-/// their calls. `levels` works its values out on threads. The whole text is made before its first
-/// byte is written. `run` alone may wait; every other command goes to `serve_in_time`, which
-/// returns.
+/// their calls. `solve`, `check`, `levels`, `tiers` and `bulk` read a document on threads, and what
+/// they write is the same however many there are. The whole text is made before its first byte is
+/// written. `run` alone may wait; every other command goes to `serve_in_time`, which returns.
 pub fn bwe<S: Source, K: Sink, G: Gate + Sync, R: Threads + Wait + Sync>(
     rt: &R,
     alloc: Global,
@@ -95,7 +95,7 @@ pub fn serve_in_time<S: Source, K: Sink, R: Threads + Sync>(
     }) result }
 {
     if let CommandLine::Solve = line {
-        return solve_once(alloc, source, sink);
+        return solve_once(rt, alloc, source, sink);
     }
     match read_input_of(alloc, line, source) {
         Ok(input) => finish(sink, answer_in_time(rt, alloc, line, &input)),

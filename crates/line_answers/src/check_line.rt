@@ -16,8 +16,10 @@ use bwe_specs::{Closing, OutOfMemory};
 use demand_book::Maker;
 use one_run::Answer;
 use opened_document::{OpenedDocument, open_after_script, refused};
-use plan_doc::{Document, read_document};
+use plan_doc::{Document, read_document, read_document_on_threads};
 use std::alloc::Global;
+use std::mem::forget;
+use std::thread::Threads;
 use table_text::check_text;
 
 /// The answer to its input.
@@ -25,6 +27,20 @@ pub fn check(alloc: Global, input: &[u8]) -> Result<Answer, OutOfMemory>
     ensures { IfOk result (λ answer. answer ≡ document_reply check_accepted input.now) }
 {
     match read_document(alloc, input) {
+        Ok(document) => check_document(alloc, document),
+        Err(error) => refused(alloc, &error),
+    }
+}
+
+/// The same answer, read on threads.
+pub fn check_on_threads<R: Threads + Sync>(
+    rt: &R,
+    alloc: Global,
+    input: &[u8],
+) -> Result<Answer, OutOfMemory>
+    ensures { IfOk result (λ answer. answer ≡ document_reply check_accepted input.now) }
+{
+    match read_document_on_threads(rt, alloc, input) {
         Ok(document) => check_document(alloc, document),
         Err(error) => refused(alloc, &error),
     }
@@ -76,7 +92,9 @@ fn verdict_after(
     let (mut tree, topology, plan) = allocator.into_parts();
     tree.rematch();
     let values = TreeValues { tree: &tree };
-    bottleneck_cert::check(alloc, &values, &topology, &plan, closings)
+    let verdict = bottleneck_cert::check(alloc, &values, &topology, &plan, closings);
+    forget((tree, topology, plan));
+    verdict
 }
 
 // The exit status of a verdict.

@@ -13,10 +13,11 @@ use bwe_specs::OutOfMemory;
 use doc_names::Names;
 use one_run::Answer;
 use opened_document::{OpenedDocument, open_after_script, refused};
-use parallel_values::values_at;
-use plan_doc::{Document, read_document};
+use parallel_values::{values_at, values_in_turn};
+use plan_doc::{Document, read_document, read_document_on_threads};
 use policy_tree::PolicyTree;
 use std::alloc::Global;
+use std::mem::forget;
 use std::thread::Threads;
 use table_text::levels_text;
 
@@ -54,7 +55,7 @@ fn opened_levels(alloc: Global, share: u64, opened: OpenedDocument) -> Result<An
     levels_answer(alloc, &tree, share, &values, &names)
 }
 
-/// The answer to its input, of values that are worked out on threads.
+/// The same answer, read and worked out on threads.
 pub fn levels_on_threads<R: Threads + Sync>(
     rt: &R,
     alloc: Global,
@@ -63,7 +64,7 @@ pub fn levels_on_threads<R: Threads + Sync>(
 ) -> Result<Answer, OutOfMemory>
     ensures { IfOk result (λ answer. answer ≡ document_reply (levels_accepted share) input.now) }
 {
-    match read_document(alloc, input) {
+    match read_document_on_threads(rt, alloc, input) {
         Ok(document) => document_levels_on_threads(rt, alloc, share, document),
         Err(error) => refused(alloc, &error),
     }
@@ -85,7 +86,7 @@ fn document_levels_on_threads<R: Threads + Sync>(
     opened_levels_on_threads(rt, alloc, share, opened)
 }
 
-// The same, by `values_at`.
+// The same, by `values_at`. The tree is left to the end of the program.
 fn opened_levels_on_threads<R: Threads + Sync>(
     rt: &R,
     alloc: Global,
@@ -100,7 +101,9 @@ fn opened_levels_on_threads<R: Threads + Sync>(
     let (tree, names) = matched_tree(opened);
     let share = share.min(tree.top());
     let values = values_at(rt, alloc, &tree, share)?;
-    levels_answer(alloc, &tree, share, &values, &names)
+    let answer = levels_answer(alloc, &tree, share, &values, &names);
+    forget((tree, names));
+    answer
 }
 
 // The tree under the demands of the script, with cheap values, and the names.
@@ -116,17 +119,6 @@ fn matched_tree(opened: OpenedDocument) -> (PolicyTree, Names)
     let (mut tree, _topology, _plan) = allocator.into_parts();
     tree.refresh();
     (tree, names)
-}
-
-// What each group may have at the share.
-fn values_in_turn(alloc: Global, tree: &PolicyTree, share: u64) -> Result<Vec<u64>, OutOfMemory>
-    ensures { IfOk result (λ values. values.items ≡ levels_in tree.now share) }
-{
-    let mut values = Vec::new(alloc);
-    for group in 0..tree.groups() {
-        values.push(tree.group_value(group, share))?;
-    }
-    Ok(values)
 }
 
 // The text of the values of a tree's groups at a share.

@@ -2,7 +2,8 @@
 //! (`audit_answer`) and `run` (`bwe_cli`).
 //!
 //! The top call makes a whole answer by one of these, and then writes it. The contract of each says
-//! the one reply that an input has. Nothing is promised of time, nor that memory is there.
+//! the one reply that an input has, also of those that work on threads. Nothing is promised of time,
+//! nor that memory is there.
 #![tactic(auto)]
 
 mod check_line;
@@ -12,9 +13,9 @@ mod levels_line;
 mod made;
 mod tiers_line;
 
-pub use check_line::check;
+pub use check_line::{check, check_on_threads};
 pub use enforce_line::enforce;
 pub use estimate_line::estimate;
 pub use levels_line::{levels, levels_on_threads};
-pub use made::{bulk, make};
-pub use tiers_line::tiers;
+pub use made::{bulk, bulk_on_threads, make};
+pub use tiers_line::{tiers, tiers_on_threads};

@@ -9,9 +9,13 @@ ghost use Rattle.line_answers.specs.TiersReply.{tiered_reply, tiers_accepted, ti
 
 use bwe_specs::OutOfMemory;
 use one_run::Answer;
-use opened_document::{OpenedDocument, Parted, open_after_script, read_parts};
+use opened_document::{
+    OpenedDocument, Parted, open_after_script, read_parts, read_parts_on_threads,
+};
 use plan_doc::Document;
 use std::alloc::Global;
+use std::mem::forget;
+use std::thread::Threads;
 use tier_text::{TiersError, read_tiers, refused_tiers, tier_text};
 use tiers::fill_tiers;
 
@@ -20,6 +24,20 @@ pub fn tiers(alloc: Global, input: &[u8]) -> Result<Answer, OutOfMemory>
     ensures { IfOk result (λ answer. answer ≡ parts_reply tiers_accepted input.now) }
 {
     match read_parts(alloc, input)? {
+        Parted::Read { document, part } => tiers_of_document(alloc, document, part),
+        Parted::Refused { answer } => Ok(answer),
+    }
+}
+
+/// The same answer, read on threads.
+pub fn tiers_on_threads<R: Threads + Sync>(
+    rt: &R,
+    alloc: Global,
+    input: &[u8],
+) -> Result<Answer, OutOfMemory>
+    ensures { IfOk result (λ answer. answer ≡ parts_reply tiers_accepted input.now) }
+{
+    match read_parts_on_threads(rt, alloc, input)? {
         Parted::Read { document, part } => tiers_of_document(alloc, document, part),
         Parted::Refused { answer } => Ok(answer),
     }
@@ -65,8 +83,7 @@ fn fill(alloc: Global, document: Document, tiers: &[u8]) -> Result<Answer, OutOf
     let (mut tree, topology, plan) = allocator.into_parts();
     tree.rematch();
     let table = fill_tiers(alloc, &tree, topology, &plan, tiers, prefix)?;
-    Ok(Answer {
-        status: 0,
-        text: tier_text(alloc, &table, &names)?,
-    })
+    let text = tier_text(alloc, &table, &names)?;
+    forget((tree, plan, table, names));
+    Ok(Answer { status: 0, text })
 }

@@ -9,5 +9,5 @@ returns c =
     let reported = c.args.allocator.reported in
     let groups = c.args.allocator.groups in
     let parts = c.into_parts-tree.ensures in
-    let judged = rw (c.rematch.ensures, parts.tree, parts.network, parts.plan) at c.check.ensures.verdict in
-    IfOk-weaker c.check.result _ _ (λ found e. λ script after. e ∙ ap (λ wan. verdict wan c.args.closings.now) (wan-after reported groups script after)) judged
+    let judged = rw (c.rematch.ensures, parts.tree, parts.network, parts.plan) at c.check-verdict.ensures.verdict in
+    IfOk-weaker c.check-verdict.result _ _ (λ found e. λ script after. e ∙ ap (λ wan. verdict wan c.args.closings.now) (wan-after reported groups script after)) judged

@@ -8,7 +8,7 @@ pub returns : goal.returns
 returns g c =
     let matched = c.matched_tree-tree.ensures in
     let tree = c.matched_tree-tree.result.0 in
-    let answered = rw (matched.names) at c.levels_answer.ensures in
+    let answered = rw (matched.names) at c.levels_answer-answer.ensures in
     let lesser = c.min-share.ensures ∙ ap (min c.args.share) c.top.ensures.top in
     let same = levels-lesser c.args.share c.min-share.result (texts_of c.args.opened.names) tree c.args.opened.allocator.reported.tree lesser matched.tree in
-    IfOk-weaker c.levels_answer.result _ _ (λ answer is. is ∙ same) answered
+    IfOk-weaker c.levels_answer-answer.result _ _ (λ answer is. is ∙ same) answered

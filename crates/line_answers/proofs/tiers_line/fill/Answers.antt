@@ -16,5 +16,5 @@ returns c =
     let opened = c.in_ok-allocator.ensures in
     let filled = rw (c.rematch.ensures, parts.tree, parts.network, parts.plan, c.prefix-prefix.ensures) at c.in_ok-table.ensures.table in
     let tiered = filled ∙ tiered_after_script allocator.reported allocator.groups (plan_in c.args.document) c.args.document.script.items c.args.tiers.now opened.absorbed opened.plan in
-    let text = rw opened.names at c.in_ok-tier_text.ensures in
+    let text = rw opened.names at c.in_ok-text.ensures in
     ap reply_of (text ∙ ap (tier_text_of (texts_of c.args.document.names)) tiered)
