@@ -45,11 +45,7 @@ pub fn values_at<R: Threads + Sync>(
 }
 
 /// The same list, of one group after the other.
-pub fn values_in_turn(
-    alloc: Global,
-    tree: &PolicyTree,
-    share: u64,
-) -> Result<Vec<u64>, OutOfMemory>
+pub fn values_in_turn(alloc: Global, tree: &PolicyTree, share: u64) -> Result<Vec<u64>, OutOfMemory>
     ensures { IfOk result (λ values. values.items ≡ levels_in tree.now share) }
 {
     let mut values = Vec::with_capacity(alloc, tree.groups() as usize)?;
