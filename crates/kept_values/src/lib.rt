@@ -3,8 +3,8 @@
 //! A search over shares asks for one group's value at the same share for link after link.
 //! `KeptValues` stands between it and the values: it answers what they answer, and asks them for no
 //! value that it has. It keeps those that take a search. Fillings of tables and of tiers and the
-//! closings of a check go through it. Out of memory, it keeps less, and answers the same. Nothing is
-//! promised of time.
+//! closings of a check go through it. Out of memory, it keeps less, and answers the same. Nothing
+//! is promised of time.
 #![tactic(auto)]
 
 ghost use Rattle.std.specs.Prelude.{◌≡◌, ℕ, IfOk, IfSome};

@@ -2,8 +2,8 @@
 //! (`audit_answer`) and `run` (`bwe_cli`).
 //!
 //! The top call makes a whole answer by one of these, and then writes it. The contract of each says
-//! the one reply that an input has, also of those that work on threads. Nothing is promised of time,
-//! nor that memory is there.
+//! the one reply that an input has, also of those that work on threads. Nothing is promised of
+//! time, nor that memory is there.
 #![tactic(auto)]
 
 mod check_line;

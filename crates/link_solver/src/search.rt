@@ -25,8 +25,8 @@ use std::sync::ledger::Ledger;
 /// fits at a share above `enough`.
 ///
 /// It asks for the values of the groups that grow over the link, once for each look, and of no
-/// others; where the value is known at the share of the look, not for that. Where it is one group, it
-/// goes on until it is known at which share the link is over first, whatever is enough.
+/// others; where the value is known at the share of the look, not for that. Where it is one group,
+/// it goes on until it is known at which share the link is over first, whatever is enough.
 pub(crate) fn looked<V: GroupValues, L: Ledger>(
     front: &Front<V>,
     alloc: Global,
