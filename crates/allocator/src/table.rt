@@ -13,14 +13,13 @@ ghost use Rattle.allocator.specs.Laws.{IsNoMoreThanAsked, IsConserved, IsShared,
 ghost use Rattle.allocator.specs.Lines.{line_in};
 ghost use Rattle.allocator.specs.Tables.{wan_by};
 
-use crate::kept::fill_kept;
+use crate::kept::fill_kept_by_looks;
 use crate::line::group_lines;
 use crate::reported::Reported;
 use crate::tops::ToppedValues;
-use crate::values::TreeValues;
 use bwe_specs::OutOfMemory;
 use limit_table::{GroupLine, LimitTable};
-use link_solver::{Work, solve_by_looks};
+use link_solver::Work;
 use mono_search::Steps;
 use mpfa_fill::Filling;
 use parallel_values::{values_at, values_in_turn};
@@ -29,7 +28,7 @@ use policy_tree::PolicyTree;
 use push_down::{all_limits, all_limits_on_threads};
 use std::alloc::Global;
 use std::marker::Brand;
-use std::sync::ledger::Ledger;
+use std::sync::ledger::{Blank, Ledger};
 use std::thread::Threads;
 
 /// The table under the demands and capacities that were reported last: the allocation
@@ -105,7 +104,9 @@ pub fn make_table_by_looks<L: Ledger, T: Ledger, P: Ledger, M: Ledger>(
         ≤ work.old.plays + levels * (work.new.turns + 2 * links_over_all links plan.now) }
     ensures moves { work.new.moves ≤ work.old.moves + path_groups_in plan.now }
 {
-    let filling = filling_of(alloc, reported, plan, steps, work)?;
+    let tree = reported.tree();
+    let tops = values_in_turn(alloc, tree, tree.top())?;
+    let filling = filling_of(alloc, reported, plan, &tops, steps, work)?;
     table_of_filling(alloc, reported, plan, filling)
 }
 
@@ -241,9 +242,52 @@ fn plain_filling(
     requires tops { tops.now ≡ levels_in reported.now.tree reported.now.tree.top }
     ensures { IfOk result (IsFilling (wan_by reported.now plan.now)) }
 {
-    let tree = reported.tree();
-    let values = ToppedValues { tree, tops };
-    fill_kept::<ToppedValues<'_>, Brand>(alloc, &values, reported.topology(), plan)
+    counted_filling::<Brand, Brand, Brand, Brand>(
+        alloc,
+        reported,
+        plan,
+        tops,
+        Blank::new(1),
+        Blank::new(1),
+        Blank::new(1),
+        Blank::new(1),
+    )
+}
+
+// The same filling, with counters that are dropped.
+fn counted_filling<L: Ledger, T: Ledger, P: Ledger, M: Ledger>(
+    alloc: Global,
+    reported: &Reported,
+    plan: &PathPlan,
+    tops: &[u64],
+    looks: Blank,
+    turns: Blank,
+    plays: Blank,
+    moves: Blank,
+) -> Result<Filling, OutOfMemory>
+    requires fitted { IsFitted reported.now plan.now }
+    requires tops { tops.now ≡ levels_in reported.now.tree reported.now.tree.top }
+    requires look_name { looks.name ≡ L.name }
+    requires look_parts { looks.parts ≡ L.parts }
+    requires some_look { 0 < L.parts }
+    requires turn_name { turns.name ≡ T.name }
+    requires turn_parts { turns.parts ≡ T.parts }
+    requires some_turn { 0 < T.parts }
+    requires play_name { plays.name ≡ P.name }
+    requires play_parts { plays.parts ≡ P.parts }
+    requires some_play { 0 < P.parts }
+    requires move_name { moves.name ≡ M.name }
+    requires move_parts { moves.parts ≡ M.parts }
+    requires some_move { 0 < M.parts }
+    ensures { IfOk result (IsFilling (wan_by reported.now plan.now)) }
+{
+    let mut looks: Steps<L> = Steps::new(looks);
+    let mut work: Work<T, P, M> = Work {
+        turns: Steps::new(turns),
+        plays: Steps::new(plays),
+        moves: Steps::new(moves),
+    };
+    filling_of(alloc, reported, plan, tops, &mut looks, &mut work)
 }
 
 // The same filling. `steps` counts the load probes, `work` the rest.
@@ -251,10 +295,12 @@ fn filling_of<L: Ledger, T: Ledger, P: Ledger, M: Ledger>(
     alloc: Global,
     reported: &Reported,
     plan: &PathPlan,
+    tops: &[u64],
     steps: &mut Steps<L>,
     work: &mut Work<T, P, M>,
 ) -> Result<Filling, OutOfMemory>
-    requires { IsFitted reported.now plan.now }
+    requires fitted { IsFitted reported.now plan.now }
+    requires tops { tops.now ≡ levels_in reported.now.tree reported.now.tree.top }
     ensures filling { IfOk result (IsFilling (wan_by reported.now plan.now)) }
     ensures looks { let links = length reported.now.network.capacities in
         steps.new ≤ steps.old + 31 * (links + 2 * links_over_all links plan.now) }
@@ -265,10 +311,16 @@ fn filling_of<L: Ledger, T: Ledger, P: Ledger, M: Ledger>(
         ≤ work.old.plays + levels * (work.new.turns + 2 * links_over_all links plan.now) }
     ensures moves { work.new.moves ≤ work.old.moves + path_groups_in plan.now }
 {
-    let values = TreeValues {
-        tree: reported.tree(),
-    };
-    solve_by_looks(alloc, &values, reported.topology(), plan, steps, work)
+    let tree = reported.tree();
+    let values = ToppedValues { tree, tops };
+    fill_kept_by_looks::<ToppedValues<'_>, Brand, L, T, P, M>(
+        alloc,
+        &values,
+        reported.topology(),
+        plan,
+        steps,
+        work,
+    )
 }
 
 /// Each task's limit, where the groups have the amounts of these rows. All are kilobits per second.
