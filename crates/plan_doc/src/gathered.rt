@@ -34,7 +34,7 @@ use doc_passes::{DocumentNumbers, check_ranges, document_numbers, find_overrun};
 use json::Scratch;
 use policy_tree::{ClusterSpec, TreeSpec};
 use raw_document::{RawDocument, RawGroup, RawLink};
-use raw_reader::read_straight;
+use raw_reader::{read_straight, read_straight_on_threads, scratches_of};
 use raw_shape::{JsonError, read_json, read_shape};
 use serde_json::Value;
 use std::alloc::Global;
@@ -363,7 +363,21 @@ pub fn gathered_on_threads<R: Threads + Sync>(
 ) -> Option<Result<Gathered, DocError>>
     ensures { IfSome result (λ found. Gathers found (document bytes.now)) }
 {
+    let found = gathered_in_stretches(rt, alloc, bytes);
+    if found.is_some() {
+        return found;
+    }
     let mut scratch = Scratch::new(alloc);
     let raw = read_straight(alloc, bytes, &mut scratch)?;
+    Some(gather_on_threads(rt, alloc, &raw))
+}
+
+fn gathered_in_stretches<R: Threads + Sync>(
+    rt: &R,
+    alloc: Global,
+    bytes: &[u8],
+) -> Option<Result<Gathered, DocError>> {
+    let mut scratches = scratches_of(alloc)?;
+    let raw = read_straight_on_threads(rt, alloc, bytes, scratches.as_mut_slice())?;
     Some(gather_on_threads(rt, alloc, &raw))
 }

@@ -75,7 +75,16 @@ impl<'a> Part<'a> for RawDocument<'a> {
         reader: &mut Reader<'a>,
         depth: usize,
     ) -> Option<RawDocument<'a>> {
-        let mut slots = DocumentSlots {
+        let mut slots = DocumentSlots::new();
+        fill_slots(&mut slots, alloc, version, reader, depth)?;
+        document_of(alloc, version, slots)
+    }
+}
+
+impl<'a> DocumentSlots<'a> {
+    /// Slots that are empty.
+    pub fn new() -> DocumentSlots<'a> {
+        DocumentSlots {
             version: None,
             top: None,
             links: None,
@@ -83,32 +92,39 @@ impl<'a> Part<'a> for RawDocument<'a> {
             reporters: None,
             script: None,
             closings: None,
-        };
-        fill_slots(&mut slots, alloc, version, reader, depth)?;
-        if slots.version? != version {
-            return None;
         }
-        match (
-            slots.top,
-            slots.links,
-            slots.groups,
-            slots.reporters,
-            slots.script,
-        ) {
-            (Some(top), Some(links), Some(groups), Some(reporters), Some(script)) => {
-                let closings = slots.closings.unwrap_or(Vec::new(alloc));
-                Some(RawDocument {
-                    version,
-                    top,
-                    links,
-                    groups,
-                    reporters,
-                    script,
-                    closings,
-                })
-            }
-            _ => None,
+    }
+}
+
+/// The document of this version that the slots hold.
+pub fn document_of<'a>(
+    alloc: Global,
+    version: u64,
+    slots: DocumentSlots<'a>,
+) -> Option<RawDocument<'a>> {
+    if slots.version? != version {
+        return None;
+    }
+    match (
+        slots.top,
+        slots.links,
+        slots.groups,
+        slots.reporters,
+        slots.script,
+    ) {
+        (Some(top), Some(links), Some(groups), Some(reporters), Some(script)) => {
+            let closings = slots.closings.unwrap_or(Vec::new(alloc));
+            Some(RawDocument {
+                version,
+                top,
+                links,
+                groups,
+                reporters,
+                script,
+                closings,
+            })
         }
+        _ => None,
     }
 }
 

@@ -4,9 +4,9 @@ ghost use Rattle.std.specs.Prelude.{◌≡◌, Ok};
 ghost use Rattle.raw_document.specs.Raw.{closing_view, report_view};
 ghost use Rattle.raw_document.specs.Forms.{closing_at, report_at};
 
-use crate::part::Part;
-use crate::slots::{Slots, fill, fill_slots};
-use crate::values::is;
+use crate::part::{Item, Part};
+use crate::slots::{Slots, fill, fill_members, fill_slots};
+use crate::values::{is, open_object};
 use json::Reader;
 use raw_document::{DocKey, RawClosing, RawReport, RawTarget};
 use std::alloc::Global;
@@ -63,6 +63,18 @@ impl<'a> Part<'a> for RawReport<'a> {
         reader: &mut Reader<'a>,
         depth: usize,
     ) -> Option<RawReport<'a>> {
+        open_object(reader, depth)?;
+        RawReport::read_behind_brace(alloc, version, reader, depth)
+    }
+}
+
+impl<'a> Item<'a> for RawReport<'a> {
+    fn read_behind_brace(
+        alloc: Global,
+        version: u64,
+        reader: &mut Reader<'a>,
+        depth: usize,
+    ) -> Option<RawReport<'a>> {
         let mut slots = ReportSlots {
             reporter: None,
             task: None,
@@ -70,7 +82,7 @@ impl<'a> Part<'a> for RawReport<'a> {
             link: None,
             capacity: None,
         };
-        fill_slots(&mut slots, alloc, version, reader, depth)?;
+        fill_members(&mut slots, alloc, version, reader, depth)?;
         let (target, amount) = match (slots.task, slots.demand, slots.link, slots.capacity) {
             (Some(task), Some(demand), None, None) => (RawTarget::Task(task), demand),
             (None, None, Some(link), Some(capacity)) if version != 1 => {

@@ -4,9 +4,9 @@ ghost use Rattle.std.specs.Prelude.{◌≡◌, Ok};
 ghost use Rattle.raw_document.specs.Raw.{group_view, link_view, path_view};
 ghost use Rattle.raw_document.specs.Forms.{group_at, link_at, path_at};
 
-use crate::part::Part;
-use crate::slots::{Slots, fill, fill_slots};
-use crate::values::is;
+use crate::part::{Item, Part};
+use crate::slots::{Slots, fill, fill_members, fill_slots};
+use crate::values::{is, open_object};
 use json::Reader;
 use raw_document::{DocKey, RawGroup, RawLink, RawPath, RawUser};
 use std::alloc::Global;
@@ -192,6 +192,18 @@ impl<'a> Part<'a> for RawGroup<'a> {
         reader: &mut Reader<'a>,
         depth: usize,
     ) -> Option<RawGroup<'a>> {
+        open_object(reader, depth)?;
+        RawGroup::read_behind_brace(alloc, version, reader, depth)
+    }
+}
+
+impl<'a> Item<'a> for RawGroup<'a> {
+    fn read_behind_brace(
+        alloc: Global,
+        version: u64,
+        reader: &mut Reader<'a>,
+        depth: usize,
+    ) -> Option<RawGroup<'a>> {
         let mut slots = GroupSlots {
             name: None,
             from: None,
@@ -200,7 +212,7 @@ impl<'a> Part<'a> for RawGroup<'a> {
             path_groups: None,
             users: None,
         };
-        fill_slots(&mut slots, alloc, version, reader, depth)?;
+        fill_members(&mut slots, alloc, version, reader, depth)?;
         match (
             slots.name,
             slots.from,

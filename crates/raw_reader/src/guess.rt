@@ -27,6 +27,19 @@ pub fn guess_version(text: &str, scratch: &mut Scratch) -> Option<u64> {
     guess_by_members(&mut reader)
 }
 
+/// The number of the version, where it is the first member or stands near the end.
+pub fn guess_at_ends(text: &str) -> Option<u64> {
+    let bytes = text.as_bytes();
+    let members = bytes.trim_ascii_start().strip_prefix(b"{")?;
+    match members.trim_ascii_start().strip_prefix(QUOTED) {
+        Some(found) => {
+            let behind_colon = found.trim_ascii_start().strip_prefix(b":")?.trim_ascii_start();
+            leading_number(behind_colon)
+        }
+        None => guess_by_bytes(bytes),
+    }
+}
+
 // The number of the version among the members that are left of an object.
 fn guess_by_members(reader: &mut Reader<'_>) -> Option<u64> {
     'members: while let Some(key) = reader.next_key().ok()? {

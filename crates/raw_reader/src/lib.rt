@@ -5,13 +5,18 @@
 //! the first fault.
 #![tactic(auto)]
 
+mod cuts;
 mod document;
 mod entries;
 mod groups;
 mod guess;
+mod joined;
+mod on_threads;
 mod part;
+mod pieces;
 mod slots;
 mod tasks;
 mod values;
 
 pub use document::read_straight;
+pub use on_threads::{read_straight_on_threads, scratches_of};

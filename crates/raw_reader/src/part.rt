@@ -26,6 +26,24 @@ pub trait Part<'a>: Sized + Drop {
         ensures shorter { OnSome result (length reader.new < length reader.old) };
 }
 
+/// What is read of an object.
+pub trait Item<'a>: Part<'a> {
+    ghost use Rattle.std.specs.Prelude.{◌∷◌};
+    ghost use Rattle.json.specs.Token.{begin_object};
+
+    /// The object whose opening brace was just taken.
+    fn read_behind_brace(
+        alloc: Global,
+        version: u64,
+        reader: &mut Reader<'a>,
+        depth: usize,
+    ) -> Option<Self>
+        requires { 0 < depth }
+        ensures value { IfSome result (λ x. Takes depth (begin_object ∷ reader.old) reader.new
+            (λ d. is_read version d x)) }
+        ensures shorter { OnSome result (length reader.new < length reader.old) };
+}
+
 impl<'a> Part<'a> for &'a str {
     const USUAL_COUNT: usize = 4;
 
@@ -99,7 +117,7 @@ impl<'a, T: Part<'a>> Part<'a> for Vec<T> {
 }
 
 // Adds an item to a list, whose first item takes room for as many as lists of such mostly hold.
-fn add<'a, T: Part<'a>>(found: &mut Vec<T>, item: T) -> Option<()>
+pub fn add<'a, T: Part<'a>>(found: &mut Vec<T>, item: T) -> Option<()>
     ensures { OnSome result (found.new.items ≡ found.old.items ++ item ∷ []) }
 {
     if found.is_empty() {

@@ -1,6 +1,7 @@
 //! The members of an object, in whatever order they come.
 
-ghost use Rattle.std.specs.Prelude.{◌≡◌, ◌<◌, length, Some, IfSome, OnSome};
+ghost use Rattle.std.specs.Prelude.{◌≡◌, ◌<◌, ◌∷◌, length, Some, IfSome, OnSome};
+ghost use Rattle.json.specs.Token.{begin_object};
 ghost use Rattle.serde_json.specs.Data.{no_members};
 ghost use Rattle.raw_reader.specs.Takes.{Takes, TakesMember, TakesObject};
 
@@ -61,6 +62,23 @@ pub fn fill_slots<'a, S: Slots<'a>>(
     ensures shorter { OnSome result (length reader.new < length reader.old) }
 {
     open_object(reader, depth)?;
+    fill_members(slots, alloc, version, reader, depth)
+}
+
+/// Reads the members of an object behind its opening brace into slots that are empty.
+pub fn fill_members<'a, S: Slots<'a>>(
+    slots: &mut S,
+    alloc: Global,
+    version: u64,
+    reader: &mut Reader<'a>,
+    depth: usize,
+) -> Option<()>
+    requires holds { S.holds version slots.old no_members }
+    requires depth { 0 < depth }
+    ensures value { OnSome result (TakesObject depth (begin_object ∷ reader.old) reader.new
+        (S.holds version slots.new)) }
+    ensures shorter { OnSome result (length reader.new < length reader.old) }
+{
     'members: while let Some(key) = reader.next_key().ok()? {
         slots.take(alloc, version, key, reader, depth - 1)?;
     }

@@ -1,0 +1,135 @@
+//! Where a text is cut into stretches.
+//!
+//! A cut in a wrong place is noticed when the stretches are read, so nothing is promised of where
+//! the cuts are.
+
+use crate::pieces::{Place, Stretch};
+use json::Scratch;
+use memchr::{memchr, memmem};
+use std::alloc::Global;
+
+/// Into how many stretches a text is cut at most.
+pub const MOST_STRETCHES: usize = 4;
+
+// So many bytes are too few to be cut. For a cut so many objects are looked at.
+const FEW_BYTES: usize = 262_144;
+const MOST_TRIES: usize = 1024;
+
+// A list that may be cut: where it begins, and the first two keys of its first item.
+#[derive(Clone, Copy, Drop)]
+struct LongList<'a> {
+    place: Place,
+    begin: usize,
+    keys: (&'a [u8], &'a [u8]),
+}
+
+// Where a comma stands, and in which list.
+#[derive(Clone, Copy, Drop)]
+struct Cut {
+    comma: usize,
+    place: Place,
+}
+
+fn behind<'a>(text: &'a [u8], mark: &[u8]) -> Option<&'a [u8]> {
+    Some(text.trim_ascii_start().strip_prefix(mark)?.trim_ascii_start())
+}
+
+// What stands in quotes at the beginning of a text, and the text behind.
+fn quoted(text: &[u8]) -> Option<(&[u8], &[u8])> {
+    let inside = text.strip_prefix(b"\"")?;
+    let (word, rest) = inside.split_at_checked(memchr(b'"', inside)?)?;
+    Some((word, rest.strip_prefix(b"\"")?))
+}
+
+// The first key of an object, and mostly the second.
+fn first_keys(text: &[u8]) -> Option<(&[u8], &[u8])> {
+    let (first, rest) = quoted(behind(text, b"{")?)?;
+    let (_, rest) = rest.split_at_checked(memchr(b',', rest)?)?;
+    let (second, _) = quoted(behind(rest, b",")?)?;
+    Some((first, second))
+}
+
+// The list of a key that stands in the text from a place on.
+fn long_list<'a>(text: &'a [u8], from: usize, key: &[u8], place: Place) -> Option<LongList<'a>> {
+    let (_, rest) = text.split_at_checked(from)?;
+    let (_, rest) = rest.split_at_checked(memmem::find(rest, key)?)?;
+    let rest = behind(behind(rest.strip_prefix(key)?, b":")?, b"[")?;
+    Some(LongList {
+        place,
+        begin: text.len() - rest.len(),
+        keys: first_keys(rest)?,
+    })
+}
+
+// The first comma from a place on that stands between two items of the list.
+fn cut_of(text: &[u8], from: usize, list: &LongList) -> Option<Cut> {
+    let (_, mut rest) = text.split_at_checked(from)?;
+    for _ in 0..MOST_TRIES {
+        let (_, found) = rest.split_at_checked(memmem::find(rest, b"},")?)?;
+        rest = found.strip_prefix(b"},")?;
+        if first_keys(rest) == Some(list.keys) {
+            return Some(Cut {
+                comma: text.len() - rest.len() - 1,
+                place: list.place,
+            });
+        }
+    }
+    None
+}
+
+// A cut at about the place, in one of two lists, of which the first one stands before the second.
+fn cut_near(text: &[u8], at: usize, first: &LongList, second: &LongList) -> Option<Cut> {
+    if at < first.begin {
+        return None;
+    }
+    if at < second.begin {
+        return cut_of(text, at, first);
+    }
+    cut_of(text, at, second)
+}
+
+// The text before a comma, and the one behind it.
+fn cut_off(text: &str, comma: usize) -> Option<(&str, &str)> {
+    let (front, rest) = text.split_at_checked(comma)?;
+    if !front.ends_with('}') {
+        return None;
+    }
+    Some((front, rest.strip_prefix(',')?))
+}
+
+/// The text in stretches, of which each is lent a scratch.
+pub fn stretches_of<'a>(
+    alloc: Global,
+    version: u64,
+    text: &'a str,
+    scratches: &'a mut [Scratch],
+) -> Option<Vec<Stretch<'a>>> {
+    let bytes = text.as_bytes();
+    if bytes.len() < FEW_BYTES {
+        return None;
+    }
+    let groups = long_list(bytes, 0, b"\"groups\"", Place::Groups)?;
+    let script = long_list(bytes, groups.begin, b"\"script\"", Place::Script)?;
+    let mut stretches = Vec::with_capacity(alloc, MOST_STRETCHES).ok()?;
+    let mut rest = text;
+    let mut place = Place::Outside;
+    let mut number = 0;
+    for scratch in scratches.iter_mut() {
+        number += 1;
+        let at = bytes.len() / MOST_STRETCHES * number;
+        let done = bytes.len() - rest.len();
+        let mut front = rest;
+        let mut next = place;
+        if number < MOST_STRETCHES && at > done {
+            if let Some(cut) = cut_near(bytes, at, &groups, &script) {
+                let (before, behind) = cut_off(rest, cut.comma.checked_sub(done)?)?;
+                front = before;
+                rest = behind;
+                next = cut.place;
+            } else { continue; }
+        }
+        stretches.push(Stretch { alloc, version, text: front, place, scratch }).ok()?;
+        place = next;
+    }
+    Some(stretches)
+}
