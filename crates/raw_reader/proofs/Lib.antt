@@ -2,3 +2,4 @@ pub mod Reading
 pub mod Filling
 pub mod Lists
 pub mod Shapes
+pub mod Frames
