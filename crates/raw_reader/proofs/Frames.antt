@@ -6,14 +6,11 @@ use Rattle.json.specs.Json.{Json, Items, no_items, item, Members, no_members, me
 use Rattle.json.proofs.Grammar.{left, Takes, closed_array, read_key_is, items_end, items_more, members_end, members_more, skip_value-shorter}
 use Rattle.serde_json.specs.Data.{Data}
 use Rattle.serde_json.specs.Read.{of_json, converted}
-use Rattle.raw_reader.specs.Goods.{AllGood}
+use Rattle.token_parts.specs.Parts.{AllGood}
+use Rattle.token_parts.proofs.Cut.{AllGood-append}
 use Rattle.raw_reader.proofs.Reading.{converted_some}
 
 -- ---- tokens of which none is bad
-
-pub AllGood-append : (xs ys : List Token) → AllGood xs → AllGood ys → AllGood (xs ++ ys)
-AllGood-append [] ys good others = others
-AllGood-append (x ∷ xs) ys good others = (good.0, AllGood-append xs ys good.1 others)
 
 pub AllGood-parts : (xs ys : List Token) → AllGood (xs ++ ys) → AllGood xs × AllGood ys
 AllGood-parts [] ys good = (tt, good)

@@ -8,6 +8,7 @@ use Rattle.serde_json.specs.Data.{Data, array, object, string, number, Num, Item
 use Rattle.serde_json.specs.Read.{of_json, of_items, of_members, converted, number_of}
 use Rattle.raw_document.specs.Shape.{list_items}
 use Rattle.raw_reader.specs.Takes.{EachRead}
+use Rattle.raw_reader.specs.Walks.{array_items, items_before, Amid, object_members, Within}
 
 abbrev pick : {A : Type 0} → A → Option A → A
 pick d None = d
@@ -44,16 +45,8 @@ with_member k j d old e (Some p) = rw e
 
 -- ---- arrays
 
--- the items of an array that opens here
-abbrev pub array_items : ℕ → List Token → Option (Items × List Token)
-array_items depth ts = converted of_items (items (value depth) (length ts) ts)
-
 pub array_is : (depth : ℕ) (ts : List Token) → 0 < depth → converted of_json (value depth (Token.begin_array ∷ ts)) ≡ parse_map array (array_items (depth - 1) ts)
 array_is depth ts some = ap (converted of_json) (value-begin_array depth ts some) ∙ converted-array (items (value (depth - 1)) (length ts) ts)
-
-abbrev pub items_before : List Data → Items → Items
-items_before [] rest = rest
-items_before (d ∷ ds) rest = item d (items_before ds rest)
 
 pub listed : (ds : List Data) → list_items (items_before ds no_items) ≡ ds
 listed [] = refl
@@ -76,13 +69,6 @@ EachRead-push IsRead [] [] d x h is = (is, tt)
 EachRead-push IsRead [] (y ∷ xs) d x h is = absurd h
 EachRead-push IsRead (e ∷ ds) [] d x h is = absurd h
 EachRead-push IsRead (e ∷ ds) (y ∷ xs) d x h is = (h.0, EachRead-push IsRead ds xs d x h.1 is)
-
--- Items were read from the first token of an array on; the others are still to come.
-abbrev pub Amid : {T : Type 0} → ℕ → (Data → T → Type 0) → List Token → List T → List Token → Type 0
-Amid depth IsRead start xs now =
-    (n : ℕ) × (length now ≤ n) × (ds : List Data) × EachRead IsRead ds xs
-    × (array_items depth start ≡ parse_map (items_before ds) (converted of_items (items (value depth) n now)))
-    × (length now ≤ length start)
 
 pub Amid-start : {T : Type 0} (depth : ℕ) (IsRead : Data → T → Type 0) (ts : List Token) → Amid depth IsRead ts [] ts
 Amid-start depth IsRead ts = (length ts, omega arith, [], tt, none_before (array_items depth ts), omega arith)
@@ -109,18 +95,8 @@ Amid-end depth IsRead start xs now after amid over =
 
 -- ---- objects
 
-abbrev pub object_members : ℕ → List Token → Option (Members × List Token)
-object_members depth ts = converted (λ ms. of_members ms no_members) (members (value depth) (length ts) ts)
-
 pub object_is : (depth : ℕ) (ts : List Token) → 0 < depth → converted of_json (value depth (Token.begin_object ∷ ts)) ≡ parse_map object (object_members (depth - 1) ts)
 object_is depth ts some = ap (converted of_json) (value-begin_object depth ts some) ∙ converted-object (members (value (depth - 1)) (length ts) ts)
-
--- Members were read from the first token of an object on; the others are still to come.
-abbrev pub Within : ℕ → (Members → Type 0) → List Token → List Token → Type 0
-Within depth Holds start now =
-    (n : ℕ) × (length now ≤ n) × (found : Members) × Holds found
-    × (object_members depth start ≡ converted (λ ms. of_members ms found) (members (value depth) n now))
-    × (length now ≤ length start)
 
 pub Within-start : (depth : ℕ) (Holds : Members → Type 0) (ts : List Token) → Holds no_members → Within depth Holds ts ts
 Within-start depth Holds ts holds = (length ts, omega arith, no_members, holds, refl, omega arith)

@@ -1,3 +1,6 @@
 pub mod Takes
 pub mod Slots
-pub mod Goods
+pub mod Walks
+pub mod Pieces
+pub mod Joined
+pub mod Stretches

@@ -3,6 +3,9 @@
 //! A cut in a wrong place is noticed when the stretches are read, so nothing is promised of where
 //! the cuts are.
 
+ghost use Rattle.std.specs.Prelude.{IfSome, IsTrue};
+ghost use Rattle.raw_reader.specs.Stretches.{IsCut, IsInList, AreStretches};
+
 use crate::pieces::{Place, Stretch};
 use json::Scratch;
 use memchr::{memchr, memmem};
@@ -13,6 +16,7 @@ pub const MOST_STRETCHES: usize = 4;
 
 // So many bytes are too few to be cut. For a cut so many objects are looked at.
 const FEW_BYTES: usize = 262_144;
+
 const MOST_TRIES: usize = 1024;
 
 // A list that may be cut: where it begins, and the first two keys of its first item.
@@ -31,7 +35,11 @@ struct Cut {
 }
 
 fn behind<'a>(text: &'a [u8], mark: &[u8]) -> Option<&'a [u8]> {
-    Some(text.trim_ascii_start().strip_prefix(mark)?.trim_ascii_start())
+    Some(
+        text.trim_ascii_start()
+            .strip_prefix(mark)?
+            .trim_ascii_start(),
+    )
 }
 
 // What stands in quotes at the beginning of a text, and the text behind.
@@ -56,7 +64,7 @@ fn long_list<'a>(text: &'a [u8], from: usize, key: &[u8], place: Place) -> Optio
     let rest = behind(behind(rest.strip_prefix(key)?, b":")?, b"[")?;
     Some(LongList {
         place,
-        begin: text.len() - rest.len(),
+        begin: text.len().checked_sub(rest.len())?,
         keys: first_keys(rest)?,
     })
 }
@@ -69,7 +77,7 @@ fn cut_of(text: &[u8], from: usize, list: &LongList) -> Option<Cut> {
         rest = found.strip_prefix(b"},")?;
         if first_keys(rest) == Some(list.keys) {
             return Some(Cut {
-                comma: text.len() - rest.len() - 1,
+                comma: text.len().checked_sub(rest.len())?.checked_sub(1)?,
                 place: list.place,
             });
         }
@@ -88,8 +96,26 @@ fn cut_near(text: &[u8], at: usize, first: &LongList, second: &LongList) -> Opti
     cut_of(text, at, second)
 }
 
+// The places of the cuts, in their order.
+fn cuts_of(alloc: Global, text: &[u8]) -> Option<Vec<Cut>> {
+    if text.len() < FEW_BYTES {
+        return None;
+    }
+    let groups = long_list(text, 0, b"\"groups\"", Place::Groups)?;
+    let script = long_list(text, groups.begin, b"\"script\"", Place::Script)?;
+    let mut cuts = Vec::with_capacity(alloc, MOST_STRETCHES).ok()?;
+    for number in 1..MOST_STRETCHES {
+        if let Some(cut) = cut_near(text, text.len() / MOST_STRETCHES * number, &groups, &script) {
+            cuts.push(cut).ok()?;
+        }
+    }
+    Some(cuts)
+}
+
 // The text before a comma, and the one behind it.
-fn cut_off(text: &str, comma: usize) -> Option<(&str, &str)> {
+fn cut_off(text: &str, comma: usize) -> Option<(&str, &str)>
+    ensures { IfSome result (λ parts. IsCut text.now parts.0.now parts.1.now) }
+{
     let (front, rest) = text.split_at_checked(comma)?;
     if !front.ends_with('}') {
         return None;
@@ -97,39 +123,54 @@ fn cut_off(text: &str, comma: usize) -> Option<(&str, &str)> {
     Some((front, rest.strip_prefix(',')?))
 }
 
-/// The text in stretches, of which each is lent a scratch.
+fn is_in_list(place: Place) -> bool
+    ensures { IsTrue result → IsInList place }
+{
+    matches!(place, Place::Groups | Place::Script)
+}
+
+/// The text of a document of this version in stretches, of which each is lent a scratch.
 pub fn stretches_of<'a>(
     alloc: Global,
     version: u64,
     text: &'a str,
     scratches: &'a mut [Scratch],
-) -> Option<Vec<Stretch<'a>>> {
-    let bytes = text.as_bytes();
-    if bytes.len() < FEW_BYTES {
-        return None;
-    }
-    let groups = long_list(bytes, 0, b"\"groups\"", Place::Groups)?;
-    let script = long_list(bytes, groups.begin, b"\"script\"", Place::Script)?;
+) -> Option<Vec<Stretch<'a>>>
+    ensures { IfSome result (λ stretches. AreStretches version text.now stretches.items) }
+{
+    let mut scratches = scratches.iter_mut();
     let mut stretches = Vec::with_capacity(alloc, MOST_STRETCHES).ok()?;
     let mut rest = text;
     let mut place = Place::Outside;
-    let mut number = 0;
-    for scratch in scratches.iter_mut() {
-        number += 1;
-        let at = bytes.len() / MOST_STRETCHES * number;
-        let done = bytes.len() - rest.len();
-        let mut front = rest;
-        let mut next = place;
-        if number < MOST_STRETCHES && at > done {
-            if let Some(cut) = cut_near(bytes, at, &groups, &script) {
-                let (before, behind) = cut_off(rest, cut.comma.checked_sub(done)?)?;
-                front = before;
-                rest = behind;
-                next = cut.place;
-            } else { continue; }
+    let mut done = 0usize;
+    'cuts: for cut in cuts_of(alloc, text.as_bytes())? {
+        let (front, behind) = cut_off(rest, cut.comma.checked_sub(done)?)?;
+        if !is_in_list(cut.place) {
+            return None;
         }
-        stretches.push(Stretch { alloc, version, text: front, place, scratch }).ok()?;
-        place = next;
+        let scratch = scratches.next()?;
+        stretches
+            .push(Stretch {
+                alloc,
+                version,
+                text: front,
+                place,
+                scratch,
+            })
+            .ok()?;
+        rest = behind;
+        place = cut.place;
+        done = cut.comma.checked_add(1)?;
     }
+    let scratch = scratches.next()?;
+    stretches
+        .push(Stretch {
+            alloc,
+            version,
+            text: rest,
+            place,
+            scratch,
+        })
+        .ok()?;
     Some(stretches)
 }

@@ -1,11 +1,12 @@
 //! The whole document.
 
-ghost use Rattle.std.specs.Prelude.{◌≡◌, Ok, Some, IfSome};
+ghost use Rattle.std.specs.Prelude.{◌≡◌, ℕ, Ok, Some, IfSome};
 ghost use Rattle.raw_document.specs.Raw.{raw_view};
-ghost use Rattle.serde_json.specs.Data.{Data};
+ghost use Rattle.serde_json.specs.Data.{Data, Members, no_members, object};
 ghost use Rattle.serde_json.specs.Read.{read};
 ghost use Rattle.raw_document.specs.Json.{json};
 ghost use Rattle.raw_document.specs.Forms.{document_at};
+ghost use Rattle.raw_reader.specs.Slots.{DocumentHolds};
 
 use crate::guess::guess_version;
 use crate::part::Part;
@@ -83,7 +84,9 @@ impl<'a> Part<'a> for RawDocument<'a> {
 
 impl<'a> DocumentSlots<'a> {
     /// Slots that are empty.
-    pub fn new() -> DocumentSlots<'a> {
+    pub fn new() -> DocumentSlots<'a>
+        ensures { (version : ℕ) → DocumentHolds version result no_members }
+    {
         DocumentSlots {
             version: None,
             top: None,
@@ -101,7 +104,10 @@ pub fn document_of<'a>(
     alloc: Global,
     version: u64,
     slots: DocumentSlots<'a>,
-) -> Option<RawDocument<'a>> {
+) -> Option<RawDocument<'a>>
+    ensures { IfSome result (λ raw. (found : Members) → DocumentHolds version slots.entry found
+        → document_at (object found) ≡ Ok (raw_view raw)) }
+{
     if slots.version? != version {
         return None;
     }

@@ -33,7 +33,10 @@ pub fn guess_at_ends(text: &str) -> Option<u64> {
     let members = bytes.trim_ascii_start().strip_prefix(b"{")?;
     match members.trim_ascii_start().strip_prefix(QUOTED) {
         Some(found) => {
-            let behind_colon = found.trim_ascii_start().strip_prefix(b":")?.trim_ascii_start();
+            let behind_colon = found
+                .trim_ascii_start()
+                .strip_prefix(b":")?
+                .trim_ascii_start();
             leading_number(behind_colon)
         }
         None => guess_by_bytes(bytes),

@@ -1,49 +1,116 @@
 //! The whole document, in stretches that are read on threads.
 
+ghost use Rattle.std.specs.Prelude.{◌≡◌, [], ◌++◌, ℕ, List, map, Ok, Some, IfSome};
+ghost use Rattle.json.specs.Token.{Token};
+ghost use Rattle.serde_json.specs.Data.{Data};
+ghost use Rattle.serde_json.specs.Read.{read};
+ghost use Rattle.raw_document.specs.Json.{json};
+ghost use Rattle.raw_document.specs.Raw.{raw_view};
+ghost use Rattle.raw_document.specs.Forms.{document_at};
+ghost use Rattle.raw_reader.specs.Joined.{IsJoined};
+ghost use Rattle.raw_reader.specs.Pieces.{PiecesTake};
+ghost use Rattle.raw_reader.specs.Stretches.{AreStretches, AreRead, AllTake};
+ghost use Rattle.raw_reader.specs.declared.pieces.Stretch.{Stretch};
+
 use crate::cuts::{MOST_STRETCHES, stretches_of};
 use crate::guess::guess_at_ends;
 use crate::joined::Joined;
 use crate::pieces::{Piece, read_stretch};
 use json::Scratch;
 use raw_document::RawDocument;
-use std::alloc::Global;
+use std::alloc::{AllocError, Global};
 use std::thread::{Threads, map_vec};
 
-/// As many scratches as a text has stretches.
-pub fn scratches_of(alloc: Global) -> Option<Vec<Scratch>> {
-    let mut scratches = Vec::with_capacity(alloc, MOST_STRETCHES).ok()?;
+/// A scratch for each stretch that a text may be cut into.
+pub fn scratches_of(alloc: Global) -> Result<Vec<Scratch>, AllocError> {
+    let mut scratches = Vec::with_capacity(alloc, MOST_STRETCHES)?;
     for _ in 0..MOST_STRETCHES {
-        scratches.push(Scratch::new(alloc)).ok()?;
+        scratches.push(Scratch::new(alloc))?;
     }
-    Some(scratches)
+    Ok(scratches)
 }
 
-fn joined<'a>(
+// The pieces of all stretches, where all were read.
+fn all_read<'a>(alloc: Global, found: Vec<Option<Vec<Piece<'a>>>>) -> Option<Vec<Vec<Piece<'a>>>>
+    ensures { IfSome result (λ all. found.entry.items ≡ map Some all.items) }
+{
+    let mut all = Vec::with_capacity(alloc, found.len()).ok()?;
+    for pieces in found {
+        all.push(pieces?).ok()?;
+    }
+    Some(all)
+}
+
+// What was put together, with these pieces behind it.
+fn with_pieces<'a>(alloc: Global, joined: Joined<'a>, pieces: Vec<Piece<'a>>) -> Option<Joined<'a>>
+    ensures { IfSome result (λ after. (version : ℕ) (start old more : List Token)
+        → PiecesTake version pieces.entry.items old [] → IsJoined version joined.entry start (old ++ more)
+        → IsJoined version after start more) }
+{
+    let mut found = joined;
+    for piece in pieces {
+        found = found.with(alloc, piece)?;
+    }
+    Some(found)
+}
+
+fn all_joined<'a>(alloc: Global, all: Vec<Vec<Piece<'a>>>) -> Option<Joined<'a>>
+    ensures { IfSome result (λ after. (version : ℕ) (start : List Token)
+        → AllTake version all.entry.items start → IsJoined version after start []) }
+{
+    let mut found = Joined::new();
+    for pieces in all {
+        found = with_pieces(alloc, found, pieces)?;
+    }
+    Some(found)
+}
+
+// The document of the text whose stretches were read.
+fn document_of_stretches<'a>(
     alloc: Global,
     version: u64,
-    stretches: Vec<Option<Vec<Piece<'a>>>>,
-) -> Option<RawDocument<'a>> {
-    let mut found = Joined::new();
-    for stretch in stretches {
-        for piece in stretch? {
-            found = found.with(alloc, piece)?;
-        }
-    }
-    found.document(alloc, version)
+    found: Vec<Option<Vec<Piece<'a>>>>,
+) -> Option<RawDocument<'a>>
+    ensures { IfSome result (λ raw. (text : List ℕ) (stretches : List Stretch)
+        → AreStretches version text stretches → AreRead stretches found.entry.items
+        → (d : Data) × (read text ≡ Some d) × (document_at d ≡ Ok (raw_view raw))) }
+{
+    let all = all_read(alloc, found)?;
+    let joined = all_joined(alloc, all)?;
+    joined.document(alloc, version)
 }
 
-/// The document of a JSON text in UTF-8, read in stretches on threads.
+fn read_text_on_threads<'a, R: Threads + Sync>(
+    rt: &R,
+    alloc: Global,
+    text: &'a str,
+    scratches: &'a mut [Scratch],
+) -> Option<RawDocument<'a>>
+    ensures { IfSome result (λ raw. (d : Data) × (read text.now ≡ Some d)
+        × (document_at d ≡ Ok (raw_view raw))) }
+{
+    let version = guess_at_ends(text)?;
+    let stretches = stretches_of(alloc, version, text, scratches)?;
+    let found = map_vec(rt, stretches, &read_stretch).ok()?;
+    document_of_stretches(alloc, version, found)
+}
+
+/// The document of a JSON text in UTF-8, read in stretches on threads, where its text is long, can
+/// be cut into stretches, and has mostly no fault of the shape.
+///
+/// There are as many stretches as scratches at most.
 pub fn read_straight_on_threads<'a, R: Threads + Sync>(
     rt: &R,
     alloc: Global,
     bytes: &'a [u8],
     scratches: &'a mut [Scratch],
-) -> Option<RawDocument<'a>> {
+) -> Option<RawDocument<'a>>
+    // What is read is the shape of the bytes' value. That anything is read is not promised.
+    ensures { IfSome result (λ raw. (d : Data) × (json bytes.now ≡ Some d)
+        × (document_at d ≡ Ok (raw_view raw))) }
+{
     let Ok(text) = simdutf8::compat::from_utf8(bytes) else {
         return None;
     };
-    let version = guess_at_ends(text)?;
-    let stretches = stretches_of(alloc, version, text, scratches)?;
-    let found = map_vec(rt, stretches, &read_stretch).ok()?;
-    joined(alloc, version, found)
+    read_text_on_threads(rt, alloc, text, scratches)
 }

@@ -40,7 +40,7 @@ pub trait Item<'a>: Part<'a> {
     ) -> Option<Self>
         requires { 0 < depth }
         ensures value { IfSome result (λ x. Takes depth (begin_object ∷ reader.old) reader.new
-            (λ d. is_read version d x)) }
+            (λ d. Self.is_read version d x)) }
         ensures shorter { OnSome result (length reader.new < length reader.old) };
 }
 

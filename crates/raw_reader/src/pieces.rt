@@ -1,6 +1,14 @@
 //! A stretch of a document's text, which begins and ends between two items of a list, or with the
 //! document.
 
+ghost use Rattle.std.specs.Prelude.{◌≡◌, ◌<◌, ◌≤◌, ◌∷◌, ◌++◌, [], List, length, cond, Some, None, IsSome, IfSome, OnSome};
+ghost use Rattle.json.specs.Token.{Token as SpecToken, begin_object, key as key_token};
+ghost use Rattle.raw_reader.specs.declared.pieces.Place.TheVariants.{Members};
+ghost use Rattle.json.specs.Lex.{tokens};
+ghost use Rattle.raw_reader.specs.Takes.{Takes};
+ghost use Rattle.raw_reader.specs.Pieces.{MemberIs, ItemsTake, Closes, PieceTakes, BeginsAt, member_depth};
+ghost use Rattle.raw_reader.specs.Stretches.{IsRead};
+
 use crate::part::{Item, Part, add};
 use crate::values::{MAX_DEPTH, is, open_array, open_object};
 use json::{Reader, Scratch, Token};
@@ -44,13 +52,20 @@ pub enum Piece<'a> {
     Member(Member<'a>),
     OpenGroups,
     OpenScript,
-    Groups { items: Vec<RawGroup<'a>>, closed: bool },
-    Script { items: Vec<RawReport<'a>>, closed: bool },
+    Groups {
+        items: Vec<RawGroup<'a>>,
+        closed: bool,
+    },
+    Script {
+        items: Vec<RawReport<'a>>,
+        closed: bool,
+    },
     End,
 }
 
 // The depth at which members of a document, and items of its lists, may nest.
 const MEMBER_DEPTH: usize = MAX_DEPTH - 1;
+
 const ITEM_DEPTH: usize = MAX_DEPTH - 2;
 
 fn read_member<'a>(
@@ -58,7 +73,11 @@ fn read_member<'a>(
     version: u64,
     key: &str,
     reader: &mut Reader<'a>,
-) -> Option<Member<'a>> {
+) -> Option<Member<'a>>
+    ensures value { IfSome result (λ member. Takes member_depth reader.old reader.new
+        (λ d. MemberIs version member key.now d)) }
+    ensures shorter { OnSome result (length reader.new < length reader.old) }
+{
     let depth = MEMBER_DEPTH;
     if is(key, DocKey::Version) {
         return Some(Member::Version(Part::read(alloc, version, reader, depth)?));
@@ -78,13 +97,41 @@ fn read_member<'a>(
     None
 }
 
-// Reads items up to the end of the list, where the answer is `true`, or of the text.
+// Reads items, one at least, up to the end of the list, where the second answer is `true`, or of
+// the text.
 fn read_items<'a, T: Item<'a>>(
     alloc: Global,
     version: u64,
     reader: &mut Reader<'a>,
+) -> Option<(Vec<T>, bool)>
+    ensures value { IfSome result (λ found. (behind : List SpecToken)
+        × ItemsTake (T.is_read version) found.0.items reader.old behind
+        × Closes found.1 behind reader.new) }
+    ensures begins { OnSome result ((ts : List SpecToken) × (reader.old ≡ begin_object ∷ ts)) }
+    ensures shorter { OnSome result (length reader.new < length reader.old) }
+{
+    let Token::BeginObject = reader.next()? else {
+        return None;
+    };
+    let mut found = Vec::new(alloc);
+    let first = T::read_behind_brace(alloc, version, reader, ITEM_DEPTH)?;
+    add(&mut found, first)?;
+    let closed = read_more_items(alloc, version, reader, &mut found)?;
+    Some((found, closed))
+}
+
+// Reads more items.
+fn read_more_items<'a, T: Item<'a>>(
+    alloc: Global,
+    version: u64,
+    reader: &mut Reader<'a>,
     found: &mut Vec<T>,
-) -> Option<bool> {
+) -> Option<bool>
+    ensures value { IfSome result (λ closed. (behind : List SpecToken) × (xs : List T)
+        × (found.new.items ≡ found.old.items ++ xs)
+        × ItemsTake (T.is_read version) xs reader.old behind × Closes closed behind reader.new) }
+    ensures shorter { OnSome result (length reader.new ≤ length reader.old) }
+{
     'items: while let Some(token) = reader.next() {
         match token {
             Token::BeginObject => {
@@ -98,7 +145,10 @@ fn read_items<'a, T: Item<'a>>(
     Some(false)
 }
 
-fn behind_list(closed: bool) -> Option<Place> {
+// Where one stands behind items.
+fn behind_list(closed: bool) -> Option<Place>
+    ensures { result ≡ cond closed (Some Members) None }
+{
     if closed { Some(Place::Members) } else { None }
 }
 
@@ -107,7 +157,12 @@ fn read_at_key<'a>(
     version: u64,
     key: &str,
     reader: &mut Reader<'a>,
-) -> Option<(Piece<'a>, Option<Place>)> {
+) -> Option<(Piece<'a>, Option<Place>)>
+    ensures value { IfSome result (λ found. PieceTakes version found.0
+        (key_token key.now ∷ reader.old) reader.new) }
+    ensures next { IfSome result (λ found. IsSome found.1) }
+    ensures shorter { OnSome result (length reader.new < length reader.old) }
+{
     if is(key, DocKey::Groups) {
         open_array(reader, MEMBER_DEPTH)?;
         return Some((Piece::OpenGroups, Some(Place::Groups)));
@@ -126,7 +181,12 @@ fn read_piece<'a>(
     version: u64,
     place: Place,
     reader: &mut Reader<'a>,
-) -> Option<(Piece<'a>, Option<Place>)> {
+) -> Option<(Piece<'a>, Option<Place>)>
+    ensures value { IfSome result (λ found. PieceTakes version found.0 reader.old reader.new) }
+    ensures begins { OnSome result (BeginsAt place reader.old) }
+    ensures last { IfSome result (λ found. found.1 ≡ None → reader.new ≡ []) }
+    ensures shorter { OnSome result (length reader.new < length reader.old) }
+{
     match place {
         Place::Outside => {
             open_object(reader, MAX_DEPTH)?;
@@ -138,20 +198,20 @@ fn read_piece<'a>(
             None => None,
         },
         Place::Groups => {
-            let mut items = Vec::new(alloc);
-            let closed = read_items(alloc, version, reader, &mut items)?;
+            let (items, closed) = read_items(alloc, version, reader)?;
             Some((Piece::Groups { items, closed }, behind_list(closed)))
         }
         Place::Script => {
-            let mut items = Vec::new(alloc);
-            let closed = read_items(alloc, version, reader, &mut items)?;
+            let (items, closed) = read_items(alloc, version, reader)?;
             Some((Piece::Script { items, closed }, behind_list(closed)))
         }
     }
 }
 
 /// All pieces of a stretch.
-pub fn read_stretch<'a>(stretch: Stretch<'a>) -> Option<Vec<Piece<'a>>> {
+pub fn read_stretch<'a>(stretch: Stretch<'a>) -> Option<Vec<Piece<'a>>>
+    ensures { IsRead stretch.entry result }
+{
     let mut reader = Reader::new(stretch.text, stretch.scratch).ok()?;
     let mut pieces = Vec::new(stretch.alloc);
     let mut place = Some(stretch.place);

@@ -1,5 +1,5 @@
 use Rattle.std.proofs.Common.{◌-◌, length}
-use Rattle.raw_reader.proofs.Reading.{Within}
+use Rattle.raw_reader.specs.Walks.{Within}
 use Rattle.raw_reader.proofs.slots.fill_slots.Given as goal
 
 abbrev pub invariant-members : goal.invariant-members

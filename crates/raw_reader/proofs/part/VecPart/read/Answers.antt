@@ -3,7 +3,8 @@ use Rattle.json.specs.Json.{parse_map, after_end_array, value}
 use Rattle.serde_json.specs.Data.{array, no_items}
 use Rattle.serde_json.specs.Read.{of_json, converted}
 use Rattle.raw_reader.specs.Takes.{EachRead}
-use Rattle.raw_reader.proofs.Reading.{Amid, Amid-more, Amid-end, array_is, items_before, listed}
+use Rattle.raw_reader.specs.Walks.{Amid, items_before}
+use Rattle.raw_reader.proofs.Reading.{Amid-more, Amid-end, array_is, listed}
 use Rattle.raw_reader.proofs.part.VecPart.read.Goals as goal
 
 pub items-preserved : goal.items-preserved

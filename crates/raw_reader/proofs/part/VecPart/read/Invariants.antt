@@ -1,5 +1,5 @@
 use Rattle.std.proofs.Common.{◌-◌, length}
-use Rattle.raw_reader.proofs.Reading.{Amid}
+use Rattle.raw_reader.specs.Walks.{Amid}
 use Rattle.raw_reader.proofs.part.VecPart.read.Given as goal
 
 abbrev pub invariant-items : goal.invariant-items
