@@ -355,7 +355,21 @@ pub fn gathered_by_tokens(alloc: Global, bytes: &[u8]) -> Option<Result<Gathered
     Some(gather(alloc, &raw))
 }
 
-/// The same on two threads: one looks at ranges and names, the other builds clusters and topology.
+// The same of a long text, which is read in stretches on threads.
+fn gathered_in_stretches<R: Threads + Sync>(
+    rt: &R,
+    alloc: Global,
+    bytes: &[u8],
+) -> Option<Result<Gathered, DocError>>
+    ensures { IfSome result (λ found. Gathers found (document bytes.now)) }
+{
+    let mut scratches = scratches_of(alloc).ok()?;
+    let raw = read_straight_on_threads(rt, alloc, bytes, scratches.as_mut_slice())?;
+    Some(gather_on_threads(rt, alloc, &raw))
+}
+
+/// The same on threads: a long text is read in stretches, and then one thread looks at ranges and
+/// names, and another builds clusters and topology.
 pub fn gathered_on_threads<R: Threads + Sync>(
     rt: &R,
     alloc: Global,
@@ -363,21 +377,10 @@ pub fn gathered_on_threads<R: Threads + Sync>(
 ) -> Option<Result<Gathered, DocError>>
     ensures { IfSome result (λ found. Gathers found (document bytes.now)) }
 {
-    let found = gathered_in_stretches(rt, alloc, bytes);
-    if found.is_some() {
-        return found;
+    if let Some(found) = gathered_in_stretches(rt, alloc, bytes) {
+        return Some(found);
     }
     let mut scratch = Scratch::new(alloc);
     let raw = read_straight(alloc, bytes, &mut scratch)?;
-    Some(gather_on_threads(rt, alloc, &raw))
-}
-
-fn gathered_in_stretches<R: Threads + Sync>(
-    rt: &R,
-    alloc: Global,
-    bytes: &[u8],
-) -> Option<Result<Gathered, DocError>> {
-    let mut scratches = scratches_of(alloc)?;
-    let raw = read_straight_on_threads(rt, alloc, bytes, scratches.as_mut_slice())?;
     Some(gather_on_threads(rt, alloc, &raw))
 }
