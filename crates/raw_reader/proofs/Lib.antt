@@ -3,3 +3,5 @@ pub mod Filling
 pub mod Lists
 pub mod Shapes
 pub mod Frames
+pub mod Putting
+pub mod Joining
