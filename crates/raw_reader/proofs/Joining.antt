@@ -1,8 +1,8 @@
 -- What is put together of a document, a piece at a time.
-use Rattle.std.proofs.Common.{◌≡◌, ℕ, ◌<◌, Bool, true, false, List, [], ◌∷◌, ◌++◌, length, Option, Some, None, Ok, refl, sym, ap, ◌∙◌, subst, arith}
+use Rattle.std.proofs.Common.{◌≡◌, ℕ, ◌<◌, true, false, List, [], ◌∷◌, ◌++◌, length, Option, Some, None, Ok, refl, sym, ap, ◌∙◌, subst, arith}
 use Rattle.std.specs.Prelude.{IfSome}
 use Rattle.std.specs.Global.{Vec}
-use Rattle.json.specs.Token.{Token, begin_object, end_object, begin_array, end_array, key}
+use Rattle.json.specs.Token.{Token, begin_array, key}
 use Rattle.json.specs.Json.{parse_map, after_end_array, read_key, value}
 use Rattle.json.proofs.Grammar.{left, skip_value-shorter}
 use Rattle.serde_json.specs.Data.{Data, array, no_items, Members, object, put}
@@ -113,7 +113,7 @@ Groups-closed version slots found items all start old new more is piece stands =
       stands.0,
       stands.2,
       member_joined (DocumentHolds version slots) (DocumentHolds version (record slots { groups = Some all })) stands.0 (key (word keys.Groups) ∷ begin_array ∷ stands.1) (begin_array ∷ stands.1) (new ++ more) (word keys.Groups) list.0 stands.3 refl list.1
-          (λ members. put_groups version slots members (word keys.Groups) list.0 all refl list.2),
+          (λ members. put_groups version slots members (word keys.Groups) list.0 (Some all) all refl refl list.2),
     )
 
 pub Script-open : (version : ℕ) (slots : DocumentSlots) (found items all : Vec RawReport) (start old new more : List Token) → all.items ≡ found.items ++ items.items → PieceTakes version (pieces.Script items false) old new
@@ -128,7 +128,7 @@ Script-closed version slots found items all start old new more is piece stands =
       stands.0,
       stands.2,
       member_joined (DocumentHolds version slots) (DocumentHolds version (record slots { script = Some all })) stands.0 (key (word keys.Script) ∷ begin_array ∷ stands.1) (begin_array ∷ stands.1) (new ++ more) (word keys.Script) list.0 stands.3 refl list.1
-          (λ members. put_script version slots members (word keys.Script) list.0 all refl list.2),
+          (λ members. put_script version slots members (word keys.Script) list.0 (Some all) all refl refl list.2),
     )
 
 -- ---- a step from what is known of the piece, of the list before and of what is after
