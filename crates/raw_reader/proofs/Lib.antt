@@ -4,3 +4,5 @@ pub mod Lists
 pub mod Shapes
 pub mod Frames
 pub mod Cutting
+pub mod Putting
+pub mod Joining

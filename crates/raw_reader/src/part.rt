@@ -116,7 +116,7 @@ impl<'a, T: Part<'a>> Part<'a> for Vec<T> {
     }
 }
 
-// Adds an item to a list, whose first item takes room for as many as lists of such mostly hold.
+/// Adds an item to a list, whose first item takes room for as many as lists of such mostly hold.
 pub fn add<'a, T: Part<'a>>(found: &mut Vec<T>, item: T) -> Option<()>
     ensures { OnSome result (found.new.items ≡ found.old.items ++ item ∷ []) }
 {

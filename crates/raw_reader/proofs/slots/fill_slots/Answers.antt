@@ -1,29 +1,8 @@
-use Rattle.std.proofs.Common.{◌≡◌, ◌-◌, Some, None, refl, ap, ◌∙◌, arith}
-use Rattle.json.specs.Json.{parse_map, read_key, value}
-use Rattle.json.proofs.Grammar.{read_key-shorter}
-use Rattle.serde_json.specs.Data.{object}
-use Rattle.serde_json.specs.Read.{of_json, converted}
-use Rattle.raw_reader.proofs.Reading.{Within-more, Within-end, object_is}
+use Rattle.std.proofs.Common.{sym, subst}
+use Rattle.std.specs.Prelude.{OnSome}
+use Rattle.raw_reader.specs.Takes.{TakesObject}
 use Rattle.raw_reader.proofs.slots.fill_slots.Goals as goal
-
-pub members-preserved : goal.members-preserved
-members-preserved g c =
-    let l = c.members in
-    let k = c.in-Some.key.now in
-    let inside = c.next_key.new.self in
-    let named : read_key l.reader ≡ Some (Some k, inside) = grind arith in
-    let taken = c.in_ok-take.ensures.value in
-    Within-more (c.args.depth - 1) (g.S.Slots.holds c.args.version l.slots) (g.S.Slots.holds c.args.version c.take.new.self) c.open_object.new.reader l.reader inside c.take.new.reader k taken.0
-    l.invariant named taken.1 taken.2 (read_key-shorter l.reader (Some k) inside named) c.in_ok-take.ensures.shorter
 
 pub returns-clause-value : goal.returns-clause-value
 returns-clause-value g c =
-    let l = c.members in
-    let after = c.next_key.new.self in
-    let over : read_key l.reader ≡ Some (None, after) = grind arith in
-    let whole = Within-end (c.args.depth - 1) (g.S.Slots.holds c.args.version l.slots) c.open_object.new.reader l.reader after l.invariant over in
-    let bracket = c.in_ok-open_object.ensures in (
-      object whole.0,
-      ap (λ ts. converted of_json (value c.args.depth ts)) bracket.0 ∙ object_is c.args.depth c.open_object.new.reader bracket.1 ∙ ap (parse_map object) whole.2,
-      (whole.0, refl, whole.1),
-    )
+    subst (λ ts. OnSome c.fill_members.result (TakesObject c.args.depth ts c.fill_members.new.reader (g.S.Slots.holds c.args.version c.fill_members.new.slots))) (sym c.in_ok-open_object.ensures.0) c.fill_members.ensures.value

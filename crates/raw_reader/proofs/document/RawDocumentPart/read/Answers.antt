@@ -1,23 +1,23 @@
-use Rattle.std.proofs.Common.{◌≡◌, Some, refl, ap, ◌∙◌, arith}
-use Rattle.raw_document.specs.Reading.{each_view}
-use Rattle.raw_document.specs.Raw.{closing_view}
-use Rattle.raw_document.specs.Shape.{optional, has_only}
+use Rattle.std.proofs.Common.{◌≡◌, ℕ, List, Option, Some, None, Ok, refl, ap, ◌∙◌}
+use Rattle.std.specs.Prelude.{IfSome}
+use Rattle.json.specs.Token.{Token}
+use Rattle.serde_json.specs.Data.{Members, object}
+use Rattle.raw_document.specs.Raw.{raw_view}
 use Rattle.raw_document.specs.Forms.{document_at}
-use Rattle.raw_reader.proofs.Shapes.{document_is, none_or}
+use Rattle.raw_document.specs.declared.raw.RawDocument.{RawDocument}
+use Rattle.raw_reader.specs.Slots.{DocumentHolds}
+use Rattle.raw_reader.specs.Takes.{Takes, TakesObject}
 use Rattle.raw_reader.proofs.document.RawDocumentPart.read.Goals as goal
 
-pub fill_slots-requires : goal.fill_slots-requires
-unfolding optional has_only
-fill_slots-requires c κs = ((refl, tt), (refl, refl, refl, refl, refl, refl, refl, refl))
+document_taken : (depth : ℕ) (old new : List Token) (Holds : Members → Type 0) (r : Option RawDocument) → TakesObject depth old new Holds
+    → IfSome r (λ raw. (found : Members) → Holds found → document_at (object found) ≡ Ok (raw_view raw))
+    → IfSome r (λ raw. Takes depth old new (λ d. document_at d ≡ Ok (raw_view raw)))
+document_taken depth old new Holds None taken h = tt
+document_taken depth old new Holds (Some raw) taken h = (taken.0, taken.1, ap document_at taken.2.1 ∙ h taken.2.0 taken.2.2)
 
-pub returns-in-Some-Some-Some-Some-Some-clause-value : goal.returns-in-Some-Some-Some-Some-Some-clause-value
-returns-in-Some-Some-Some-Some-Some-clause-value c =
-    let taken = c.in_ok-fill_slots.ensures.value in
-    let s = c.fill_slots.new.slots in
-    let all = c.in-Some-Some-Some-Some-Some in
-    let version : s.version ≡ Some c.args.version = c.in_ok-slots.was ∙ ap Some (omega arith) in (
-      taken.0,
-      taken.1,
-      ap document_at taken.2.1 ∙ document_is c.args.version taken.2.0 s all.top all.links all.groups all.reporters all.script version all.is-0 all.is-1 all.is-2 all.is-3 all.is-4 taken.2.2 c.unwrap_or-closings.result
-          (ap (each_view closing_view) c.unwrap_or-closings.ensures ∙ none_or s.closings c.new.result c.new.ensures.items),
-    )
+pub fill_slots-requires : goal.fill_slots-requires
+fill_slots-requires c κs = ((refl, tt), c.new-slots.ensures c.args.version)
+
+pub returns-clause-value : goal.returns-clause-value
+returns-clause-value c =
+    document_taken c.args.depth c.args.reader.now c.fill_slots.new.reader (DocumentHolds c.args.version c.fill_slots.new.slots) c.document_of.result c.in_ok-fill_slots.ensures.value c.document_of.ensures

@@ -1,16 +1,10 @@
-use Rattle.std.proofs.Common.{refl, ap, ◌∙◌}
-use Rattle.raw_document.specs.Shape.{optional, has_only}
+use Rattle.std.proofs.Common.{◌≡◌, Ok, sym, subst}
+use Rattle.std.specs.Prelude.{IfSome}
+use Rattle.raw_document.specs.Raw.{group_view}
 use Rattle.raw_document.specs.Forms.{group_at}
-use Rattle.raw_reader.proofs.Shapes.{group_is}
+use Rattle.raw_reader.specs.Takes.{Takes}
 use Rattle.raw_reader.proofs.groups.RawGroupPart.read.Goals as goal
 
-pub fill_slots-requires : goal.fill_slots-requires
-unfolding optional has_only
-fill_slots-requires c κs = ((refl, tt), (refl, refl, refl, refl, refl, refl, refl))
-
-pub returns-in-Some-Some-Some-Some-Some-clause-value : goal.returns-in-Some-Some-Some-Some-Some-clause-value
-returns-in-Some-Some-Some-Some-Some-clause-value c =
-    let taken = c.in_ok-fill_slots.ensures.value in
-    let s = c.fill_slots.new.slots in
-    let all = c.in-Some-Some-Some-Some-Some in
-    (taken.0, taken.1, ap (group_at c.args.version) taken.2.1 ∙ group_is c.args.version taken.2.0 s all.name all.from all.to all.path_groups all.users all.is-0 all.is-1 all.is-2 all.is-3 all.is-4 taken.2.2)
+pub returns-clause-value : goal.returns-clause-value
+returns-clause-value c =
+    subst (λ ts. IfSome c.read_behind_brace.result (λ x. Takes c.args.depth ts c.read_behind_brace.new.reader (λ d. group_at c.args.version d ≡ Ok (group_view x)))) (sym c.in_ok-open_object.ensures.0) c.read_behind_brace.ensures.value

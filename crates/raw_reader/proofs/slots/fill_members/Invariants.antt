@@ -1,6 +1,6 @@
 use Rattle.std.proofs.Common.{◌-◌, length}
 use Rattle.raw_reader.specs.Walks.{Within}
-use Rattle.raw_reader.proofs.slots.fill_slots.Given as goal
+use Rattle.raw_reader.proofs.slots.fill_members.Given as goal
 
 abbrev pub invariant-members : goal.invariant-members
 invariant-members g l = Within (l.depth - 1) (g.S.Slots.holds l.version l.slots) l.initial.reader l.reader
