@@ -1,7 +1,9 @@
 -- What the code's numbers show.
+use Rattle.std.specs.Prelude.{ℕ, List}
 use Rattle.raw_document.specs.Reading.{each_view}
 use Rattle.doc_passes.specs.declared.numbers.DocumentNumbers.{DocumentNumbers}
-use Rattle.path_groups.specs.Given.{group_of}
+use Rattle.doc_passes.specs.declared.numbers.GroupNumbers.{GroupNumbers}
+use Rattle.path_groups.specs.Given.{Group, group_of}
 use Rattle.doc_passes.specs.Numbers.{Numbers}
 
 abbrev pub numbers_view : DocumentNumbers → Numbers
@@ -12,3 +14,6 @@ numbers_view numbers = record {
   script = numbers.script.items;
   closings = numbers.closings.items;
 }
+
+abbrev pub group_numbers_view : GroupNumbers → List Group × List ℕ
+group_numbers_view found = (each_view group_of found.specs, found.owners.items)

@@ -19,6 +19,6 @@ mod walk;
 
 pub use limit::{Overrun, What, find_overrun};
 pub use name_table::NameTable;
-pub use numbers::{DocumentNumbers, document_numbers};
+pub use numbers::{DocumentNumbers, document_numbers, document_numbers_on_threads};
 pub use range::check_ranges;
 pub use repeats::fill_tables;

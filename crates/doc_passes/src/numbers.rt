@@ -1,6 +1,6 @@
 //! The document with numbers in place of the names that refer to others.
 
-ghost use Rattle.std.specs.Prelude.{◌≡◌, map};
+ghost use Rattle.std.specs.Prelude.{◌≡◌, [], map};
 ghost use Rattle.raw_document.specs.Reading.{Gives, each_view, under, each};
 ghost use Rattle.raw_document.specs.Raw as raw;
 ghost use Rattle.bwe_specs.specs.Paths as paths;
@@ -9,9 +9,9 @@ ghost use Rattle.raw_document.specs.Raw.{name_view, link_view, path_view, path_g
 ghost use Rattle.raw_document.specs.declared.key.DocKey.TheVariants as keys;
 ghost use Rattle.raw_document.specs.declared.doc_path.PathStep.TheVariants.{Key};
 ghost use Rattle.path_groups.specs.Given.{path_of, path_group_of, group_of};
-ghost use Rattle.doc_passes.specs.Names.{number_in};
+ghost use Rattle.doc_passes.specs.Names.{number_in, fold_member};
 ghost use Rattle.doc_passes.specs.Numbers as spec;
-ghost use Rattle.doc_passes.specs.NumbersView.{numbers_view};
+ghost use Rattle.doc_passes.specs.NumbersView.{numbers_view, group_numbers_view};
 
 use crate::name_table::NameTable;
 use crate::numbered::{Numbered, each_numbers};
@@ -23,6 +23,7 @@ use raw_document::{
     RawReport, RawTarget, RawTask, RawUser, under,
 };
 use std::alloc::Global;
+use std::thread::{Threads, join};
 
 /// What the document says of numbers: the groups over the links, the script, the closings, and who
 /// owns what.
@@ -426,6 +427,31 @@ fn script_numbers(
     )
 }
 
+/// What the groups say of numbers: themselves over the links, and the owners of their tasks.
+#[derive(Drop)]
+struct GroupNumbers {
+    specs: Vec<GroupSpec>,
+    owners: Vec<u32>,
+}
+
+// The groups in turn, of a document with so many tasks.
+fn group_numbers(
+    alloc: Global,
+    groups: &[RawGroup],
+    task_count: usize,
+    links: &NameTable,
+    reporters: &NameTable,
+) -> Result<GroupNumbers, Fault>
+    ensures { Gives group_numbers_view result (fold_member keys.Groups
+        (spec.add_group_numbers links.now reporters.now) ([], []) (map group_view groups.now)) }
+{
+    let mut specs = Vec::with_capacity(alloc, groups.len())?;
+    let mut owners = Vec::with_capacity(alloc, task_count)?;
+    let tables = GroupTables { links, reporters };
+    walk_member(alloc, DocKey::Groups, groups, &tables, &mut specs, &mut owners)?;
+    Ok(GroupNumbers { specs, owners })
+}
+
 fn closings_numbers(
     alloc: Global,
     closings: &[RawClosing],
@@ -474,6 +500,62 @@ pub fn document_numbers(
         link_owners,
         groups,
         task_owners,
+        script,
+        closings,
+    })
+}
+
+// The numbers of groups and script, each in a thread of its own. Both end before it answers.
+fn groups_beside_script<R: Threads + Sync>(
+    rt: &R,
+    alloc: Global,
+    raw: &RawDocument,
+    links: &NameTable,
+    tasks: &NameTable,
+    reporters: &NameTable,
+) -> (Result<GroupNumbers, Fault>, Result<Vec<Report>, Fault>)
+    ensures groups { Gives group_numbers_view result.0 (fold_member keys.Groups
+        (spec.add_group_numbers links.now reporters.now) ([], []) (raw_view raw.now).groups) }
+    ensures script { Gives (λ script. script.items) result.1 (under (Key keys.Script)
+        (each (spec.report_numbers links.now tasks.now reporters.now) 0 (raw_view raw.now).script)) }
+{
+    // a copy for each closure
+    let theirs = alloc;
+    let script = move || -> Result<Vec<Report>, Fault>
+        ensures { Gives (λ script. script.items) result (under (Key keys.Script)
+            (each (spec.report_numbers links.entry.now tasks.entry.now reporters.entry.now) 0
+            (raw_view raw.entry.now).script)) }
+    { script_numbers(theirs, &raw.script, links, tasks, reporters, &[]) };
+    let groups = move || -> Result<GroupNumbers, Fault>
+        ensures { Gives group_numbers_view result (fold_member keys.Groups
+            (spec.add_group_numbers links.entry.now reporters.entry.now) ([], [])
+            (raw_view raw.entry.now).groups) }
+    { group_numbers(alloc, &raw.groups, tasks.len(), links, reporters) };
+    join(rt, groups, script)
+}
+
+/// The same by two threads, of which one takes the script.
+#[tactic(auto, unfolding(crate::specs::Numbers::numbers))]
+pub fn document_numbers_on_threads<R: Threads + Sync>(
+    rt: &R,
+    alloc: Global,
+    raw: &RawDocument,
+    links: &NameTable,
+    tasks: &NameTable,
+    reporters: &NameTable,
+) -> Result<DocumentNumbers, Fault>
+    ensures { Gives numbers_view result
+        (spec.numbers links.now tasks.now reporters.now (raw_view raw.now)) }
+{
+    let link_owners = link_owners(alloc, &raw.links, reporters)?;
+    let (groups, script) = groups_beside_script(rt, alloc, raw, links, tasks, reporters);
+    let GroupNumbers { specs, owners } = groups?;
+    let script = script?;
+    let closings = closings_numbers(alloc, &raw.closings, links)?;
+    Ok(DocumentNumbers {
+        link_owners,
+        groups: specs,
+        task_owners: owners,
         script,
         closings,
     })

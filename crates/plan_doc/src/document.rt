@@ -27,7 +27,7 @@ use fault_scan::find_fault;
 use path_groups::{GroupSpec, PathError, PathPlan};
 use policy_tree::{PolicyTree, TreeError, TreeFault};
 use std::alloc::Global;
-use std::thread::Threads;
+use std::thread::{Threads, join};
 use wan_topology::Topology;
 
 /// An accepted document, of version 1 to 4. Links, groups, tasks and reporters are numbers, whose
@@ -150,6 +150,92 @@ fn finish(alloc: Global, gathered: Gathered) -> Result<Document, DocError>
     })
 }
 
+// Plan and tree, each built in a thread of its own. Both end before it answers.
+fn plan_beside_tree<R: Threads + Sync>(
+    rt: &R,
+    alloc: Global,
+    version: u64,
+    tasks: u64,
+    topology: &Topology,
+    groups: Vec<GroupSpec>,
+    parts: TreeParts,
+) -> (Result<PathPlan, DocError>, Result<PolicyTree, DocError>)
+    requires few { length groups.items ≤ MAX_GROUPS }
+    requires in_range { AreInRange (length topology.now.capacities) (groups_of groups.items) }
+    requires parts { (raw : Raw) × AreTreeParts raw parts × IsInRange raw
+        × (tasks ≡ task_count raw.groups) }
+    ensures plan { Makes result.0 refused_paths (plan_fault topology.now (groups_of groups.items))
+        (λ plan. (plan ≡ path_groups_of (groups_of groups.items)) × IsBuiltOn topology.now plan) }
+    ensures tree { Makes result.1 refused_tree
+        (clusters_fault (limits_of version).tasks (clusters_of parts.spec.clusters.items))
+        (λ tree. tree ≡ idle_tree parts.spec) }
+{
+    // a copy for each closure
+    let theirs = alloc;
+    let plan = move || -> Result<PathPlan, DocError>
+        requires { (length groups.items ≤ MAX_GROUPS)
+            × AreInRange (length topology.now.capacities) (groups_of groups.items) }
+        ensures { Makes result refused_paths
+            (plan_fault topology.entry.now (groups_of groups.items))
+            (λ plan. (plan ≡ path_groups_of (groups_of groups.items))
+            × IsBuiltOn topology.entry.now plan) }
+    { build_plan(alloc, topology, groups) };
+    let tree = move || -> Result<PolicyTree, DocError>
+        requires { (raw : Raw) × AreTreeParts raw parts × IsInRange raw
+            × (tasks ≡ task_count raw.groups) }
+        ensures { Makes result refused_tree
+            (clusters_fault (limits_of version).tasks
+            (clusters_of parts.spec.clusters.items))
+            (λ tree. tree ≡ idle_tree parts.spec) }
+    { build_tree(theirs, version, tasks, parts) };
+    let (tree, plan) = join(rt, tree, plan);
+    (plan, tree)
+}
+
+/// The same, with plan and tree on two threads.
+fn finish_on_threads<R: Threads + Sync>(
+    rt: &R,
+    alloc: Global,
+    gathered: Gathered,
+) -> Result<Document, DocError>
+    requires gathered { (raw : Raw) × IsGathered raw gathered }
+    ensures exact { (raw : Raw) → IsGathered raw gathered
+        → Answers result (document_of_raw raw) }
+    ensures usable { IfOk result IsUsable }
+{
+    let Gathered {
+        version,
+        named,
+        built,
+    } = gathered;
+    let Named { names, numbers } = named;
+    let Built { tree, topology } = built;
+    let tasks = numbers.task_owners.len() as u64;
+    let (plan, tree) = plan_beside_tree(
+        rt,
+        alloc,
+        version,
+        tasks,
+        &topology,
+        numbers.groups,
+        tree,
+    );
+    let plan = plan?;
+    let tree = tree?;
+    check_owners(find_not_owned(&numbers.task_owners, &numbers.link_owners, &numbers.script))?;
+    Ok(Document {
+        version,
+        tree,
+        topology,
+        plan,
+        script: numbers.script,
+        closings: numbers.closings,
+        names,
+        task_owners: numbers.task_owners,
+        link_owners: numbers.link_owners,
+    })
+}
+
 // The document of the bytes by the tree of their JSON value, or the first of the refusals 1 to 11.
 fn document_by_tree(alloc: Global, bytes: &[u8]) -> Result<Document, DocError>
     ensures exact { Answers result (document bytes.now) }
@@ -230,5 +316,8 @@ pub fn read_document_on_threads<R: Threads + Sync>(
     // An accepted document meets the conditions of the calls that take its parts.
     ensures usable { IfOk result IsUsable }
 {
-    document_from(alloc, bytes, gathered_on_threads(rt, alloc, bytes))
+    match gathered_on_threads(rt, alloc, bytes) {
+        Some(Ok(gathered)) => finish_on_threads(rt, alloc, gathered),
+        found => document_from(alloc, bytes, found),
+    }
 }

@@ -4,12 +4,13 @@
 //! A raw document is lent by its text and by the reader's scratch, and owns a vector for each list.
 //! It is let go with these once all is gathered, and the tables of names before that.
 
-ghost use Rattle.std.specs.Prelude.{◌≡◌, ◌≤◌, None, Ok, map, IfSome};
+ghost use Rattle.std.specs.Prelude.{◌≡◌, ◌≤◌, None, Ok, map, IfOk, IfSome};
+ghost use Rattle.std.specs.Thread.{IsSync};
 ghost use Rattle.serde_json.specs.View.{view};
 ghost use Rattle.wan_topology.specs.Network.{network_of};
 ghost use Rattle.wan_topology.specs.Faults.{topology_fault};
 ghost use Rattle.policy_tree.specs.Asked.{idle_cluster};
-ghost use Rattle.raw_document.specs.Reading.{each_view};
+ghost use Rattle.raw_document.specs.Reading.{Gives, each_view};
 ghost use Rattle.raw_document.specs.Raw.{link_view, group_view, raw_view};
 ghost use Rattle.plan_doc.specs.Document.{document, document_of_value, document_of_raw, document_named, document_numbered, links_of, network_fault, over_limit};
 ghost use Rattle.plan_doc.specs.Functions.{refused_in_groups};
@@ -20,7 +21,10 @@ ghost use Rattle.plan_doc.specs.Refusals.{out_of_range, refused_function, refuse
 ghost use Rattle.plan_doc.specs.Accepted.{Makes, PassesBy};
 ghost use Rattle.plan_doc.specs.Tables.{AreEmpty, tables_view};
 ghost use Rattle.plan_doc.specs.Gathering.{LeavesNames, BuildsParts, AreTreeParts, Gathers};
+ghost use Rattle.doc_names.specs.NameTexts.{texts_of};
 ghost use Rattle.doc_passes.specs.Names.{name_lists};
+ghost use Rattle.doc_passes.specs.Numbers.{numbers};
+ghost use Rattle.doc_passes.specs.NumbersView.{numbers_view};
 ghost use Rattle.doc_passes.specs.Limits.{overrun};
 ghost use Rattle.doc_passes.specs.Ranges.{ranges};
 
@@ -30,14 +34,16 @@ use crate::names::{Tables, link_specs, names_of};
 use crate::nodes::{has_childless, has_node_numbers};
 use bwe_specs::{DocumentLimits, MAX_SHARE};
 use doc_names::Names;
-use doc_passes::{DocumentNumbers, check_ranges, document_numbers, find_overrun};
+use doc_passes::{
+    DocumentNumbers, check_ranges, document_numbers, document_numbers_on_threads, find_overrun,
+};
 use json::Scratch;
 use policy_tree::{ClusterSpec, TreeSpec};
-use raw_document::{RawDocument, RawGroup, RawLink};
+use raw_document::{Fault, RawDocument, RawGroup, RawLink};
 use raw_reader::{read_straight, read_straight_on_threads, scratches_of};
 use raw_shape::{JsonError, read_json, read_shape};
 use serde_json::Value;
-use std::alloc::Global;
+use std::alloc::{AllocError, Global};
 use std::thread::{Threads, join};
 use wan_topology::{Topology, TopologyError, TopologyFault};
 
@@ -257,6 +263,136 @@ fn gather(alloc: Global, raw: &RawDocument) -> Result<Gathered, DocError>
     })
 }
 
+// The numbers beside the copies of the names in the tables, each in a thread of its own. Both end
+// before it answers.
+fn numbers_beside_names<R: Threads + Sync>(
+    rt: &R,
+    alloc: Global,
+    raw: &RawDocument,
+    tables: &Tables,
+) -> (Result<DocumentNumbers, Fault>, Result<Names, AllocError>)
+    ensures numbers { Gives numbers_view result.0
+        (numbers tables.now.links tables.now.tasks tables.now.reporters (raw_view raw.now)) }
+    ensures names { IfOk result.1 (λ names. texts_of names ≡ tables_view tables.now) }
+{
+    // a copy for each closure
+    let theirs = alloc;
+    let copied = move || -> Result<Names, AllocError>
+        ensures { IfOk result (λ names. texts_of names ≡ tables_view tables.entry.now) }
+    { names_of(theirs, tables) };
+    let numbered = move || -> Result<DocumentNumbers, Fault>
+        requires { IsSync R.row }
+        ensures { Gives numbers_view result (numbers tables.entry.now.links tables.entry.now.tasks
+            tables.entry.now.reporters (raw_view raw.entry.now)) }
+    {
+        document_numbers_on_threads(
+            rt,
+            alloc,
+            raw,
+            &tables.links,
+            &tables.tasks,
+            &tables.reporters,
+        )
+    };
+    join(rt, numbered, copied)
+}
+
+// The names in the tables and the numbers, or refusal 6, of a document whose ranges are looked at
+// beside.
+fn names_in_tables_on_threads<R: Threads + Sync>(
+    rt: &R,
+    alloc: Global,
+    raw: &RawDocument,
+    tables: &Tables,
+) -> Result<Named, DocError>
+    requires few { overrun (raw_view raw.now) ≡ None }
+    requires names { name_lists (raw_view raw.now) ≡ Ok (tables_view tables.now) }
+    ensures { ranges (raw_view raw.now) ≡ Ok tt → LeavesNames (raw_view raw.now) result
+        (document_numbered (raw_view raw.now) (tables_view tables.now)) }
+{
+    let (numbers, names) = numbers_beside_names(rt, alloc, raw, tables);
+    let numbers = match numbers {
+        Ok(numbers) => numbers,
+        Err(fault) => return Err(DocError::unknown_name(fault)),
+    };
+    match names {
+        Ok(names) => Ok(Named { names, numbers }),
+        Err(_) => Err(DocError::OutOfMemory),
+    }
+}
+
+// Names and numbers, or the first of the refusals 5 and 6, of a document whose ranges are looked
+// at beside. The names are put into these tables.
+fn names_by_tables_on_threads<'a, R: Threads + Sync>(
+    rt: &R,
+    alloc: Global,
+    raw: &RawDocument<'a>,
+    tables: &mut Tables<'a>,
+) -> Result<Named, DocError>
+    requires few { overrun (raw_view raw.now) ≡ None }
+    requires empty { AreEmpty tables.old }
+    ensures { ranges (raw_view raw.now) ≡ Ok tt
+        → LeavesNames (raw_view raw.now) result (document_named (raw_view raw.now)) }
+{
+    match tables.fill(alloc, raw) {
+        Ok(()) => names_in_tables_on_threads(rt, alloc, raw, tables),
+        Err(fault) => Err(DocError::repeated_name(fault)),
+    }
+}
+
+// The same. The tables are let go before it answers.
+fn names_on_threads<R: Threads + Sync>(
+    rt: &R,
+    alloc: Global,
+    raw: &RawDocument,
+) -> Result<Named, DocError>
+    requires few { overrun (raw_view raw.now) ≡ None }
+    ensures { ranges (raw_view raw.now) ≡ Ok tt
+        → LeavesNames (raw_view raw.now) result (document_named (raw_view raw.now)) }
+{
+    let mut tables = Tables::new(alloc);
+    names_by_tables_on_threads(rt, alloc, raw, &mut tables)
+}
+
+// The ranges beside the names, each in a thread of its own. Both end before it answers.
+fn ranges_beside_names<R: Threads + Sync>(
+    rt: &R,
+    alloc: Global,
+    raw: &RawDocument,
+) -> (Result<(), DocError>, Result<Named, DocError>)
+    requires few { overrun (raw_view raw.now) ≡ None }
+    ensures range { PassesBy out_of_range (ranges (raw_view raw.now)) result.0 }
+    ensures names { ranges (raw_view raw.now) ≡ Ok tt
+        → LeavesNames (raw_view raw.now) result.1 (document_named (raw_view raw.now)) }
+{
+    // a copy for each closure
+    let theirs = alloc;
+    let range = move || -> Result<(), DocError>
+        ensures { PassesBy out_of_range (ranges (raw_view raw.entry.now)) result }
+    { check_each_range(theirs, raw) };
+    let names = move || -> Result<Named, DocError>
+        requires { IsSync R.row × (overrun (raw_view raw.now) ≡ None) }
+        ensures { ranges (raw_view raw.entry.now) ≡ Ok tt
+            → LeavesNames (raw_view raw.entry.now) result (document_named (raw_view raw.entry.now)) }
+    { names_on_threads(rt, alloc, raw) };
+    join(rt, range, names)
+}
+
+// Names and numbers, or the first of the refusals 4 to 6.
+#[tactic(auto, unfolding(crate::specs::Document::document_of_raw))]
+fn read_names_on_threads<R: Threads + Sync>(
+    rt: &R,
+    alloc: Global,
+    raw: &RawDocument,
+) -> Result<Named, DocError>
+    requires few { overrun (raw_view raw.now) ≡ None }
+    ensures { LeavesNames (raw_view raw.now) result (document_of_raw (raw_view raw.now)) }
+{
+    let (range, named) = ranges_beside_names(rt, alloc, raw);
+    range?;
+    named
+}
+
 // The two halves of the gathering, each in a thread of its own. Both end before it answers, also
 // where one is refused.
 fn halves<R: Threads + Sync>(
@@ -273,10 +409,10 @@ fn halves<R: Threads + Sync>(
     // a copy for each closure
     let theirs = alloc;
     let names = move || -> Result<Named, DocError>
-        requires { overrun (raw_view raw.now) ≡ None }
+        requires { IsSync R.row × (overrun (raw_view raw.now) ≡ None) }
         ensures { LeavesNames (raw_view raw.entry.now) result
             (document_of_raw (raw_view raw.entry.now)) }
-    { read_names(alloc, raw) };
+    { read_names_on_threads(rt, alloc, raw) };
     let parts = move || -> Result<Built, DocError>
         requires { (1 ≤ raw.now.top) × (raw.now.top ≤ MAX_SHARE) }
         ensures { BuildsParts (raw_view raw.entry.now) result }
