@@ -3,3 +3,4 @@ pub mod Filling
 pub mod Lists
 pub mod Shapes
 pub mod Frames
+pub mod Taking
