@@ -4,3 +4,4 @@ pub mod Lists
 pub mod Shapes
 pub mod Frames
 pub mod Taking
+pub mod Begun

@@ -1,5 +1,5 @@
 -- Items that are taken one after the other, whatever follows them.
-use Rattle.std.proofs.Common.{◌≡◌, ℕ, ◌<◌, List, [], ◌∷◌, ◌++◌, length, Some, None, refl, sym, ap, ◌∙◌, subst, append_assoc, arith}
+use Rattle.std.proofs.Common.{◌≡◌, ◌<◌, List, [], ◌∷◌, ◌++◌, length, ap, ◌∙◌, subst, append_assoc, arith}
 use Rattle.std.proofs.Math.ListN.{length-append}
 use Rattle.json.specs.Token.{Token}
 use Rattle.json.specs.Json.{after_end_array, value}
@@ -11,19 +11,12 @@ use Rattle.raw_reader.specs.Pieces.{ItemsTake, item_depth}
 use Rattle.raw_reader.proofs.Reading.{Amid-more}
 use Rattle.raw_reader.proofs.Frames.{framed, good_before}
 
-none_behind : {A : Type 0} (xs : List A) → xs ++ [] ≡ xs
-none_behind [] = refl
-none_behind (x ∷ xs) = ap (λ ys. x ∷ ys) (none_behind xs)
-
-pub none_taken : {T : Type 0} (IsRead : Data → T → Type 0) (ts : List Token) → ItemsTake IsRead [] ts ts
-none_taken IsRead ts = (λ good. good, λ more start before amid. subst (λ xs. Amid item_depth IsRead start xs (ts ++ more)) (sym (none_behind before)) amid)
-
 pub all_taken : {T : Type 0} (IsRead : Data → T → Type 0) (xs ys : List T) (old between new : List Token) → ItemsTake IsRead xs old between → ItemsTake IsRead ys between new → ItemsTake IsRead (xs ++ ys) old new
 all_taken IsRead xs ys old between new first second = (
-    λ good. first.0 (second.0 good),
-    λ more start before amid.
-        subst (λ zs. Amid item_depth IsRead start zs (new ++ more)) (append_assoc before xs ys) (second.1 more start (before ++ xs) (first.1 more start before amid)),
-  )
+  λ good. first.0 (second.0 good),
+  λ more start before amid.
+      subst (λ zs. Amid item_depth IsRead start zs (new ++ more)) (append_assoc before xs ys) (second.1 more start (before ++ xs) (first.1 more start before amid)),
+)
 
 -- one item, whose brace is the first token
 pub one_taken : {T : Type 0} (IsRead : Data → T → Type 0) (old inside new : List Token) (x : T) → old ≡ Token.begin_object ∷ inside → Takes item_depth (Token.begin_object ∷ inside) new (λ d. IsRead d x) → length new < length inside → ItemsTake IsRead (x ∷ []) old new

@@ -1,4 +1,4 @@
-use Rattle.std.proofs.Common.{◌≡◌, ◌-◌, ◌++◌, Some, length, take, true, refl, sym, ap, ◌∙◌, drop, arith}
+use Rattle.std.proofs.Common.{◌-◌, ◌++◌, Some, length, take, true, refl, sym, ap, ◌∙◌, drop, arith}
 use Rattle.std.proofs.lemmas.List.{take-append-drop}
 use Rattle.std.proofs.lemmas.Str.Pattern.{ends_char, strip_prefix_char}
 use Rattle.raw_reader.proofs.cuts.cut_off.Goals as goal

@@ -1,4 +1,4 @@
-use Rattle.std.proofs.Common.{◌≡◌, [], ◌∷◌, ◌++◌, length, sym, ap, ◌∙◌, append_assoc, arith}
+use Rattle.std.proofs.Common.{◌≡◌, [], ◌∷◌, ◌++◌, length, ap, ◌∙◌, append_assoc, arith}
 use Rattle.json.specs.Token.{begin_object, end_array}
 use Rattle.raw_reader.proofs.Taking.{more_taken}
 use Rattle.raw_reader.proofs.pieces.read_more_items.Goals as goal
