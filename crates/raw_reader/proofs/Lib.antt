@@ -6,3 +6,5 @@ pub mod Frames
 pub mod Cutting
 pub mod Putting
 pub mod Joining
+pub mod Taking
+pub mod Begun
