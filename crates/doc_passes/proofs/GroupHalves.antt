@@ -60,15 +60,16 @@ module _ {S A : Type 0} (zero : S) (add : S → S → S) (unit : (s : S) → add
   halves : Adds → (key : DocKey) (first others : List A) → fold_member key step zero (first ++ others) ≡ (fold_member key step zero first >>= λ early. fold_member_from key step (length first) zero others >>= λ late. Ok (add early late))
   halves adds key first others =
       ap (under (Key key)) (fold-append step 0 zero first others ∙ ap (λ (place : ℕ). fold_each step 0 zero first >>= λ early. fold_each step place early others) at_start) ∙ go (fold_each step 0 zero first) where
-    at_start : 0 + length first ≡ length first
-    at_start = omega arith
-    back : (early : S) (r : Result S (List PathStep)) → under (Key key) (r >>= λ late. Ok (add early late)) ≡ (under (Key key) r >>= λ late. Ok (add early late))
-    back early (Ok late) = refl
-    back early (Err path) = refl
+        at_start : 0 + length first ≡ length first
+        at_start = omega arith
 
-    go : (r : Result S (List PathStep)) → under (Key key) (r >>= λ early. fold_each step (length first) early others) ≡ (under (Key key) r >>= λ early. fold_member_from key step (length first) zero others >>= λ late. Ok (add early late))
-    go (Ok early) = ap (under (Key key)) (fold-adds adds (length first) early others) ∙ back early (fold_each step (length first) zero others)
-    go (Err path) = refl
+        back : (early : S) (r : Result S (List PathStep)) → under (Key key) (r >>= λ late. Ok (add early late)) ≡ (under (Key key) r >>= λ late. Ok (add early late))
+        back early (Ok late) = refl
+        back early (Err path) = refl
+
+        go : (r : Result S (List PathStep)) → under (Key key) (r >>= λ early. fold_each step (length first) early others) ≡ (under (Key key) r >>= λ early. fold_member_from key step (length first) zero others >>= λ late. Ok (add early late))
+        go (Ok early) = ap (under (Key key)) (fold-adds adds (length first) early others) ∙ back early (fold_each step (length first) zero others)
+        go (Err path) = refl
 
 -- ---- what the code answers of two parts
 

@@ -1,4 +1,4 @@
-use Rattle.std.proofs.Common.{ℕ, ◌≤◌, ◌/◌, length, arith}
+use Rattle.std.proofs.Common.{◌≤◌, ◌/◌, length, arith}
 use Rattle.std.proofs.lemmas.Result.{err_from_is_err_and}
 use Rattle.raw_document.specs.Raw.{group_view}
 use Rattle.doc_passes.specs.NumbersView.{group_numbers_view}
