@@ -7,3 +7,4 @@ pub mod RangeFacts
 pub mod NameFacts
 pub mod NumberFacts
 pub mod LimitFacts
+pub mod GroupHalves

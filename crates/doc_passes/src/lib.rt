@@ -4,7 +4,8 @@
 //! `plan_doc` calls them in this order, which is that of the refusals' numbers, and hands what they
 //! leave to the builders. Each answers what its definition says (`Limits`, `Ranges`, `Names` and
 //! `Numbers` of `specs/`): nothing, the names in their order, numbers in place of names, or the
-//! place of the first fault in the walk. Nothing is promised of time. Each name is hashed at most
+//! place of the first fault in the walk. `document_numbers_on_threads` answers the same as
+//! `document_numbers`. Nothing is promised of time. Each name is hashed at most
 //! once where it stands and at most once where it is referred to.
 #![tactic(auto)]
 

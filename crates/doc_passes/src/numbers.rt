@@ -1,6 +1,8 @@
 //! The document with numbers in place of the names that refer to others.
 
-ghost use Rattle.std.specs.Prelude.{◌≡◌, [], map};
+ghost use Rattle.std.specs.Prelude.{◌≡◌, ◌≤◌, [], ◌++◌, length, take, drop, map, IfOk, IfErr};
+ghost use Rattle.std.specs.Thread.{IsSync};
+ghost use Rattle.raw_document.specs.declared.doc_path.Fault.TheVariants.{OutOfMemory};
 ghost use Rattle.raw_document.specs.Reading.{Gives, each_view, under, each};
 ghost use Rattle.raw_document.specs.Raw as raw;
 ghost use Rattle.bwe_specs.specs.Paths as paths;
@@ -9,13 +11,13 @@ ghost use Rattle.raw_document.specs.Raw.{name_view, link_view, path_view, path_g
 ghost use Rattle.raw_document.specs.declared.key.DocKey.TheVariants as keys;
 ghost use Rattle.raw_document.specs.declared.doc_path.PathStep.TheVariants.{Key};
 ghost use Rattle.path_groups.specs.Given.{path_of, path_group_of, group_of};
-ghost use Rattle.doc_passes.specs.Names.{number_in, fold_member};
+ghost use Rattle.doc_passes.specs.Names.{number_in, fold_member, fold_member_from};
 ghost use Rattle.doc_passes.specs.Numbers as spec;
 ghost use Rattle.doc_passes.specs.NumbersView.{numbers_view, group_numbers_view};
 
 use crate::name_table::NameTable;
 use crate::numbered::{Numbered, each_numbers};
-use crate::walk::{Walked, walk_member};
+use crate::walk::{Walked, walk_member, walk_member_from};
 use bwe_specs::{Closing, Report, Target};
 use path_groups::{GroupSpec, PathSpec};
 use raw_document::{
@@ -448,8 +450,113 @@ fn group_numbers(
     let mut specs = Vec::with_capacity(alloc, groups.len())?;
     let mut owners = Vec::with_capacity(alloc, task_count)?;
     let tables = GroupTables { links, reporters };
-    walk_member(alloc, DocKey::Groups, groups, &tables, &mut specs, &mut owners)?;
+    walk_member(
+        alloc,
+        DocKey::Groups,
+        groups,
+        &tables,
+        &mut specs,
+        &mut owners,
+    )?;
     Ok(GroupNumbers { specs, owners })
+}
+
+// The same of the groups from this place on, told from the list of all.
+fn late_group_numbers(
+    alloc: Global,
+    groups: &[RawGroup],
+    from: usize,
+    task_count: usize,
+    links: &NameTable,
+    reporters: &NameTable,
+) -> Result<GroupNumbers, Fault>
+    ensures { Gives group_numbers_view result (fold_member_from keys.Groups
+        (spec.add_group_numbers links.now reporters.now) from ([], [])
+        (map group_view (drop from groups.now))) }
+{
+    let mut specs = Vec::with_capacity(alloc, groups.len())?;
+    let mut owners = Vec::with_capacity(alloc, task_count)?;
+    let tables = GroupTables { links, reporters };
+    walk_member_from(
+        alloc,
+        DocKey::Groups,
+        groups,
+        from,
+        &tables,
+        &mut specs,
+        &mut owners,
+    )?;
+    Ok(GroupNumbers { specs, owners })
+}
+
+// The groups before this place and those from it on, each in a thread of its own. Both end before
+// it answers.
+fn group_halves<R: Threads + Sync>(
+    rt: &R,
+    alloc: Global,
+    groups: &[RawGroup],
+    middle: usize,
+    task_count: usize,
+    links: &NameTable,
+    reporters: &NameTable,
+) -> (Result<GroupNumbers, Fault>, Result<GroupNumbers, Fault>)
+    requires middle { middle ≤ length groups.now }
+    ensures early { Gives group_numbers_view result.0 (fold_member keys.Groups
+        (spec.add_group_numbers links.now reporters.now) ([], [])
+        (map group_view (take middle groups.now))) }
+    ensures late { Gives group_numbers_view result.1 (fold_member_from keys.Groups
+        (spec.add_group_numbers links.now reporters.now) middle ([], [])
+        (map group_view (drop middle groups.now))) }
+{
+    // a copy for each closure
+    let theirs = alloc;
+    let (first, _) = groups.split_at(middle);
+    let late = move || -> Result<GroupNumbers, Fault>
+        ensures { Gives group_numbers_view result (fold_member_from keys.Groups
+            (spec.add_group_numbers links.entry.now reporters.entry.now) middle ([], [])
+            (map group_view (drop middle groups.entry.now))) }
+    { late_group_numbers(theirs, groups, middle, task_count, links, reporters) };
+    let early = move || -> Result<GroupNumbers, Fault>
+        ensures { Gives group_numbers_view result (fold_member keys.Groups
+            (spec.add_group_numbers links.entry.now reporters.entry.now) ([], [])
+            (map group_view first.entry.now)) }
+    { group_numbers(alloc, first, task_count, links, reporters) };
+    join(rt, early, late)
+}
+
+// The numbers of all groups, of those of the first and those of the last.
+fn both_group_numbers(early: GroupNumbers, late: GroupNumbers) -> Result<GroupNumbers, Fault>
+    ensures both { IfOk result (λ all. group_numbers_view all
+        ≡ (
+          each_view group_of early.specs ++ each_view group_of late.specs,
+          early.owners.items ++ late.owners.items,
+        )) }
+    ensures refused { IfErr result (λ fault. fault ≡ OutOfMemory) }
+{
+    let mut all = early;
+    let mut rest = late;
+    all.specs.append(&mut rest.specs)?;
+    all.owners.append(&mut rest.owners)?;
+    Ok(all)
+}
+
+// The numbers of all groups, half of them in a thread of its own.
+fn group_numbers_on_threads<R: Threads + Sync>(
+    rt: &R,
+    alloc: Global,
+    groups: &[RawGroup],
+    task_count: usize,
+    links: &NameTable,
+    reporters: &NameTable,
+) -> Result<GroupNumbers, Fault>
+    ensures { Gives group_numbers_view result (fold_member keys.Groups
+        (spec.add_group_numbers links.now reporters.now) ([], []) (map group_view groups.now)) }
+{
+    let middle = groups.len() / 2;
+    let (early, late) = group_halves(rt, alloc, groups, middle, task_count, links, reporters);
+    let early = early?;
+    let late = late?;
+    both_group_numbers(early, late)
 }
 
 fn closings_numbers(
@@ -505,7 +612,8 @@ pub fn document_numbers(
     })
 }
 
-// The numbers of groups and script, each in a thread of its own. Both end before it answers.
+// The numbers of groups and script, each in a thread of its own. Both end before it answers. The
+// script's guesses do without the owners of tasks, which are found beside it.
 fn groups_beside_script<R: Threads + Sync>(
     rt: &R,
     alloc: Global,
@@ -527,14 +635,15 @@ fn groups_beside_script<R: Threads + Sync>(
             (raw_view raw.entry.now).script)) }
     { script_numbers(theirs, &raw.script, links, tasks, reporters, &[]) };
     let groups = move || -> Result<GroupNumbers, Fault>
+        requires { IsSync R.row }
         ensures { Gives group_numbers_view result (fold_member keys.Groups
             (spec.add_group_numbers links.entry.now reporters.entry.now) ([], [])
             (raw_view raw.entry.now).groups) }
-    { group_numbers(alloc, &raw.groups, tasks.len(), links, reporters) };
+    { group_numbers_on_threads(rt, alloc, &raw.groups, tasks.len(), links, reporters) };
     join(rt, groups, script)
 }
 
-/// The same by two threads, of which one takes the script.
+/// The same by three threads: one takes the script, and two the groups by halves.
 #[tactic(auto, unfolding(crate::specs::Numbers::numbers))]
 pub fn document_numbers_on_threads<R: Threads + Sync>(
     rt: &R,

@@ -30,6 +30,10 @@ use std::alloc::Global;
 use std::thread::{Threads, join};
 use wan_topology::Topology;
 
+// Paths and tree of so long a text are built on two threads. Those of a shorter one take less time
+// than a thread takes to start.
+const LONG_TEXT: usize = 100_000;
+
 /// An accepted document, of version 1 to 4. Links, groups, tasks and reporters are numbers, whose
 /// names are in `names`.
 ///
@@ -192,7 +196,7 @@ fn plan_beside_tree<R: Threads + Sync>(
     (plan, tree)
 }
 
-/// The same, with plan and tree on two threads.
+// The same, with plan and tree on two threads. Both were built before either refusal is answered.
 fn finish_on_threads<R: Threads + Sync>(
     rt: &R,
     alloc: Global,
@@ -211,15 +215,7 @@ fn finish_on_threads<R: Threads + Sync>(
     let Named { names, numbers } = named;
     let Built { tree, topology } = built;
     let tasks = numbers.task_owners.len() as u64;
-    let (plan, tree) = plan_beside_tree(
-        rt,
-        alloc,
-        version,
-        tasks,
-        &topology,
-        numbers.groups,
-        tree,
-    );
+    let (plan, tree) = plan_beside_tree(rt, alloc, version, tasks, &topology, numbers.groups, tree);
     let plan = plan?;
     let tree = tree?;
     check_owners(find_not_owned(&numbers.task_owners, &numbers.link_owners, &numbers.script))?;
@@ -269,6 +265,23 @@ fn document_from(
     }
 }
 
+// The same, with plan and tree on two threads.
+fn document_from_on_threads<R: Threads + Sync>(
+    rt: &R,
+    alloc: Global,
+    bytes: &[u8],
+    found: Option<Result<Gathered, DocError>>,
+) -> Result<Document, DocError>
+    requires found { IfSome found (λ found. Gathers found (document bytes.now)) }
+    ensures exact { Answers result (document bytes.now) }
+    ensures usable { IfOk result IsUsable }
+{
+    match found {
+        Some(Ok(gathered)) => finish_on_threads(rt, alloc, gathered),
+        found => document_from(alloc, bytes, found),
+    }
+}
+
 // The document of bytes that do not have the shape of one straight from the tokens.
 fn document_without_tokens(alloc: Global, bytes: &[u8]) -> Result<Document, DocError>
     ensures exact { Answers result (document bytes.now) }
@@ -299,13 +312,15 @@ pub fn read_document(alloc: Global, bytes: &[u8]) -> Result<Document, DocError>
     document_from(alloc, bytes, gathered_by_tokens(alloc, bytes))
 }
 
-/// The same by two threads: one looks at ranges and names and makes numbers of them (refusals 4 to
-/// 6), and beside it the other builds functions and links (refusals 7 and 8). The rest is done by
-/// one thread, as is a text that has to be read again.
+/// The same by several threads. Functions and links are built (refusals 7 and 8) beside all that is
+/// done with names: ranges are looked at (refusal 4) beside the tables of names (refusal 5), and
+/// then the names are copied beside the numbers that stand for them (refusal 6). What was read is
+/// let go, and paths (refusal 9) are built beside the tree (refusal 10). A text that has to be read
+/// again is one thread's.
 ///
-/// Both end before any of these refusals is answered, and the one of the lowest number is, as by
-/// `read_document`. What they make stands in memory at the same time. Where no thread can be
-/// started, one does both. Nothing is promised of time, nor that the two ran at once.
+/// What runs at once ends before any of its refusals is answered, and the one of the lowest number
+/// is, as by `read_document`. What it makes stands in memory at the same time. Where no thread can
+/// be started, one does it all. Nothing is promised of time, nor that any two ran at once.
 pub fn read_document_on_threads<R: Threads + Sync>(
     rt: &R,
     alloc: Global,
@@ -316,8 +331,9 @@ pub fn read_document_on_threads<R: Threads + Sync>(
     // An accepted document meets the conditions of the calls that take its parts.
     ensures usable { IfOk result IsUsable }
 {
-    match gathered_on_threads(rt, alloc, bytes) {
-        Some(Ok(gathered)) => finish_on_threads(rt, alloc, gathered),
-        found => document_from(alloc, bytes, found),
+    let found = gathered_on_threads(rt, alloc, bytes);
+    if bytes.len() < LONG_TEXT {
+        return document_from(alloc, bytes, found);
     }
+    document_from_on_threads(rt, alloc, bytes, found)
 }

@@ -47,6 +47,11 @@ use std::alloc::{AllocError, Global};
 use std::thread::{Threads, join};
 use wan_topology::{Topology, TopologyError, TopologyFault};
 
+// A document with so many groups or reports has its names read on threads.
+const MANY_GROUPS: usize = 256;
+
+const MANY_REPORTS: usize = 2_048;
+
 /// What the refusals 4 to 6 leave of a document: its names, and the numbers that stand for them.
 #[derive(Drop)]
 pub struct Named {
@@ -378,7 +383,8 @@ fn ranges_beside_names<R: Threads + Sync>(
     join(rt, range, names)
 }
 
-// Names and numbers, or the first of the refusals 4 to 6.
+// Names and numbers, or the first of the refusals 4 to 6. Threads take longer to start than a short
+// document takes to be read.
 #[tactic(auto, unfolding(crate::specs::Document::document_of_raw))]
 fn read_names_on_threads<R: Threads + Sync>(
     rt: &R,
@@ -388,6 +394,9 @@ fn read_names_on_threads<R: Threads + Sync>(
     requires few { overrun (raw_view raw.now) ≡ None }
     ensures { LeavesNames (raw_view raw.now) result (document_of_raw (raw_view raw.now)) }
 {
+    if raw.groups.len() < MANY_GROUPS && raw.script.len() < MANY_REPORTS {
+        return read_names(alloc, raw);
+    }
     let (range, named) = ranges_beside_names(rt, alloc, raw);
     range?;
     named

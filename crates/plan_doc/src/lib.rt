@@ -10,15 +10,15 @@
 //!
 //! A reading takes the bytes once, token by token, into the raw document, whose names the text
 //! lends (`raw_reader`). Names, numbers, clusters and topology are gathered of it, by one thread or
-//! by two (`gathered`). It is freed, and then plan and tree are built of what was gathered
+//! by several (`gathered`). It is freed, and then plan and tree are built of what was gathered
 //! (`document`); `specs/Gathering.antt` has what is known in between. Only a text that is not of
 //! the shape of a document is read again, by a walk over the tokens that finds the first fault
 //! (`fault_scan`), and by the tree of its JSON value (`raw_shape`) where that finds none.
 //!
 //! Each name is hashed once where it stands, and once where it is referred to unless it is found
 //! where it is likely; no name is looked for in a list. Each pass is linear. Nothing is promised of
-//! time, of how much memory is taken, nor of what a second thread gains, and nothing of which
-//! growth is refused where memory runs out.
+//! time, of how much memory is taken, nor of what more threads gain, and nothing of which growth is
+//! refused where memory runs out.
 #![tactic(auto)]
 
 mod doc_error;
