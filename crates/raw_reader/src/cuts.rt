@@ -15,7 +15,7 @@ use std::alloc::Global;
 pub const MOST_STRETCHES: usize = 4;
 
 // So many bytes are too few to be cut. For a cut so many objects are looked at.
-const FEW_BYTES: usize = 262_144;
+const FEW_BYTES: usize = 2_097_152;
 
 const MOST_TRIES: usize = 1024;
 
