@@ -170,7 +170,8 @@ impl<M: Maker, N: Profile<M::Table>, B: Bases> Board<M, N, B> {
         state.into_inner().close(rt);
     }
 
-    // An acknowledgement of the log as it stands, which holds what is known.
+    // An acknowledgement of the log as it stands, which holds what is known. Where another call posts
+    // that while this one waits for the maker, no table is made.
     fn newest_ack<R: Wait>(
         &self,
         rt: &R,
@@ -179,14 +180,19 @@ impl<M: Maker, N: Profile<M::Table>, B: Bases> Board<M, N, B> {
     ) -> Result<Ack<B>, OutOfMemory>
         ensures known { IfOk result (λ ack. IsPrefix known.now ack) }
     {
-        let is_behind = self.state.lock(rt).is_behind();
-        if is_behind {
-            return solve_and_post(rt, alloc, &self.shop, &self.state, known);
+        if !self.is_behind(rt) {
+            return self.posted_ack(rt, known);
         }
-        self.posted_ack(rt, known)
+        let mut shop = self.shop.lock(rt);
+        if !self.is_behind(rt) {
+            return self.posted_ack(rt, known);
+        }
+        let shop = &mut *shop;
+        solve_in(rt, alloc, shop, &self.state, known)
     }
 
-    // An acknowledgement that holds what is known.
+    // An acknowledgement that holds what is known. Where another call posts one while this one waits
+    // for the maker, no table is made.
     fn ack_of<R: Wait>(
         &self,
         rt: &R,
@@ -195,10 +201,20 @@ impl<M: Maker, N: Profile<M::Table>, B: Bases> Board<M, N, B> {
     ) -> Result<Ack<B>, OutOfMemory>
         ensures known { IfOk result (λ ack. IsPrefix known.now ack) }
     {
-        match self.posted_ack(rt, known) {
-            Ok(ack) => Ok(ack),
-            Err(_) => solve_and_post(rt, alloc, &self.shop, &self.state, known),
+        if let Ok(ack) = self.posted_ack(rt, known) {
+            return Ok(ack);
         }
+        let mut shop = self.shop.lock(rt);
+        if let Ok(ack) = self.posted_ack(rt, known) {
+            return Ok(ack);
+        }
+        let shop = &mut *shop;
+        solve_in(rt, alloc, shop, &self.state, known)
+    }
+
+    // Whether the log has reports that the posted table doesn't cover.
+    fn is_behind<R: Wait>(&self, rt: &R) -> bool {
+        self.state.lock(rt).is_behind()
     }
 
     // The acknowledgement of what is posted, if that holds what is known.
@@ -211,21 +227,6 @@ impl<M: Maker, N: Profile<M::Table>, B: Bases> Board<M, N, B> {
 
 // Sees the log, makes the table of it while the log lock is free, and posts it. The acknowledgement
 // of what is then posted holds what is known.
-fn solve_and_post<M: Maker, N: Profile<M::Table>, B: Bases, R: Wait>(
-    rt: &R,
-    alloc: Global,
-    shop: &Mutex<Workshop<M, N, B>>,
-    state: &Mutex<LogState<M, N, B>>,
-    known: &Beginning<B>,
-) -> Result<Ack<B>, OutOfMemory>
-    ensures known { IfOk result (λ ack. IsPrefix known.now ack) }
-{
-    let mut shop = shop.lock(rt);
-    let shop = &mut *shop;
-    solve_in(rt, alloc, shop, state, known)
-}
-
-// The same, once the maker's lock is taken. The log lock is free while the table is made.
 fn solve_in<M: Maker, N: Profile<M::Table>, B: Bases, R: Wait>(
     rt: &R,
     alloc: Global,

@@ -441,7 +441,8 @@ impl<M: Maker, N: Profile<M::Table>, B: Bases> LogState<M, N, B> {
         Ok((self.end(ack), history, table))
     }
 
-    // Posts the table of the whole log, and gives the ack of that and the table.
+    // Posts the table of the whole log where it is not posted yet, and gives the ack of that and the
+    // table.
     fn post_last<R: Wait>(
         &mut self,
         rt: &R,
@@ -455,10 +456,32 @@ impl<M: Maker, N: Profile<M::Table>, B: Bases> LogState<M, N, B> {
         ensures covers { IfOk result (λ last. M.Table.covers last.1 ≡ length self.old.log) }
         ensures belongs { IfOk result (λ last. N.belongs self.old.log last.1) }
     {
+        if !self.is_behind() {
+            return self.posted_last(alloc);
+        }
         self.show(shop)?;
         let table = shop.solve(alloc)?;
         let copy = table.copy(alloc)?;
         let ack = self.post_made(rt, alloc, shop, copy)?;
+        Ok((ack, table))
+    }
+
+    // The ack of the whole log and a copy of its table, which is posted.
+    #[tactic(auto, using(board_log::proofs::Prefixes::prefix_whole))]
+    fn posted_last(&self, alloc: Global) -> Result<(Ack<B>, M::Table), OutOfMemory>
+        requires all { length self.now.log ≤ self.now.posted }
+        ensures posted { self.now.posted ≡ length self.now.log }
+        ensures ack { IfOk result (λ last. last.0 ≡ self.now.log) }
+        ensures covers { IfOk result (λ last. M.Table.covers last.1 ≡ length self.now.log) }
+        ensures belongs { IfOk result (λ last. N.belongs self.now.log last.1) }
+    {
+        let ack = Ack::of(&self.poster);
+        let whole = self.whole.first(self.log.len() as u64);
+        if !whole.begins(ack.known()) {
+            return Err(OutOfMemory);
+        }
+        let poster = &self.poster;
+        let table = poster.shown().table().copy(alloc)?;
         Ok((ack, table))
     }
 

@@ -2,8 +2,8 @@
 //! enter without a lock.
 //!
 //! `board` above makes posts of `News` by a `Poster`; its readers are `ReaderPass`es, each with
-//! what it saw: a log that it shares with the published copy, and a table of its own. Three
-//! promises rest on this crate alone, for any kind of table:
+//! what it saw: a log and a table that it shares with the published copy. Three promises rest on
+//! this crate alone, for any kind of table:
 //! - `ReaderPass::read` shows a table that belongs to the first reports of a log which begins with
 //!   all that the pass had seen, never older than its floor;
 //! - after `ReaderPass::learn` the pass has all that the ack holds;
@@ -15,9 +15,9 @@
 //! lock and wait for nobody: they are given no handle, and nothing that waits can be called without
 //! one.
 //!
-//! `publish` may wait for readers to leave a copy. It makes the log of each published copy anew,
-//! and brings its table up to date by a change. A pass shares that log, and applies a change to its
-//! own table. A log is freed with the last that shares it. Nothing is known here of who adds to the
+//! `publish` may wait for readers to leave a copy. Both published copies and the passes share the
+//! log and the table of a post, so nothing is copied where one is taken over. Log and table are
+//! freed with the last that shares them. Nothing is known here of who adds to the
 //! log, of makers or of threads. Not promised: that a reader sees what nobody told it. A `read`
 //! that enters no published copy, or stops entering one after some reads, meets every clause: tests
 //! of `service_cases` refuse it.

@@ -26,11 +26,13 @@ pub struct Posting<T> {
 
 /// A log, and the table of its first reports, as many as it covers. Contracts see it as these two.
 ///
-/// A pair that takes over another shares its log, which is freed with the last pair that has it.
+/// A pair that takes over another shares its log and its table, and each is freed with the last
+/// pair that has it. The table's total is worked out once, where the table comes in.
 #[derive(Drop)]
 pub struct Pair<T: Posted, N: Profile<T>, B: Bases> {
     pub(crate) log: Arc<Vec<Report>>,
-    pub(crate) table: T,
+    pub(crate) table: Arc<T>,
+    total: u64,
     known: Beginning<B>,
     of: PhantomData<N>,
 }
@@ -42,19 +44,20 @@ impl<T: Posted, N: Profile<T>, B: Bases> Model for Pair<T, N, B> {
 
     ghost Value = { Posting T };
 
-    ghost view = { λ pair. record { log = (arc_value pair.log).items; table = pair.table } };
+    ghost view = { λ pair.
+        record { log = (arc_value pair.log).items; table = arc_value pair.table } };
 
-    ghost invariant = { λ pair. IsPair T.covers T.frame T.tasks_of N.belongs N.reporters N.tasks
-        N.links pair.known (arc_value pair.log).items pair.table };
+    ghost invariant = { λ pair. IsPair T.covers T.total_of T.frame T.tasks_of N.belongs N.reporters
+        N.tasks N.links pair.known (arc_value pair.log).items (arc_value pair.table) pair.total };
 }
 
 /// What a post brings: a log, and the table of some of its first reports. Contracts see the pair
 /// that it makes.
 #[derive(Drop)]
 pub struct News<T: Posted, N: Profile<T>, B: Bases> {
-    alloc: Global,
     log: Arc<Vec<Report>>,
-    table: T,
+    table: Arc<T>,
+    total: u64,
     known: Beginning<B>,
     of: PhantomData<N>,
 }
@@ -66,17 +69,15 @@ impl<T: Posted, N: Profile<T>, B: Bases> Model for News<T, N, B> {
 
     ghost Value = { Posting T };
 
-    ghost view = { λ news. record { log = news.known; table = news.table } };
+    ghost view = { λ news. record { log = news.known; table = arc_value news.table } };
 
-    ghost invariant = { λ news. IsNews T.covers N.belongs N.reporters N.tasks N.links
-        (arc_value news.log).items news.known news.table };
+    ghost invariant = { λ news. IsNews T.covers T.total_of N.belongs N.reporters N.tasks N.links
+        (arc_value news.log).items news.known (arc_value news.table) news.total };
 }
 
 impl<T: Posted, N: Profile<T>, B: Bases> News<T, N, B> {
-    /// The known log, which the published copies come to share, and the table of some of its first
-    /// reports.
-    ///
-    /// `alloc` is what the copies' tables take memory from.
+    /// The known log and the table of some of its first reports, both of which the published copies
+    /// come to share.
     pub fn new(
         alloc: Global,
         log: Vec<Report>,
@@ -89,11 +90,13 @@ impl<T: Posted, N: Profile<T>, B: Bases> News<T, N, B> {
         requires allowed { All (IsAllowed N.reporters (IsFit N.tasks N.links)) known }
         ensures pair { IfOk result (λ news. news ≡ record { log = known; table = table }) }
     {
+        let total = table.total();
         let log = Arc::new(alloc, log)?;
+        let table = Arc::new(alloc, table)?;
         Ok(News {
-            alloc,
             log,
             table,
+            total,
             known,
             of: PhantomData,
         })
@@ -101,23 +104,28 @@ impl<T: Posted, N: Profile<T>, B: Bases> News<T, N, B> {
 }
 
 impl<T: Posted, N: Profile<T>, B: Bases> Pair<T, N, B> {
-    /// The empty log, and a copy of its table.
-    pub fn empty(
+    /// The empty log, and its table, which it shares.
+    pub(crate) fn empty(
         alloc: Global,
         known: Beginning<B>,
-        table: &T,
+        table: &Arc<T>,
     ) -> Result<Pair<T, N, B>, OutOfMemory>
         requires known { known ≡ [] }
-        requires covers { T.covers table.now ≡ 0 }
-        requires belongs { N.belongs [] table.now }
+        requires covers { T.covers (arc_value table.now) ≡ 0 }
+        requires belongs { N.belongs [] (arc_value table.now) }
         requires one_plan { AreOfOnePlan T.frame T.tasks_of N.belongs N.tasks }
-        ensures pair { IfOk result (λ pair. pair ≡ record { log = []; table = table.now }) }
+        ensures pair { IfOk result (λ pair. pair ≡ record {
+          log = [];
+          table = arc_value table.now;
+        }) }
     {
         let log = Arc::new(alloc, Vec::new(alloc))?;
-        let copy = table.copy(alloc)?;
+        let total = table.total();
+        let table = Arc::try_clone(table)?;
         Ok(Pair {
             log,
-            table: copy,
+            table,
+            total,
             known,
             of: PhantomData,
         })
@@ -129,7 +137,14 @@ impl<T: Posted, N: Profile<T>, B: Bases> Pair<T, N, B> {
         ensures within { T.covers result.now ≤ length self.now.log }
         ensures belongs { N.belongs (take (T.covers result.now) self.now.log) result.now }
     {
-        &self.table
+        &*self.table
+    }
+
+    /// The table's total, in kilobits per second.
+    pub(crate) fn total(&self) -> u64
+        ensures total { result ≡ T.total_of self.now.table }
+    {
+        self.total
     }
 
     // The reports that the table covers.
@@ -140,32 +155,39 @@ impl<T: Posted, N: Profile<T>, B: Bases> Pair<T, N, B> {
         self.known.first(self.table.prefix())
     }
 
-    // Takes a log, and takes the table to that of its first reports by their change.
+    // Takes a log, and the table of its first reports, of that total. It shares both.
     fn take_over(
         &mut self,
-        alloc: Global,
         log: &Arc<Vec<Report>>,
         known: &Beginning<B>,
-        table: &T,
+        table: &Arc<T>,
+        total: u64,
     ) -> Result<(), OutOfMemory>
         requires known { (arc_value log.now).items ≡ known.now }
-        requires covers { T.covers table.now ≤ length known.now }
-        requires belongs { N.belongs (take (T.covers table.now) known.now) table.now }
+        requires covers { T.covers (arc_value table.now) ≤ length known.now }
+        requires belongs { N.belongs (take (T.covers (arc_value table.now)) known.now)
+            (arc_value table.now) }
         requires allowed { All (IsAllowed N.reporters (IsFit N.tasks N.links)) known.now }
-        ensures ok { OnOk result (self.new ≡ record { log = known.now; table = table.now }) }
+        requires total { total ≡ T.total_of (arc_value table.now) }
+        ensures ok { OnOk result (self.new ≡ record {
+          log = known.now;
+          table = arc_value table.now;
+        }) }
         ensures refused { OnErr result (self.new ≡ self.old) }
     {
         let log = Arc::try_clone(log)?;
-        bring_to(alloc, &mut self.table, table)?;
+        let table = Arc::try_clone(table)?;
         self.log = log;
+        self.table = table;
+        self.total = total;
         self.known = known.copy();
         Ok(())
     }
 
-    // Takes over the table of another pair, which covers no less, and shares its log. Where that
-    // log is the shorter one it keeps its own, which begins with it.
+    // Takes over another pair, whose table covers no less. Where the other log is the shorter one it
+    // keeps its own, which begins with it.
     #[tactic(auto, using(board_log::proofs::Prefixes::prefix_self, board_log::proofs::Prefixes::prefix_takes, board_log::proofs::Prefixes::prefix_length))]
-    fn catch_up(&mut self, alloc: Global, later: &Pair<T, N, B>) -> Result<(), OutOfMemory>
+    fn catch_up(&mut self, later: &Pair<T, N, B>) -> Result<(), OutOfMemory>
         requires later { T.covers self.old.table ≤ T.covers later.now.table }
         ensures table { OnOk result (self.new.table ≡ later.now.table) }
         ensures seen { OnOk result (IsPrefix later.now.log self.new.log) }
@@ -174,17 +196,19 @@ impl<T: Posted, N: Profile<T>, B: Bases> Pair<T, N, B> {
         ensures floor { T.covers self.old.table ≤ T.covers self.new.table }
     {
         if self.known.begins(&later.known) {
-            return self.take_over(alloc, &later.log, &later.known, &later.table);
+            return self.take_over(&later.log, &later.known, &later.table, later.total);
         }
-        bring_to(alloc, &mut self.table, &later.table)
+        self.table = Arc::try_clone(&later.table)?;
+        self.total = later.total;
+        Ok(())
     }
 
     /// Takes over the published pair where something was published since, and says whether it then
-    /// covers all that is published. Where memory runs out it stays as it is.
+    /// covers all that is published. Where it is refused it stays as it is.
     ///
     /// Each publish raises what the table covers, so where nothing was published it costs one
     /// comparison.
-    pub(crate) fn refresh(&mut self, alloc: Global, published: &Pair<T, N, B>) -> bool
+    pub(crate) fn refresh(&mut self, published: &Pair<T, N, B>) -> bool
         ensures fresh { OnTrue result (T.covers self.new.table ≡ max (T.covers self.old.table)
             (T.covers published.now.table)) }
         ensures again { OnFalse result (self.new ≡ self.old) }
@@ -194,7 +218,7 @@ impl<T: Posted, N: Profile<T>, B: Bases> Pair<T, N, B> {
         if published.table.prefix() <= self.table.prefix() {
             return true;
         }
-        self.catch_up(alloc, published).is_ok()
+        self.catch_up(published).is_ok()
     }
 
     /// Whether the log begins with the ack's, and the table covers all of that.
@@ -217,7 +241,6 @@ impl<T: Posted, N: Profile<T>, B: Bases> Pair<T, N, B> {
     #[tactic(auto, using(board_log::proofs::Prefixes::prefix_trans))]
     pub(crate) fn catch_up_to(
         &mut self,
-        alloc: Global,
         later: &Pair<T, N, B>,
         ack: &Ack<B>,
     ) -> Result<(), OutOfMemory>
@@ -232,7 +255,7 @@ impl<T: Posted, N: Profile<T>, B: Bases> Pair<T, N, B> {
         if !later.covers(ack) {
             return Err(OutOfMemory);
         }
-        self.catch_up(alloc, later)
+        self.catch_up(later)
     }
 }
 
@@ -248,19 +271,9 @@ impl<T: Posted, N: Profile<T>, B: Bases> Absorb<News<T, N, B>> for Pair<T, N, B>
         news: &News<T, N, B>,
         _other: &Pair<T, N, B>,
     ) -> Result<(), AllocError> {
-        match self.take_over(news.alloc, &news.log, &news.known, &news.table) {
+        match self.take_over(&news.log, &news.known, &news.table, news.total) {
             Ok(()) => Ok(()),
             Err(_) => Err(AllocError),
         }
     }
-}
-
-// Brings a table up to another one of its plan by their change, or leaves it as it was.
-fn bring_to<T: Posted>(alloc: Global, table: &mut T, later: &T) -> Result<(), OutOfMemory>
-    requires one_plan { T.frame table.old ≡ T.frame later.now }
-    ensures ok { OnOk result (table.new ≡ later.now) }
-    ensures refused { OnErr result (table.new ≡ table.old) }
-{
-    let change = table.change_to(alloc, later)?;
-    table.apply(alloc, &change)
 }

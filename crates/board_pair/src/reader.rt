@@ -21,8 +21,8 @@ use std::marker::Model;
 
 type Home<T, N, B> = Reader<Pair<T, N, B>, Visits, Visited>;
 
-/// A reader's pass: a log that it shares with the published copy that it took it from, a table of
-/// its own of the log's first reports, and how often it has read.
+/// A reader's pass: a log and the table of the log's first reports, which it shares with the
+/// published copy that it took them from, and how often it has read.
 ///
 /// The log is what the pass has seen. How many reports the table covers is its floor.
 #[derive(Drop)]
@@ -107,8 +107,8 @@ impl<T: Posted, N: Profile<T>, B: Bases> ReaderPass<T, N, B> {
         self.reads
     }
 
-    /// How many of its reads showed all that was posted when they were made. Others had no memory
-    /// for what was newer, or the board was closed. It stays at the last value once it is there.
+    /// How many of its reads showed all that was posted when they were made. Others could not share
+    /// what was newer, or the board was closed. It stays at the last value once it is there.
     pub fn fresh(&self) -> u64
         ensures fresh { result ≡ self.now.fresh }
     {
@@ -125,11 +125,9 @@ impl<T: Posted, N: Profile<T>, B: Bases> ReaderPass<T, N, B> {
     /// Enters a published copy, brings the pass up to date by what was published since, and shows
     /// what it then has.
     ///
-    /// It is never refused. Where there is no memory for what is newer, it shows again what the
-    /// pass had. Where nothing was published since, it takes no memory and copies nothing; else it
-    /// shares the published log, of which it copies no report, and makes and applies one change of
-    /// the table.
-    pub fn read(&mut self, alloc: Global) -> View<'_, T, N, B>
+    /// It is never refused. Where what is newer cannot be shared, it shows again what the pass had.
+    /// It takes no memory and copies nothing: it shares the log and the table that are published.
+    pub fn read(&mut self, _alloc: Global) -> View<'_, T, N, B>
         // The pass has the log and the table that are shown, and one read more. By Core run this is
         // one read, or nothing where what was published could not be taken over.
         ensures* after { sem 𝓛
@@ -150,7 +148,7 @@ impl<T: Posted, N: Profile<T>, B: Bases> ReaderPass<T, N, B> {
             result.copy.now.table }
         ensures allowed { All (IsAllowed N.reporters (IsFit N.tasks N.links)) result.copy.now.log }
     {
-        self.refresh(alloc);
+        self.refresh();
         self.view()
     }
 
@@ -159,7 +157,7 @@ impl<T: Posted, N: Profile<T>, B: Bases> ReaderPass<T, N, B> {
     ///
     /// It costs as `read` does, and nothing where the pass covers the ack already. After a refusal
     /// the pass has the log and the table that it had, and is told of nothing.
-    pub fn learn(&mut self, alloc: Global, ack: &Ack<B>) -> Result<(), OutOfMemory>
+    pub fn learn(&mut self, _alloc: Global, ack: &Ack<B>) -> Result<(), OutOfMemory>
         // "That prefix holds all that the reader was told is acknowledged."
         ensures told { OnOk result (IsPrefix ack.now self.new.log) }
         ensures covers { OnOk result (length ack.now ≤ T.covers self.new.table) }
@@ -177,7 +175,7 @@ impl<T: Posted, N: Profile<T>, B: Bases> ReaderPass<T, N, B> {
             self.count_told();
             return Ok(());
         }
-        self.catch_up(alloc, ack)?;
+        self.catch_up(ack)?;
         self.count_told();
         Ok(())
     }
@@ -193,7 +191,7 @@ impl<T: Posted, N: Profile<T>, B: Bases> ReaderPass<T, N, B> {
     }
 
     // Enters a published copy, and takes over what covers the ack.
-    fn catch_up(&mut self, alloc: Global, ack: &Ack<B>) -> Result<(), OutOfMemory>
+    fn catch_up(&mut self, ack: &Ack<B>) -> Result<(), OutOfMemory>
         requires behind { T.covers self.old.table < length ack.now }
         ensures told { OnOk result (IsPrefix ack.now self.new.log) }
         ensures covers { OnOk result (length ack.now ≤ T.covers self.new.table) }
@@ -211,7 +209,7 @@ impl<T: Posted, N: Profile<T>, B: Bases> ReaderPass<T, N, B> {
         };
         let (reader, learnt) = match reader.enter_as::<Enters>() {
             Ok(reading) => {
-                let learnt = self.copy.catch_up_to(alloc, reading.get(), ack);
+                let learnt = self.copy.catch_up_to(reading.get(), ack);
                 (reading.leave(), learnt)
             }
             Err(reader) => (reader, Err(OutOfMemory)),
@@ -223,7 +221,7 @@ impl<T: Posted, N: Profile<T>, B: Bases> ReaderPass<T, N, B> {
     }
 
     // Enters a published copy, and counts the read.
-    fn refresh(&mut self, alloc: Global)
+    fn refresh(&mut self)
         ensures log { IsPrefix self.old.log self.new.log }
         ensures floor { T.covers self.old.table ≤ T.covers self.new.table }
         ensures reads { self.new.reads ≡ min (self.old.reads + 1) (2 ^ 64 - 1) }
@@ -233,7 +231,7 @@ impl<T: Posted, N: Profile<T>, B: Bases> ReaderPass<T, N, B> {
         let Some(reader) = self.home.take() else {
             unreachable!()
         };
-        let (reader, is_fresh) = enter_and_leave(alloc, reader, &mut self.copy);
+        let (reader, is_fresh) = enter_and_leave(reader, &mut self.copy);
         self.home = Some(reader);
         // The table belongs to the log's first reports.
         let _ = self.floor();
@@ -260,7 +258,6 @@ impl<T: Posted, N: Profile<T>, B: Bases> ReaderPass<T, N, B> {
 // Enters a published copy, takes it over where it is newer, and says whether the own copy then
 // covers all that is published.
 fn enter_and_leave<T: Posted, N: Profile<T>, B: Bases>(
-    alloc: Global,
     reader: Home<T, N, B>,
     copy: &mut Pair<T, N, B>,
 ) -> (Home<T, N, B>, bool)
@@ -273,7 +270,7 @@ fn enter_and_leave<T: Posted, N: Profile<T>, B: Bases>(
 {
     match reader.enter_as::<Enters>() {
         Ok(reading) => {
-            let is_fresh = copy.refresh(alloc, reading.get());
+            let is_fresh = copy.refresh(reading.get());
             (reading.leave(), is_fresh)
         }
         Err(reader) => (reader, false),
@@ -333,8 +330,7 @@ impl<'a, T: Posted, N: Profile<T>, B: Bases> View<'a, T, N, B> {
     pub fn total(&self) -> u64
         ensures total { result ≡ T.total_of self.now.copy.now.table }
     {
-        let copy = self.copy;
-        copy.table.total()
+        self.copy.total()
     }
 
     /// The table, which belongs to the log's first `prefix` reports.
@@ -344,6 +340,6 @@ impl<'a, T: Posted, N: Profile<T>, B: Bases> View<'a, T, N, B> {
         ensures tasks { T.tasks_of (T.frame result.now) ≡ N.tasks }
     {
         let copy = self.copy;
-        &copy.table
+        &*copy.table
     }
 }

@@ -90,6 +90,8 @@ impl<M: Maker, N: Profile<M::Table>, B: Bases> Workshop<M, N, B> {
         ensures belongs { IfOk result (N.belongs self.old) }
     {
         absorb_all(alloc, &mut self.maker, &mut self.waiting)?;
+        // Nothing waits any more, so its room is given back.
+        self.waiting = VecDeque::new(alloc);
         self.maker.table(alloc)
     }
 

@@ -52,16 +52,17 @@ pub(crate) fn serve_run<S: Source, K: Sink, G: Gate + Sync, R: Threads + Wait + 
     }) result }
 {
     match read_input_of(alloc, CommandLine::Run { readers, reads }, source) {
-        Ok(input) => finish(sink, run(rt, alloc, &input, readers, reads, gate)),
+        Ok(input) => finish(sink, run(rt, alloc, input, readers, reads, gate)),
         Err(error) => refuse_input(sink, error),
     }
 }
 
-// The text of a run of the document's script, or the row of its refusal.
+// The text of a run of the document's script, or the row of its refusal. The input is let go before
+// the run.
 fn run<G: Gate + Sync, R: Threads + Wait + Sync>(
     rt: &R,
     alloc: Global,
-    input: &[u8],
+    input: Vec<u8>,
     readers: u32,
     reads: u32,
     gate: &G,
@@ -69,12 +70,13 @@ fn run<G: Gate + Sync, R: Threads + Wait + Sync>(
     requires some_readers { 1 ≤ readers }
     requires few_readers { readers ≤ MAX_READERS }
     requires few_reads { reads ≤ MAX_READS }
-    ensures { IfOk result (λ answer. IsRunReply readers reads (document_of input.now) answer) }
+    ensures { IfOk result (λ answer. IsRunReply readers reads (document_of input.items) answer) }
 {
-    let document = match read_document(alloc, input) {
+    let document = match read_document(alloc, &input) {
         Ok(document) => document,
         Err(error) => return refused(alloc, &error),
     };
+    drop(input);
     let (log, names) = run_document(rt, alloc, document, readers, u64::from(reads), gate)?;
     Ok(Answer {
         status: 0,

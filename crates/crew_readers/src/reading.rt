@@ -153,7 +153,7 @@ pub fn read_lines<T: Posted, N: Profile<T>, B: Bases, G: Gate, R: Wait>(
 {
     // 64 bits count what the pass was told.
     let _ = pass.learnt();
-    let mut lines = Vec::new(alloc);
+    let mut lines = Vec::with_capacity(alloc, reads as usize)?;
     for call in 0..reads {
         learn_newest(rt, alloc, newest, pass)?;
         lines.push(read_line(alloc, gate, reader, call, pass))?;

@@ -12,7 +12,7 @@ run_text-requires-clause-reporters g c =
 
 pub returns : goal.returns
 returns g c =
-    let read = c.in-Ok.ensures.exact in
+    let read = rw c.deref.ensures.value at c.in-Ok.ensures.exact in
     let run = rw (c.from.ensures) at c.in_ok-log.ensures.log in
     let printed = c.in_ok-run_text.ensures ∙ ap (λ names. run_text_of (texts_of names) c.in_ok-log.log) c.in_ok-log.ensures.names in
     subst (λ answer. IsRunReply c.args.readers c.args.reads answer (record { status = 0; text = c.in_ok-run_text.field-0.items })) (sym read.1)

@@ -6,7 +6,7 @@ use Rattle.bwe_cli.proofs.run.serve_run.Goals as goal
 pub returns-in-Ok : goal.returns-in-Ok
 returns-in-Ok g c =
     ending-finished _ _ _ (Run c.args.readers c.args.reads) refl c.in-Ok.ensures.untouched c.in-Ok.ensures.input c.in-Ok.ensures.short
-    c.run.result (rw c.deref.ensures.value at c.run.ensures) c.finish.ensures
+    c.run.result c.run.ensures c.finish.ensures
 
 pub returns-in-Err : goal.returns-in-Err
 returns-in-Err g c =
