@@ -9,7 +9,7 @@ ghost use Rattle.kept_tree.specs.Known.{AreKnown, values_of};
 
 use crate::group::KnownGroup;
 use bwe_specs::OutOfMemory;
-use link_solver::solve_by_links;
+use link_solver::{Guesses, solve_by_guesses};
 use mpfa_fill::{Filling, GroupValues};
 use path_groups::PathPlan;
 use policy_tree::PolicyTree;
@@ -85,10 +85,16 @@ impl<K: Meant> GroupValues for KnownValues<'_, K> {
     }
 
     fn ceiling(&self, group: u32, share: u64) -> Option<u64> {
+        if let Some(value) = self.known[group as usize].value(share) {
+            return Some(value);
+        }
         self.tree.group_ceiling(group, share)
     }
 
     fn floor(&self, group: u32, share: u64, most: u64) -> Option<u64> {
+        if let Some(value) = self.known[group as usize].value(share) {
+            return Some(value);
+        }
         self.tree.group_floor(group, share, most)
     }
 
@@ -104,6 +110,7 @@ pub(crate) fn filled(
     known: &mut [KnownGroup],
     topology: &Topology,
     plan: &PathPlan,
+    guesses: &mut Guesses,
 ) -> Result<Filling, OutOfMemory>
     requires built_on { IsBuiltOn topology.now plan.now }
     requires groups { length tree.now.clusters ≡ length plan.now }
@@ -112,7 +119,7 @@ pub(crate) fn filled(
         (IsFilling (wan_of (values_of tree.now) plan.now topology.now.capacities)) }
     ensures known { AreKnown tree.now known.new }
 {
-    filled_by::<Brand>(alloc, tree, known, topology, plan)
+    filled_by::<Brand>(alloc, tree, known, topology, plan, guesses)
 }
 
 // The same, where the values are told apart by their meaning.
@@ -122,6 +129,7 @@ fn filled_by<K: Meant>(
     known: &mut [KnownGroup],
     topology: &Topology,
     plan: &PathPlan,
+    guesses: &mut Guesses,
 ) -> Result<Filling, OutOfMemory>
     requires meant { K.value ≡ value_in tree.now }
     requires built_on { IsBuiltOn topology.now plan.now }
@@ -136,7 +144,7 @@ fn filled_by<K: Meant>(
         known: &*known,
         answers: RefCell::new(Vec::new(alloc)),
     };
-    let filling = solve_by_links(alloc, &values, topology, plan);
+    let filling = solve_by_guesses(alloc, &values, topology, plan, guesses);
     let KnownValues { answers, .. } = values;
     let answers = answers.into_inner();
     add_answers(tree, known, &answers);
