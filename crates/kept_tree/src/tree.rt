@@ -26,14 +26,19 @@ use wan_topology::Topology;
 // Outlines are drawn anew once as many demands have changed as this part of the tasks.
 const MOST_PART: u64 = 16;
 
+// A filling is steady where fewer demands have changed than this part of the groups.
+const FEW: u64 = 64;
+
 /// A tree, and what is kept of each group. What its fillings found of links are guesses for the
-/// next one. `changed` counts the demands that were set since outlines were drawn.
+/// next one. `changed` counts the demands that were set since outlines were drawn, `unfilled` those
+/// since the last filling.
 #[derive(Drop)]
 pub struct KeptTree {
     tree: PolicyTree,
     known: Option<Vec<KnownGroup>>,
     guesses: Option<Guesses>,
     changed: u64,
+    unfilled: u64,
 }
 
 impl Model for KeptTree {
@@ -57,6 +62,7 @@ impl KeptTree {
             known: None,
             guesses: None,
             changed: u64::MAX,
+            unfilled: u64::MAX,
         }
     }
 
@@ -130,6 +136,7 @@ impl KeptTree {
         forget(&mut self.known, &self.tree, task);
         self.tree.set_demand(task, demand)?;
         self.changed = self.changed.saturating_add(1);
+        self.unfilled = self.unfilled.saturating_add(1);
         Ok(())
     }
 
@@ -151,17 +158,28 @@ impl KeptTree {
             Some(guesses) => guesses,
             None => Guesses::new(alloc),
         };
+        let is_steady = self.unfilled < self.tree.groups() as u64 / FEW;
         match &mut self.known {
             Some(known) => {
                 let known = known.as_mut_slice();
-                let filling = filled(alloc, &self.tree, known, topology, plan, &mut guesses);
+                let tree = &self.tree;
+                let filling = filled(alloc, tree, known, topology, plan, &mut guesses, is_steady);
                 self.guesses = Some(guesses);
+                self.unfilled = 0;
                 filling
             }
             None => {
                 let mut known = nothing(alloc, &self.tree)?;
                 let known = known.as_mut_slice();
-                filled(alloc, &self.tree, known, topology, plan, &mut guesses)
+                filled(
+                    alloc,
+                    &self.tree,
+                    known,
+                    topology,
+                    plan,
+                    &mut guesses,
+                    false,
+                )
             }
         }
     }
