@@ -1,6 +1,6 @@
 //! A network filled with the groups' values, of which many are kept.
 
-ghost use Rattle.std.specs.Prelude.{◌≡◌, ℕ, length, IfOk};
+ghost use Rattle.std.specs.Prelude.{◌≡◌, ◌≤◌, ℕ, length, IfOk};
 ghost use Rattle.mpfa_fill.specs.Filling.{IsFilling};
 ghost use Rattle.mpfa_fill.specs.GroupValues.{wan_of};
 ghost use Rattle.path_groups.specs.Plan.{IsBuiltOn};
@@ -9,7 +9,7 @@ ghost use Rattle.kept_tree.specs.Known.{AreKnown, values_of};
 
 use crate::group::KnownGroup;
 use bwe_specs::OutOfMemory;
-use link_solver::solve_by_links;
+use link_solver::{Guesses, solve_by_guesses};
 use mpfa_fill::{Filling, GroupValues};
 use path_groups::PathPlan;
 use policy_tree::PolicyTree;
@@ -37,11 +37,13 @@ struct Answer<K: Meant> {
     ghost is: { value ≡ K.value group share },
 }
 
-/// The groups of a tree with what is kept of them. What else is asked for is listed.
+/// The groups of a tree with what is kept of them. What else is asked for is listed. It is steady
+/// where few groups have changed since the last filling, which asked nearly the same.
 #[derive(Drop)]
 struct KnownValues<'a, K: Meant> {
     tree: &'a PolicyTree,
     known: &'a [KnownGroup],
+    is_steady: bool,
     answers: RefCell<Vec<Answer<K>>>,
     ghost are: { AreKnown tree.now known.now },
     ghost meant: { K.value ≡ value_in tree.now },
@@ -60,6 +62,21 @@ impl<K: Meant> KnownValues<'_, K> {
                 of: PhantomData,
             };
             let _ = answers.push(answer);
+        }
+    }
+
+    // Up to which share a value that is kept is a ceiling of that at the share. A value that is
+    // kept far above is a loose one, so that the values themselves have to be asked for; where much
+    // the same is asked again, that pays, since they are kept from then on.
+    fn farthest(&self, share: u64) -> u64
+        requires { share ≤ self.now.tree.now.top }
+        ensures from { share ≤ result }
+        ensures within { result ≤ self.now.tree.now.top }
+    {
+        if self.is_steady {
+            self.tree.top()
+        } else {
+            share
         }
     }
 }
@@ -84,11 +101,20 @@ impl<K: Meant> GroupValues for KnownValues<'_, K> {
         value
     }
 
+    // Values never fall, so one that is kept at a higher share is a ceiling.
     fn ceiling(&self, group: u32, share: u64) -> Option<u64> {
+        self.tree.what_holds();
+        let most = self.farthest(share);
+        if let Some(value) = self.known[group as usize].value_between(share, most) {
+            return Some(value);
+        }
         self.tree.group_ceiling(group, share)
     }
 
     fn floor(&self, group: u32, share: u64, most: u64) -> Option<u64> {
+        if let Some(value) = self.known[group as usize].value(share) {
+            return Some(value);
+        }
         self.tree.group_floor(group, share, most)
     }
 
@@ -104,6 +130,8 @@ pub(crate) fn filled(
     known: &mut [KnownGroup],
     topology: &Topology,
     plan: &PathPlan,
+    guesses: &mut Guesses,
+    is_steady: bool,
 ) -> Result<Filling, OutOfMemory>
     requires built_on { IsBuiltOn topology.now plan.now }
     requires groups { length tree.now.clusters ≡ length plan.now }
@@ -112,7 +140,7 @@ pub(crate) fn filled(
         (IsFilling (wan_of (values_of tree.now) plan.now topology.now.capacities)) }
     ensures known { AreKnown tree.now known.new }
 {
-    filled_by::<Brand>(alloc, tree, known, topology, plan)
+    filled_by::<Brand>(alloc, tree, known, topology, plan, guesses, is_steady)
 }
 
 // The same, where the values are told apart by their meaning.
@@ -122,6 +150,8 @@ fn filled_by<K: Meant>(
     known: &mut [KnownGroup],
     topology: &Topology,
     plan: &PathPlan,
+    guesses: &mut Guesses,
+    is_steady: bool,
 ) -> Result<Filling, OutOfMemory>
     requires meant { K.value ≡ value_in tree.now }
     requires built_on { IsBuiltOn topology.now plan.now }
@@ -134,9 +164,10 @@ fn filled_by<K: Meant>(
     let values: KnownValues<K> = KnownValues {
         tree,
         known: &*known,
+        is_steady,
         answers: RefCell::new(Vec::new(alloc)),
     };
-    let filling = solve_by_links(alloc, &values, topology, plan);
+    let filling = solve_by_guesses(alloc, &values, topology, plan, guesses);
     let KnownValues { answers, .. } = values;
     let answers = answers.into_inner();
     add_answers(tree, known, &answers);

@@ -57,6 +57,23 @@ impl KnownGroup {
         None
     }
 
+    /// A value that is kept between two shares, at the lowest such share.
+    pub(crate) fn value_between(&self, share: u64, most: u64) -> Option<u64>
+        ensures { (value_of : ℕ → ℕ) (limits_of : ℕ → List ℕ)
+            → IsKnownOf value_of limits_of self.now
+            → IfSome result (λ value. (at : ℕ) × (share ≤ at) × (at ≤ most)
+            × (value ≡ value_of at)) }
+    {
+        let place = self.place(share);
+        if place < self.values.len() {
+            let known = self.values[place];
+            if known.share >= share && known.share <= most {
+                return Some(known.value);
+            }
+        }
+        None
+    }
+
     /// Keeps the value at the share, where there is memory. Before there are too many, all others
     /// are dropped.
     pub(crate) fn add_value(&mut self, share: u64, value: u64)

@@ -13,6 +13,7 @@ use crate::group::KnownGroup;
 use crate::limits::known_limits;
 use crate::owner::forget_owner;
 use bwe_specs::{MAX_AMOUNT, OutOfMemory};
+use link_solver::Guesses;
 use mpfa_fill::Filling;
 use path_groups::PathPlan;
 use policy_tree::PolicyTree;
@@ -22,11 +23,22 @@ use std::marker::Model;
 use std::thread::Threads;
 use wan_topology::Topology;
 
-/// A tree, and what is kept of each group.
+// Outlines are drawn anew once as many demands have changed as this part of the tasks.
+const MOST_PART: u64 = 16;
+
+// A filling is steady where fewer demands have changed than this part of the groups.
+const FEW: u64 = 64;
+
+/// A tree, and what is kept of each group. What its fillings found of links are guesses for the
+/// next one. `changed` counts the demands that were set since outlines were drawn, `unfilled` those
+/// since the last filling.
 #[derive(Drop)]
 pub struct KeptTree {
     tree: PolicyTree,
     known: Option<Vec<KnownGroup>>,
+    guesses: Option<Guesses>,
+    changed: u64,
+    unfilled: u64,
 }
 
 impl Model for KeptTree {
@@ -45,7 +57,13 @@ impl KeptTree {
     pub fn new(tree: PolicyTree) -> KeptTree
         ensures { result ≡ tree }
     {
-        KeptTree { tree, known: None }
+        KeptTree {
+            tree,
+            known: None,
+            guesses: None,
+            changed: u64::MAX,
+            unfilled: u64::MAX,
+        }
     }
 
     /// From now on it keeps what it is asked.
@@ -78,17 +96,34 @@ impl KeptTree {
     }
 
     /// Makes values cheap again after demands were set. Nothing changes.
+    ///
+    /// Where values are kept and few demands have changed since outlines were drawn, none is drawn.
     pub fn rematch(&mut self)
         ensures { self.new ≡ self.old }
     {
-        self.tree.rematch();
+        if self.has_outlines() {
+            self.tree.refresh();
+        } else {
+            self.tree.rematch();
+            self.changed = 0;
+        }
     }
 
     /// The same on threads, as `PolicyTree::rematch_on_threads`.
     pub fn rematch_on_threads<R: Threads + Sync>(&mut self, rt: &R)
         ensures { self.new ≡ self.old }
     {
-        self.tree.rematch_on_threads(rt);
+        if self.has_outlines() {
+            self.tree.refresh();
+        } else {
+            self.tree.rematch_on_threads(rt);
+            self.changed = 0;
+        }
+    }
+
+    // Whether outlines were drawn, and few demands have changed since.
+    fn has_outlines(&self) -> bool {
+        self.known.is_some() && self.changed < self.tree.tasks() as u64 / MOST_PART
     }
 
     /// Sets what a task asks for, in kilobits per second, and drops what is kept of its group.
@@ -100,6 +135,8 @@ impl KeptTree {
     {
         forget(&mut self.known, &self.tree, task);
         self.tree.set_demand(task, demand)?;
+        self.changed = self.changed.saturating_add(1);
+        self.unfilled = self.unfilled.saturating_add(1);
         Ok(())
     }
 
@@ -117,11 +154,32 @@ impl KeptTree {
         ensures filling { IfOk result
             (IsFilling (wan_of (values_of self.old) plan.now topology.now.capacities)) }
     {
+        let mut guesses = match self.guesses.take() {
+            Some(guesses) => guesses,
+            None => Guesses::new(alloc),
+        };
+        let is_steady = self.unfilled < self.tree.groups() as u64 / FEW;
         match &mut self.known {
-            Some(known) => filled(alloc, &self.tree, known.as_mut_slice(), topology, plan),
+            Some(known) => {
+                let known = known.as_mut_slice();
+                let tree = &self.tree;
+                let filling = filled(alloc, tree, known, topology, plan, &mut guesses, is_steady);
+                self.guesses = Some(guesses);
+                self.unfilled = 0;
+                filling
+            }
             None => {
                 let mut known = nothing(alloc, &self.tree)?;
-                filled(alloc, &self.tree, known.as_mut_slice(), topology, plan)
+                let known = known.as_mut_slice();
+                filled(
+                    alloc,
+                    &self.tree,
+                    known,
+                    topology,
+                    plan,
+                    &mut guesses,
+                    false,
+                )
             }
         }
     }

@@ -148,9 +148,9 @@ pub(crate) fn into_filling<V: GroupValues>(
     growth.into_filling(alloc, top)
 }
 
-// How far a search goes on: to the end where one group grows over the link, so that the link takes
-// one turn until a group comes or leaves. To ask one group takes less than a turn does.
-fn reach(terms: &[Term], enough: u64, top: u64) -> u64
+/// How far a search goes on: to the end where one group grows over the link, so that the link takes
+/// one turn until a group comes or leaves. To ask one group takes less than a turn does.
+pub(crate) fn reach(terms: &[Term], enough: u64, top: u64) -> u64
     ensures { enough ≤ result }
 {
     if terms.len() <= 1 {
@@ -182,9 +182,9 @@ fn load_at<V: GroupValues, L: Ledger>(
     front.growth.load_at(terms, link, share)
 }
 
-// A load that tells whether the link fits at the share, which is a look at it: no less than its load
-// where it fits, and else no more than its load, but above its capacity.
-fn load_within<V: GroupValues, L: Ledger>(
+/// A load that tells whether the link fits at the share, which is a look at it: no less than its
+/// load where it fits, and else no more than its load, but above its capacity.
+pub(crate) fn load_within<V: GroupValues, L: Ledger>(
     front: &Front<V>,
     terms: &[Term],
     link: u32,

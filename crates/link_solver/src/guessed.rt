@@ -1,0 +1,281 @@
+//! The filling, link by link, where guesses tell at which shares to look first.
+
+ghost use Rattle.std.specs.Prelude.{◌≡◌, ◌+◌, ◌<◌, ◌≤◌, ◌∷◌, length, IfOk, OnOk, None, true};
+ghost use Rattle.bwe_specs.specs.RightClosings.{last_share, over_at, AreRight};
+ghost use Rattle.path_groups.specs.Plan.{IsBuiltOn};
+ghost use Rattle.mpfa_fill.specs.GroupValues.{Values, wan_of};
+ghost use Rattle.mpfa_fill.specs.Filling.{IsFilling};
+ghost use Rattle.mpfa_fill.specs.LastFit.{is_over_at};
+ghost use Rattle.mpfa_fill.specs.Growth.{AreTermsOn};
+ghost use Rattle.link_front.specs.Front.{wan_in, closings_in, added_in, AreKnown, IsFront};
+ghost use Rattle.link_solver.specs.Dues.{AreDues, IsLooked, IsNextClosing};
+
+use crate::due::Due;
+use crate::guesses::Guesses;
+use crate::links::{first_dues, values_at};
+use crate::search::{close, into_filling, load_within, reach};
+use crate::winners::Winners;
+use crate::work::Work;
+use bwe_specs::{Closing, OutOfMemory};
+use link_front::{Front, GroupsByLink};
+use mono_search::Steps;
+use mpfa_fill::{Filling, GroupValues, Term, ValueAt};
+use path_groups::PathPlan;
+use std::alloc::Global;
+use std::marker::Brand;
+use std::sync::ledger::{Blank, Ledger};
+use wan_topology::Topology;
+
+/// The same filling as that of `solve_by_links`, found by fewer looks where the guesses are right.
+/// What it finds of each link is a guess for the next filling.
+///
+/// Where a link is due as it was in the last filling, a look at each end of its due tells so. No
+/// bound of the looks is promised, as a wrong guess costs some.
+pub fn solve_by_guesses<V: GroupValues>(
+    alloc: Global,
+    values: &V,
+    topology: &Topology,
+    plan: &PathPlan,
+    guesses: &mut Guesses,
+) -> Result<Filling, OutOfMemory>
+    requires built_on { IsBuiltOn topology.now plan.now }
+    requires groups { (V.meaning values.now).groups ≡ length plan.now }
+    ensures { IfOk result
+        (IsFilling (wan_of (V.meaning values.now) plan.now topology.now.capacities)) }
+{
+    guesses.begin(alloc, topology.links())?;
+    counted_by_guesses::<V, Brand, Brand, Brand, Brand>(
+        alloc,
+        values,
+        topology,
+        plan,
+        guesses,
+        Blank::new(1),
+        Blank::new(1),
+        Blank::new(1),
+        Blank::new(1),
+    )
+}
+
+// The same, on counters that are dropped.
+fn counted_by_guesses<V: GroupValues, L: Ledger, T: Ledger, P: Ledger, M: Ledger>(
+    alloc: Global,
+    values: &V,
+    topology: &Topology,
+    plan: &PathPlan,
+    guesses: &mut Guesses,
+    looks: Blank,
+    turns: Blank,
+    plays: Blank,
+    moves: Blank,
+) -> Result<Filling, OutOfMemory>
+    requires built_on { IsBuiltOn topology.now plan.now }
+    requires groups { (V.meaning values.now).groups ≡ length plan.now }
+    requires look_name { looks.name ≡ L.name }
+    requires look_parts { looks.parts ≡ L.parts }
+    requires some_look { 0 < L.parts }
+    requires turn_name { turns.name ≡ T.name }
+    requires turn_parts { turns.parts ≡ T.parts }
+    requires some_turn { 0 < T.parts }
+    requires play_name { plays.name ≡ P.name }
+    requires play_parts { plays.parts ≡ P.parts }
+    requires some_play { 0 < P.parts }
+    requires move_name { moves.name ≡ M.name }
+    requires move_parts { moves.parts ≡ M.parts }
+    requires some_move { 0 < M.parts }
+    ensures { IfOk result
+        (IsFilling (wan_of (V.meaning values.now) plan.now topology.now.capacities)) }
+{
+    let mut looks: Steps<L> = Steps::new(looks);
+    let mut work: Work<T, P, M> = Work {
+        turns: Steps::new(turns),
+        plays: Steps::new(plays),
+        moves: Steps::new(moves),
+    };
+    let by_link = GroupsByLink::of(alloc, topology, plan)?;
+    solve_guessed(
+        alloc, values, topology, plan, &by_link, guesses, &mut looks, &mut work,
+    )
+}
+
+// The same, once the groups of each link are listed.
+fn solve_guessed<'a, V: GroupValues, L: Ledger, T: Ledger, P: Ledger, M: Ledger>(
+    alloc: Global,
+    values: &'a V,
+    topology: &'a Topology,
+    plan: &'a PathPlan,
+    by_link: &'a GroupsByLink<'a>,
+    guesses: &mut Guesses,
+    steps: &mut Steps<L>,
+    work: &mut Work<T, P, M>,
+) -> Result<Filling, OutOfMemory>
+    requires built_on { IsBuiltOn topology.now plan.now }
+    requires listed { by_link.now ≡ plan.now }
+    requires groups { (V.meaning values.now).groups ≡ length plan.now }
+    ensures { IfOk result
+        (IsFilling (wan_of (V.meaning values.now) plan.now topology.now.capacities)) }
+{
+    let top = values.top();
+    let mut front = Front::open(alloc, values, topology, plan, by_link)?;
+    let mut dues = first_dues(alloc, &front, top)?;
+    let known = values_at(alloc, &front, top)?;
+    close_guessed(
+        alloc, &mut front, &known, &mut dues, top, guesses, steps, work,
+    )?;
+    into_filling(front, alloc, top)
+}
+
+// Takes the front past all closings.
+fn close_guessed<V: GroupValues, L: Ledger, T: Ledger, P: Ledger, M: Ledger>(
+    alloc: Global,
+    front: &mut Front<V>,
+    known: &[ValueAt],
+    dues: &mut Winners,
+    top: u64,
+    guesses: &mut Guesses,
+    steps: &mut Steps<L>,
+    work: &mut Work<T, P, M>,
+) -> Result<(), OutOfMemory>
+    requires front { IsFront V.meaning front.old }
+    requires right { AreRight (wan_in V.meaning front.old) (closings_in front.old) }
+    requires known { AreKnown (wan_in V.meaning front.old) known.now }
+    requires top { top ≡ (wan_in V.meaning front.old).top }
+    requires dues { AreDues (wan_in V.meaning front.old) (closings_in front.old) dues.old }
+    ensures front { OnOk result (IsFront V.meaning front.new) }
+    ensures right { OnOk result (AreRight (wan_in V.meaning front.new) (closings_in front.new)) }
+    ensures wan { OnOk result (wan_in V.meaning front.new ≡ wan_in V.meaning front.old) }
+    ensures fits { OnOk result
+        (over_at (wan_in V.meaning front.new) (closings_in front.new) top ≡ None) }
+{
+    while let Some(closing) = next_guessed(
+        alloc,
+        front,
+        known,
+        dues,
+        top,
+        guesses,
+        steps,
+        &mut work.plays,
+    )? {
+        let never = top + 1;
+        close(
+            front,
+            closing,
+            dues,
+            never,
+            &mut work.plays,
+            &mut work.moves,
+        )?;
+    }
+    Ok(())
+}
+
+// The next closing of the filling, or `None` where no link is over up to the top.
+fn next_guessed<V: GroupValues, L: Ledger, P: Ledger>(
+    alloc: Global,
+    front: &Front<V>,
+    known: &[ValueAt],
+    dues: &mut Winners,
+    top: u64,
+    guesses: &mut Guesses,
+    steps: &mut Steps<L>,
+    plays: &mut Steps<P>,
+) -> Result<Option<Closing>, OutOfMemory>
+    requires front { IsFront V.meaning front.now }
+    requires right { AreRight (wan_in V.meaning front.now) (closings_in front.now) }
+    requires known { AreKnown (wan_in V.meaning front.now) known.now }
+    requires top { top ≡ (wan_in V.meaning front.now).top }
+    requires dues { AreDues (wan_in V.meaning front.now) (closings_in front.now) dues.old }
+    ensures dues { OnOk result
+        (AreDues (wan_in V.meaning front.now) (closings_in front.now) dues.new) }
+    ensures next { IfOk result
+        (IsNextClosing (wan_in V.meaning front.now) (closings_in front.now) dues.new) }
+{
+    while let Some(found) = dues.least(top) {
+        let link = found.link;
+        let due = dues.due(link);
+        if due.over == due.share + 1 {
+            let share = due.share;
+            return Ok(Some(Closing { link, share }));
+        }
+        let enough = due.share.max(found.beside);
+        let guess = guesses.guess(link, due, front.closings(), top);
+        let terms = front.terms_on(alloc, link, known)?;
+        let looked = searched(front, &terms, link, due, top, enough, guess, steps);
+        guesses.add(link, looked, front.closings());
+        dues.set(link, looked, plays);
+    }
+    Ok(None)
+}
+
+// What is known of a link after some looks, of which the first is at the guess: it is known at
+// which share it is over first, or it fits at a share above `enough`.
+//
+// Behind a guess that is wrong it looks farther and farther away from there, and in the middle once
+// that is no longer between a share at which the link fits and one at which it is over.
+fn searched<V: GroupValues, L: Ledger>(
+    front: &Front<V>,
+    terms: &[Term],
+    link: u32,
+    due: Due,
+    top: u64,
+    enough: u64,
+    guess: u64,
+    steps: &mut Steps<L>,
+) -> Due
+    requires front { IsFront V.meaning front.now }
+    requires link { link < length (wan_in V.meaning front.now).capacities }
+    requires terms { AreTermsOn (wan_in V.meaning front.now) (closings_in front.now)
+        (added_in front.now) link terms.now }
+    requires last { last_share (closings_in front.now) ≤ due.share }
+    requires below { due.share < top }
+    requires top { top ≡ (wan_in V.meaning front.now).top }
+    requires unknown { due.share + 1 < due.over }
+    requires over { due.over ≤ top
+        → is_over_at (wan_in V.meaning front.now) (closings_in front.now) due.over link ≡ true }
+    requires enough { due.share ≤ enough }
+    ensures { IsLooked (wan_in V.meaning front.now) (closings_in front.now) link due result }
+{
+    let enough = reach(terms, enough, top);
+    let capacity = front.growth.capacity(link) as u128;
+    let mut low = due.share;
+    let mut high = due.over.min(top + 1);
+    let mut low_load = due.low_load;
+    let mut over_load = due.over_load;
+    let mut aim = guess;
+    let mut stride: u64 = if guess < top { 1 } else { 0 };
+    while high - low > 1 && low <= enough {
+        let middle = between(low, high, aim);
+        let load = load_within(front, terms, link, middle, capacity, steps);
+        let step = stride;
+        stride = stride.saturating_mul(8);
+        if load > capacity {
+            high = middle;
+            over_load = load;
+            aim = middle.saturating_sub(step);
+        } else {
+            low = middle;
+            low_load = load;
+            aim = middle.saturating_add(step);
+        }
+    }
+    Due {
+        share: low,
+        over: high,
+        low_load,
+        over_load,
+    }
+}
+
+// The share, where it is between the two, and else the one in the middle.
+fn between(low: u64, high: u64, share: u64) -> u64
+    requires { low + 1 < high }
+    ensures above { low < result }
+    ensures below { result < high }
+{
+    if low < share && share < high {
+        share
+    } else {
+        low + (high - low) / 2
+    }
+}
