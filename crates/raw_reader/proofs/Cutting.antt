@@ -1,8 +1,8 @@
 -- The stretches of a text, and what was read of them.
-use Rattle.std.proofs.Common.{◌≡◌, ℕ, suc, ◌<◌, arith, length, slice_index_or, Bool, true, false, List, [], ◌∷◌, ◌++◌, map, Option, Some, None, refl, sym, ap, ◌∙◌, subst}
+use Rattle.std.proofs.Common.{◌≡◌, ℕ, suc, ◌<◌, arith, length, slice_index_or, Bool, true, false, List, [], ◌∷◌, ◌++◌, map, Option, Some, refl, sym, ap, ◌∙◌, subst}
 use Rattle.std.proofs.lemmas.List.{append-nil}
 use Rattle.std.specs.Global.{Vec}
-use Rattle.json.specs.Token.{Token, begin_object, end_array}
+use Rattle.json.specs.Token.{Token, begin_object}
 use Rattle.json.specs.Lex.{tokens}
 use Rattle.token_parts.specs.Parts.{AllGood, First}
 use Rattle.token_parts.proofs.Cut.{tokens-first}

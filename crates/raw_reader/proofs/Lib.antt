@@ -8,3 +8,4 @@ pub mod Putting
 pub mod Joining
 pub mod Taking
 pub mod Begun
+pub mod Texts

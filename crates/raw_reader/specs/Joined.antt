@@ -1,5 +1,5 @@
 -- What was put together of a document's pieces.
-use Rattle.std.specs.Prelude.{◌≡◌, ℕ, List, [], ◌∷◌, ◌++◌, Some}
+use Rattle.std.specs.Prelude.{◌≡◌, ℕ, List, ◌∷◌, Some}
 use Rattle.json.specs.Token.{Token, begin_object, begin_array, key}
 use Rattle.serde_json.specs.Data.{Members, no_members}
 use Rattle.raw_document.specs.declared.key.DocKey.TheVariants as keys

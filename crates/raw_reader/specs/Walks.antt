@@ -1,5 +1,5 @@
 -- Where a walk over the items of an array, or over the members of an object, stands.
-use Rattle.std.specs.Prelude.{◌≡◌, ℕ, ◌≤◌, List, [], ◌∷◌, length, Option, Some}
+use Rattle.std.specs.Prelude.{◌≡◌, ℕ, ◌≤◌, List, [], ◌∷◌, length, Option}
 use Rattle.json.specs.Token.{Token}
 use Rattle.json.specs.Json.{parse_map, items, members, value}
 use Rattle.serde_json.specs.Data.{Data, Items, item, Members, no_members}

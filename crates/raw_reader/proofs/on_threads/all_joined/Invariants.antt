@@ -1,4 +1,4 @@
-use Rattle.std.proofs.Common.{◌≡◌, [], ◌++◌, ℕ, List}
+use Rattle.std.proofs.Common.{ℕ, List}
 use Rattle.std.specs.Vec.Iter.{into_iter_items}
 use Rattle.json.specs.Token.{Token}
 use Rattle.raw_reader.specs.Joined.{IsJoined}

@@ -1,4 +1,4 @@
-use Rattle.std.proofs.Common.{rules, ◌≡◌, ℕ, ◌<◌, List, length, slice_index_or, Some, Ok, Option, Result, None, IfSome, IfOk, refl, sym, ap, ◌∙◌, subst, arith}
+use Rattle.std.proofs.Common.{rules, ◌≡◌, ℕ, ◌<◌, List, length, slice_index_or, Some, Ok, Option, Result, None, IfSome, IfOk, sym, ◌∙◌, subst}
 use Rattle.std.specs.Global.{Vec}
 use Rattle.raw_reader.specs.declared.pieces.Piece.{Piece}
 use Rattle.serde_json.specs.Data.{Data}
