@@ -7,7 +7,8 @@ use Rattle.serde_json.specs.Data.{Data, null, boolean, string, array, object, no
 use Rattle.serde_json.specs.Read.{of_json, converted}
 use Rattle.raw_document.specs.Reading.{check}
 use Rattle.raw_document.specs.Shape.{list_items}
-use Rattle.raw_reader.proofs.Reading.{Amid-start, Amid-more, Amid-end, items_before, listed, Within-start, Within-more, Within-end}
+use Rattle.raw_reader.specs.Walks.{items_before}
+use Rattle.raw_reader.proofs.Reading.{Amid-start, Amid-more, Amid-end, listed, Within-start, Within-more, Within-end}
 use Rattle.version_scan.proofs.Tokens.{array_is, object_is, string_is, boolean_is, null_is}
 use Rattle.fault_scan.specs.Kinds.{at}
 use Rattle.fault_scan.specs.Tables.{item_at}

@@ -1,6 +1,6 @@
 use Rattle.std.proofs.Common.{◌≡◌, ◌+◌, ◌*◌, List, length}
 use Rattle.serde_json.specs.Data.{Data}
-use Rattle.raw_reader.proofs.Reading.{Amid, Within}
+use Rattle.raw_reader.specs.Walks.{Amid, Within}
 use Rattle.fault_scan.specs.Tables.{fields_at}
 use Rattle.fault_scan.specs.Seen.{Holds, ItemsAre, fields_in}
 use Rattle.fault_scan.proofs.walk.+check.Given as goal
