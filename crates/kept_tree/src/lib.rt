@@ -7,9 +7,9 @@
 //! network with the groups' values and looks up those that are kept; `limits` hands amounts down
 //! and goes into those groups alone whose amount or demands have changed. Both answer what the
 //! tree by itself answers: what is kept is right, or it is dropped. The next filling looks at links
-//! first where the last one found them due (`Guesses` of `link_solver`), and outlines are drawn anew
-//! only once many demands have changed. Out of memory, less is kept, and the answers are the same.
-//! Nothing is promised of time.
+//! first where the last one found them due (`Guesses` of `link_solver`), and outlines are drawn
+//! anew only once many demands have changed. Out of memory, less is kept, and the answers are the
+//! same. Nothing is promised of time.
 #![tactic(auto)]
 
 mod fill;
