@@ -192,6 +192,7 @@ fn plan_beside_tree<R: Threads + Sync>(
             (clusters_of parts.spec.clusters.items))
             (λ tree. tree ≡ idle_tree parts.spec) }
     { build_tree(theirs, version, tasks, parts) };
+    // a thread is started for the first one
     let (tree, plan) = join(rt, tree, plan);
     (plan, tree)
 }

@@ -14,9 +14,10 @@ use std::alloc::Global;
 /// Into how many stretches a text is cut at most.
 pub const MOST_STRETCHES: usize = 4;
 
-// So many bytes are too few to be cut. For a cut so many objects are looked at.
+// A text of fewer bytes is not cut: its threads would cost what they save.
 const FEW_BYTES: usize = 2_097_152;
 
+// How many ends of objects are looked at for one cut.
 const MOST_TRIES: usize = 1024;
 
 // A list that may be cut: where it begins, and the first two keys of its first item.
@@ -34,6 +35,7 @@ struct Cut {
     place: Place,
 }
 
+// The text behind a mark and blanks, where it begins so.
 fn behind<'a>(text: &'a [u8], mark: &[u8]) -> Option<&'a [u8]> {
     Some(
         text.trim_ascii_start()

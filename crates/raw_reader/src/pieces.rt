@@ -25,7 +25,7 @@ pub enum Place {
     Script,
 }
 
-/// A stretch of a document's text.
+/// A stretch of the text of a document of this version.
 #[derive(Drop)]
 pub struct Stretch<'a> {
     pub alloc: Global,
@@ -45,7 +45,8 @@ pub enum Member<'a> {
     Closings(Vec<RawClosing<'a>>),
 }
 
-/// What stands in a document's text, in its order.
+/// What stands in a document's text, in its order: its braces, its members, and of its two long
+/// lists the bracket that opens one, and items, behind which the list is closed or the stretch ends.
 #[derive(Drop)]
 pub enum Piece<'a> {
     Begin,
