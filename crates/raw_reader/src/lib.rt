@@ -1,10 +1,10 @@
 //! A document straight from the tokens of its text, with no tree of values between.
 //!
 //! `plan_doc` above asks `read_straight` first, and where it may use threads
-//! `read_straight_on_threads` before that: a text of 2 MiB and more is cut into stretches between two
-//! groups or two reports, and what is read of these is put together. What either gives is what
-//! `raw_shape` reads of the same bytes by their tree. Where neither gives anything, which is promised
-//! of no text, `fault_scan` looks for the first fault.
+//! `read_straight_on_threads` before that: a text of 2 MiB and more is cut into stretches between
+//! two groups or two reports, and what is read of these is put together. What either gives is what
+//! `raw_shape` reads of the same bytes by their tree. Where neither gives anything, which is
+//! promised of no text, `fault_scan` looks for the first fault.
 #![tactic(auto)]
 
 mod cuts;

@@ -46,7 +46,8 @@ pub enum Member<'a> {
 }
 
 /// What stands in a document's text, in its order: its braces, its members, and of its two long
-/// lists the bracket that opens one, and items, behind which the list is closed or the stretch ends.
+/// lists the bracket that opens one, and items, behind which the list is closed or the stretch
+/// ends.
 #[derive(Drop)]
 pub enum Piece<'a> {
     Begin,
