@@ -13,6 +13,7 @@ The programs are crates/bwe/out/bwe and crates/bwe_live/out/bwe_live, or those t
 name.
 """
 
+import argparse
 import json
 import os
 import random
@@ -122,14 +123,15 @@ def agrees(text: bytes) -> bool:
 
 
 def main() -> int:
-    if sys.argv[1:] and not sys.argv[1].isdecimal():
-        print(__doc__.strip())
-        return 0
-    count = int(sys.argv[1]) if len(sys.argv) > 1 else COUNT
-    seed = int(sys.argv[2]) if len(sys.argv) > 2 else 0
-    texts = ((it, spelled(it)) for it in range(seed, seed + count))
+    parser = argparse.ArgumentParser(
+        description=__doc__, formatter_class=argparse.RawDescriptionHelpFormatter
+    )
+    parser.add_argument("count", type=int, nargs="?", default=COUNT, help="how many documents")
+    parser.add_argument("seed", type=int, nargs="?", default=0, help="the number of the first")
+    words = parser.parse_args()
+    texts = ((it, spelled(it)) for it in range(words.seed, words.seed + words.count))
     wrong = [it for it, text in texts if not agrees(text)]
-    print(f"{count} documents, {len(wrong)} answered otherwise", *wrong)
+    print(f"{words.count} documents, {len(wrong)} answered otherwise", *wrong)
     return 1 if wrong else 0
 
 
