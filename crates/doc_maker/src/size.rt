@@ -1,13 +1,18 @@
 //! What a document is made from, and what is drawn and named from that.
 
-ghost use Rattle.std.specs.Prelude.{◌≡◌, ◌∷◌, [], IfOk, string_bytes};
+ghost use Rattle.std.specs.Prelude.{◌≡◌, ◌∷◌, [], IfOk, IfSome, string_bytes};
 ghost use Rattle.json.specs.Token.{string};
 ghost use Rattle.doc_maker.specs.Made.{drawn, numbered as numbered_text};
 ghost use Rattle.doc_maker.specs.Writing.{Adds};
 
+use arrayvec::ArrayString;
+use itoa::Buffer;
 use json::Writer;
 use std::alloc::{AllocError, Global};
 use std::marker::Model;
+
+// As many bytes as a name that is put together on the stack may have.
+const SHORT: usize = 16;
 
 /// The three numbers of a made document, in their ranges.
 #[derive(Drop)]
@@ -75,13 +80,27 @@ pub(crate) fn write_numbered(
 ) -> Result<(), AllocError>
     ensures { Adds result out.old out.new (string (numbered_text letter.now number) ∷ []) }
 {
+    if let Some(name) = short_name(letter, number) {
+        return out.string(name.as_str());
+    }
     let name = numbered(alloc, letter, number)?;
     out.string(&name)
 }
 
-// A letter and a number.
+// A letter and a number, in memory of its own.
 fn numbered(alloc: Global, letter: &str, number: u32) -> Result<String, AllocError>
     ensures { IfOk result (λ name. string_bytes name ≡ numbered_text letter.now number) }
 {
     format!(in alloc; "{letter}{number}")
+}
+
+// The same without memory of its own, where it is short, as all names of a made document are.
+fn short_name(letter: &str, number: u32) -> Option<ArrayString<SHORT>>
+    ensures { IfSome result (λ name. name.bytes ≡ numbered_text letter.now number) }
+{
+    let mut digits = Buffer::new();
+    let mut name = ArrayString::new();
+    name.try_push_str(letter).ok()?;
+    name.try_push_str(digits.format(number)).ok()?;
+    Some(name)
 }

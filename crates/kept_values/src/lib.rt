@@ -104,16 +104,15 @@ impl<V: GroupValues, K: Meant> GroupValues for KeptValues<'_, V, K> {
         self.values.top()
     }
 
-    // A value of which no ceiling is told takes no search, and no longer than to look it up.
+    // A value of which no ceiling is told takes no search, so it is not kept.
     fn value(&self, group: u32, share: u64) -> u64 {
-        if self.values.ceiling(group, 0).is_none() {
-            return self.values.value(group, share);
-        }
         if let Some(value) = self.answer(group, share) {
             return value;
         }
         let value = self.values.value(group, share);
-        self.keep(group, share, value);
+        if self.values.ceiling(group, 0).is_some() {
+            self.keep(group, share, value);
+        }
         value
     }
 
