@@ -6,7 +6,7 @@ ghost use Rattle.bwe_specs.specs.declared.limits.TheConstants.{MAX_TOTAL};
 ghost use Rattle.doc_names.specs.NameTexts.{texts_of};
 ghost use Rattle.table_text.specs.TableText.{closed_text, closing_line, group_lines, place_line, text_of, value_line, with_limits};
 
-use crate::line::{end_with_number, name_of};
+use crate::line::{end_with_number, name_of, push_name, push_number};
 use bwe_specs::{Closing, OutOfMemory};
 use doc_names::Names;
 use limit_table::{GroupLine, LimitTable, PlaceLine, total_in};
@@ -55,9 +55,8 @@ fn push_closing(text: &mut String, names: &Names, closing: Closing) -> Result<()
         (string_bytes text.new
         ≡ string_bytes text.old ++ closing_line (texts_of names.now) closing) }
 {
-    let link = name_of(&names.links, closing.link);
-    let share = closing.share;
-    write!(text, "closing {link} at {share}\n")
+    push_name(text, "closing ", name_of(&names.links, closing.link))?;
+    end_with_number(text, " at ", closing.share)
 }
 
 /// Puts the lines of the closings at the end of the text.
@@ -91,9 +90,8 @@ pub fn push_value(
     ensures { OnOk result (string_bytes text.new ≡ string_bytes text.old
         ++ value_line word.now between.now (map string_bytes names.now) values.now number) }
 {
-    let name = name_of(names, number as u32);
-    let value = values[number];
-    write!(text, "{word}{name}{between}{value}\n")
+    push_name(text, word, name_of(names, number as u32))?;
+    end_with_number(text, between, values[number])
 }
 
 /// Puts such a line for each number at the end of the text.
@@ -123,8 +121,8 @@ fn push_closed(text: &mut String, names: &Names, closed: Option<u32>) -> Result<
 {
     match closed {
         Some(link) => {
-            let link = name_of(&names.links, link);
-            write!(text, " closed by {link}\n")
+            push_name(text, " closed by ", name_of(&names.links, link))?;
+            text.push_str("\n")
         }
         None => text.push_str(" open\n"),
     }
@@ -142,8 +140,8 @@ fn push_place(
         ≡ string_bytes text.old ++ place_line (texts_of names.now) lines.now place) }
 {
     let line = lines[place];
-    let amount = line.amount;
-    write!(text, "place {place} amount {amount}")?;
+    push_number(text, "place ", place as u64)?;
+    push_number(text, " amount ", line.amount)?;
     push_closed(text, names, line.closed)
 }
 
@@ -174,9 +172,9 @@ pub fn push_group(
         ≡ string_bytes text.old ++ group_lines (texts_of names.now) lines.now group) }
 {
     let line = &lines[group];
-    let name = name_of(&names.groups, group as u32);
-    let (share, amount) = (line.share, line.amount);
-    write!(text, "group {name} share {share} amount {amount}\n")?;
+    push_name(text, "group ", name_of(&names.groups, group as u32))?;
+    push_number(text, " share ", line.share)?;
+    end_with_number(text, " amount ", line.amount)?;
     push_places(text, names, &line.places)
 }
 
