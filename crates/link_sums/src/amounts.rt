@@ -1,28 +1,35 @@
-//! Amounts by group and place, kept in rows.
+//! Amounts by group and place, kept in one list.
 
 ghost use Rattle.std.specs.Prelude.{◌≡◌, ℕ, ◌+◌, ◌-◌, ◌<◌, ◌≤◌, length, slice_index, IfOk};
 ghost use Rattle.bwe_specs.specs.Paths.{path_group_count};
 ghost use Rattle.path_groups.specs.Plan.{IsPlan};
 ghost use Rattle.link_sums.specs.Sums.{amount_at, AreRowsOf, RaisesAmount, total_of};
+ghost use Rattle.link_sums.specs.Held.{AreFirstsOf};
 
 use bwe_specs::{MAX_TOTAL, OutOfMemory};
 use path_groups::PathPlan;
 use std::alloc::Global;
 use std::marker::Model;
 
-/// Amounts by group and place, in kilobits per second.
+/// Amounts by group and place, in kilobits per second. Contracts see a list for each group.
+///
+/// One list has the amounts of all groups, a second one where those of each group begin. So the
+/// amounts of neighbouring groups, which solvers read in turn, lie side by side in memory.
 #[derive(Drop)]
 pub(crate) struct Amounts {
-    rows: Vec<Vec<u64>>,
+    firsts: Vec<u32>,
+    amounts: Vec<u64>,
 }
 
 impl Model for Amounts {
     ghost use Rattle.std.specs.Prelude.{List, ℕ};
-    ghost use Rattle.bwe_specs.specs.Lists.{lists_of};
+    ghost use Rattle.link_sums.specs.Held.{rows_held, NeverFall};
 
     ghost Value = { List (List ℕ) };
 
-    ghost view = { λ amounts. lists_of amounts.rows.items };
+    ghost view = { λ held. rows_held held.firsts.items held.amounts.items };
+
+    ghost invariant = { λ held. NeverFall held.firsts.items };
 }
 
 impl Amounts {
@@ -33,12 +40,9 @@ impl Amounts {
         ensures none { IfOk result
             (λ amounts. (group place : ℕ) → amount_at amounts group place ≡ 0) }
     {
-        let mut rows = Vec::new(alloc);
-        for group in 0..plan.groups() {
-            let row = zeros(alloc, plan.places(group) as usize)?;
-            rows.push(row)?;
-        }
-        Ok(Amounts { rows })
+        let firsts = firsts_of(alloc, plan)?;
+        let amounts = zeros(alloc, firsts[plan.groups() as usize] as usize)?;
+        Ok(Amounts { firsts, amounts })
     }
 
     /// The amount at one place.
@@ -48,7 +52,7 @@ impl Amounts {
         requires place { place < path_group_count plan.now group }
         ensures { result ≡ amount_at self.now group place }
     {
-        self.rows[group as usize][place as usize]
+        self.amounts[entry_of(&self.firsts, group, place)]
     }
 
     /// Raises one amount.
@@ -60,8 +64,8 @@ impl Amounts {
         ensures rows { AreRowsOf plan.now self.new }
         ensures raised { RaisesAmount self.old self.new group place more }
     {
-        let row = &mut self.rows[group as usize];
-        row[place as usize] += more;
+        let entry = entry_of(&self.firsts, group, place);
+        self.amounts[entry] += more;
     }
 
     /// Lowers one amount.
@@ -73,8 +77,8 @@ impl Amounts {
         ensures rows { AreRowsOf plan.now self.new }
         ensures lowered { RaisesAmount self.new self.old group place less }
     {
-        let row = &mut self.rows[group as usize];
-        row[place as usize] -= less;
+        let entry = entry_of(&self.firsts, group, place);
+        self.amounts[entry] -= less;
     }
 }
 
@@ -84,4 +88,27 @@ pub(crate) fn zeros(alloc: Global, count: usize) -> Result<Vec<u64>, OutOfMemory
     ensures none { IfOk result (λ row. (place : ℕ) → slice_index row.items place ≡ 0) }
 {
     Ok(vec![in alloc; 0; count]?)
+}
+
+// Where the amounts of each group begin, and where those of the last one end.
+fn firsts_of(alloc: Global, plan: &PathPlan) -> Result<Vec<u32>, OutOfMemory>
+    ensures plan { IsPlan plan.now }
+    ensures firsts { IfOk result (λ firsts. AreFirstsOf plan.now firsts.items) }
+{
+    let mut firsts = Vec::with_capacity(alloc, plan.groups() as usize + 1)?;
+    let mut first = 0;
+    firsts.push(first)?;
+    for group in 0..plan.groups() {
+        first += plan.places(group);
+        firsts.push(first)?;
+    }
+    Ok(firsts)
+}
+
+// Which of all amounts is that of the group at the place.
+fn entry_of(firsts: &[u32], group: u32, place: u32) -> usize
+    requires { group < length firsts.now }
+    ensures { result ≡ slice_index firsts.now group + place }
+{
+    firsts[group as usize] as usize + place as usize
 }

@@ -1,28 +1,40 @@
-use Rattle.std.proofs.Common.{◌+◌, ◌∙◌, ap, arith}
-use Rattle.bwe_specs.proofs.Bounds.{sum_below-term}
-use Rattle.bwe_specs.specs.Bounded.{sum_below}
-use Rattle.bwe_specs.specs.Paths.{path_group_count}
-use Rattle.link_sums.specs.Sums.{amount_at}
-use Rattle.link_sums.proofs.Rows.{amount-before, amount-after, amount-others, rows-after}
+use Rattle.std.proofs.Common.{◌+◌, ap, length, arith}
+use Rattle.link_sums.proofs.Rows.{in_firsts, in_amounts, amount-before, amount-after, amount-others, rows-after}
+use Rattle.link_sums.proofs.Totals.{amount-le}
 use Rattle.link_sums.proofs.amounts.Amounts.raise.Goals as goal
+
+pub entry_of-entry-requires : goal.entry_of-entry-requires
+entry_of-entry-requires c =
+    omega (arith, ap length c.deref.ensures.value, in_firsts c.args.plan.now c.self.inside.firsts.items c.self.inside.amounts.items c.args.group c.args.place c.args.self.now c.self.view_is c.requires.rows c.requires.group c.requires.place)
+
+pub index_mut-requires : goal.index_mut-requires
+index_mut-requires c =
+    omega (
+      arith,
+      in_amounts c.args.plan.now c.self.inside.firsts.items c.self.inside.amounts.items c.args.group c.args.place c.args.self.now c.self.view_is c.requires.rows c.requires.group c.requires.place
+          c.entry_of-entry.result (rw c.deref.ensures.value at c.entry_of-entry.ensures),
+      c.self.inside.amounts.ok.0,
+    )
 
 pub overflow_add-index_mut : goal.overflow_add-index_mut
 overflow_add-index_mut c =
-    omega (
-      arith,
-      amount-before c.args.plan.now c.self.inside.rows.items c.index_mut-row.result.now c.args.group c.args.place c.index_mut.result.now (c.index_mut.result.now + c.args.more) c.args.self.now c.self.view_is c.requires.rows c.requires.group c.requires.place c.index_mut-row.ensures.value c.index_mut.ensures.value,
-      sum_below-term (path_group_count c.args.plan.now c.args.group) c.args.place (amount_at c.args.self.now c.args.group) c.requires.place,
-      sum_below-term _ c.args.group (λ group. sum_below (path_group_count c.args.plan.now group) (amount_at c.args.self.now group)) c.requires.group,
-      c.requires.total,
-    )
+    let was = amount-before c.args.plan.now c.self.inside.firsts.items c.self.inside.amounts.items c.args.group c.args.place c.args.self.now c.self.view_is c.requires.rows c.requires.group c.requires.place
+    c.entry_of-entry.result (rw c.deref.ensures.value at c.entry_of-entry.ensures) c.index_mut.result.now c.index_mut.ensures.value in
+    omega (arith, was, amount-le c.args.plan.now c.args.self.now c.args.group c.args.place c.requires.group c.requires.place, c.requires.total)
 
 pub returns-clause-rows : goal.returns-clause-rows
 returns-clause-rows c =
-    rows-after c.args.plan.now c.self.inside.rows.items c.index_mut-row.result.now c.args.group c.args.place c.index_mut.result.now (c.index_mut.result.now + c.args.more) c.args.self.now c.self.view_is c.requires.rows c.requires.group c.requires.place c.index_mut-row.ensures.value c.index_mut.ensures.value
+    rows-after c.args.plan.now c.self.inside.firsts.items c.self.inside.amounts.items c.args.group c.args.place c.args.self.now c.self.view_is c.requires.rows c.requires.group c.requires.place
+    c.entry_of-entry.result (rw c.deref.ensures.value at c.entry_of-entry.ensures) (c.index_mut.result.now + c.args.more)
 
 pub returns-clause-raised : goal.returns-clause-raised
-returns-clause-raised c = record {
-  raised = amount-after c.args.plan.now c.self.inside.rows.items c.index_mut-row.result.now c.args.group c.args.place c.index_mut.result.now (c.index_mut.result.now + c.args.more) c.args.self.now c.self.view_is c.requires.rows c.requires.group c.requires.place c.index_mut-row.ensures.value c.index_mut.ensures.value
-      ∙ ap (λ (n : _). n + c.args.more) (amount-before c.args.plan.now c.self.inside.rows.items c.index_mut-row.result.now c.args.group c.args.place c.index_mut.result.now (c.index_mut.result.now + c.args.more) c.args.self.now c.self.view_is c.requires.rows c.requires.group c.requires.place c.index_mut-row.ensures.value c.index_mut.ensures.value);
-  others = amount-others c.args.plan.now c.self.inside.rows.items c.index_mut-row.result.now c.args.group c.args.place c.index_mut.result.now (c.index_mut.result.now + c.args.more) c.args.self.now c.self.view_is c.requires.rows c.requires.group c.requires.place c.index_mut-row.ensures.value c.index_mut.ensures.value;
-}
+returns-clause-raised c =
+    let was = amount-before c.args.plan.now c.self.inside.firsts.items c.self.inside.amounts.items c.args.group c.args.place c.args.self.now c.self.view_is c.requires.rows c.requires.group c.requires.place
+    c.entry_of-entry.result (rw c.deref.ensures.value at c.entry_of-entry.ensures) c.index_mut.result.now c.index_mut.ensures.value in
+    let now = amount-after c.args.plan.now c.self.inside.firsts.items c.self.inside.amounts.items c.args.group c.args.place c.args.self.now c.self.view_is c.requires.rows c.requires.group c.requires.place
+    c.entry_of-entry.result (rw c.deref.ensures.value at c.entry_of-entry.ensures) (c.index_mut.result.now + c.args.more) in
+    record {
+      raised = omega (arith, now, was);
+      others = amount-others c.args.plan.now c.self.inside.firsts.items c.self.inside.amounts.items c.args.group c.args.place c.args.self.now c.self.view_is c.requires.rows c.requires.group c.requires.place
+          c.entry_of-entry.result (rw c.deref.ensures.value at c.entry_of-entry.ensures) c.self.invariant (c.index_mut.result.now + c.args.more);
+    }
