@@ -63,7 +63,7 @@ module _ (wan : Wan) (closings : List Closing) (added : ℕ → ℕ → ℕ) (li
       )
 
   -- one that does is a term more
-  pub follows-some : (count : ℕ) (terms : List Term) (term : Term) → IsTermOf wan closings added count term → Follows wan closings added link count terms → Follows wan closings added link (count + 1) (terms ++ term ∷ [])
+  pub follows-some : (count : ℕ) (terms : List Term) (term : Term) → IsTermOf wan closings added link count term → Follows wan closings added link count terms → Follows wan closings added link (count + 1) (terms ++ term ∷ [])
   follows-some count terms term is follows share after upto =
       let current = current_path_group_of wan closings count in
       let inside = (current-open (slice_index_or wan.groups count []) (closed_links closings) term.place is.grows).0 in

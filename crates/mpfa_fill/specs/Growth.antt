@@ -4,6 +4,7 @@ use Rattle.bwe_specs.specs.declared.network.Closing.{Closing}
 use Rattle.bwe_specs.specs.Paths.{path_group_at, load_on, link_load, uses}
 use Rattle.bwe_specs.specs.Filling.{Wan, current_path_group_of, is_at, stop_share}
 use Rattle.bwe_specs.specs.RightClosings.{last_share, amounts_at}
+use Rattle.path_groups.specs.Parts.{IsPartOn}
 use Rattle.link_sums.specs.Sums.{Sums, amount_at, IsSummedOver}
 use Rattle.mpfa_fill.specs.GroupValues.{Values, AreGroupValues, wan_of}
 use Rattle.mpfa_fill.specs.declared.standing.Standing.{Standing}
@@ -80,15 +81,17 @@ abbrev pub IsKnown : Wan → ℕ → Option ValueAt → Type 0
 IsKnown wan group (Some known) = known.value ≡ wan.value group known.share
 IsKnown wan group None = Unit {0}
 
--- the group grows over the link, so much of it was added there, and above this base it has its
--- value
-pub record IsTermOf (wan : Wan) (closings : List Closing) (added : ℕ → ℕ → ℕ) (group : ℕ)
+-- the group grows over the link, so much of it was added there, above this base it has its value,
+-- and by this part so much of the link's load is of what was added
+pub record IsTermOf (wan : Wan) (closings : List Closing) (added : ℕ → ℕ → ℕ) (link group : ℕ)
     (term : Term) : Type 0 where
   pub group_is : term.group ≡ group
   pub in_range : group < length wan.groups
   pub grows : current_path_group_of wan closings group ≡ Some term.place
   pub amount : term.amount ≡ added group term.place
   pub has : HasThere wan closings added group term.place term.value
+  pub part : IsPartOn (path_group_at wan.groups group term.place) link term.part
+  pub held : term.held ≡ load_on (path_group_at wan.groups group term.place) link term.amount
   pub known : IsKnown wan group term.known
 
 -- what amounts of the groups of the terms put on the link
@@ -100,7 +103,7 @@ terms_load wan link amounts terms =
 -- the link's load differs from that of what was added as those of the terms do
 pub record AreTermsOn (wan : Wan) (closings : List Closing) (added : ℕ → ℕ → ℕ) (link : ℕ)
     (terms : List Term) : Type 0 where
-  pub each : All (λ term. IsTermOf wan closings added term.group term) terms
+  pub each : All (λ term. IsTermOf wan closings added link term.group term) terms
   pub load : (share : ℕ) → last_share closings ≤ share → share ≤ wan.top
       → link_load wan.groups (amounts_at wan closings share) link + terms_load wan link added terms
       ≡ link_load wan.groups added link + terms_load wan link (amounts_at wan closings share) terms

@@ -1,11 +1,12 @@
 //! The groups of a filling, each as it was when it last came up to its value.
 
-ghost use Rattle.std.specs.Prelude.{◌≡◌, true, ℕ, ◌+◌, ◌-◌, ◌<◌, ◌≤◌, ◌∷◌, ◌++◌, [], length, map, reverse, set, slice_index, slice_index_or, IfOk, OnOk, IfSome, MatchOption, None};
+ghost use Rattle.std.specs.Prelude.{◌≡◌, true, false, ℕ, ◌+◌, ◌-◌, ◌<◌, ◌≤◌, ◌∷◌, ◌++◌, [], length, map, reverse, set, slice_index, slice_index_or, IfOk, OnOk, IfSome, MatchOption, None};
 ghost use Rattle.bwe_specs.specs.Reports.{numbers};
-ghost use Rattle.bwe_specs.specs.Paths.{path_group_at, path_group_count, current_path_group, load_on, link_load, lowest_over, is_over as is_link_over};
+ghost use Rattle.bwe_specs.specs.Paths.{path_group_at, path_group_count, uses, current_path_group, load_on, link_load, lowest_over, is_over as is_link_over};
 ghost use Rattle.bwe_specs.specs.Filling.{closed_links};
 ghost use Rattle.bwe_specs.specs.RightClosings.{last_share, amounts_at, over_at, AreRight};
 ghost use Rattle.path_groups.specs.Plan.{IsBuiltOn};
+ghost use Rattle.path_groups.specs.Parts.{IsPartOn, IsUseOf};
 ghost use Rattle.bwe_specs.specs.Lists.{lists_of};
 ghost use Rattle.link_sums.specs.Sums.{amount_at, IsSummedOver, total_of};
 ghost use Rattle.mpfa_fill.specs.GroupValues.{Values, AreGroupValues, wan_of};
@@ -15,6 +16,7 @@ ghost use Rattle.mpfa_fill.specs.LastFit.{is_over_at, GrowsNotOver, GrowsOver};
 ghost use Rattle.mpfa_fill.specs.Growth.{wan_in, closings_in, added_in, standing_at, IsUp, IsUpOver, KeepsParts, KeepsNetwork, IsGrowth, IsKnown, IsTermOf, AreTermsOn};
 ghost use Rattle.mpfa_fill.specs.Filling.{IsFilling};
 ghost use Rattle.mpfa_fill.specs.Told.{IsTold};
+ghost use Rattle.mpfa_fill.specs.declared.standing.Standing.TheVariants.{Grows};
 
 use crate::asked::Asked;
 use crate::closings::Closings;
@@ -23,7 +25,7 @@ use crate::steps::Filling;
 use crate::values::GroupValues;
 use bwe_specs::{Closing, MAX_TOTAL, OutOfMemory};
 use link_sums::LinkSums;
-use path_groups::PathPlan;
+use path_groups::{LinkPart, LinkUse, PathPlan};
 use std::alloc::Global;
 use wan_topology::Topology;
 
@@ -41,14 +43,17 @@ pub struct Growth<'a, V: GroupValues> {
     sums: LinkSums,
 }
 
-/// A group that grows over a link: where, how much was added there, and the value above which it
-/// has more. Its value at one share may be known, so that it is not asked for there.
+/// A group that grows over a link: where, how much was added there and what that puts on the link,
+/// and the value above which it has more. Its value at one share may be known, so that it is not
+/// asked for there.
 #[derive(Clone, Copy)]
 pub struct Term {
     group: u32,
     place: u32,
     amount: u64,
     value: u64,
+    part: LinkPart,
+    held: u64,
     known: Option<ValueAt>,
 }
 
@@ -269,43 +274,67 @@ impl<'a, V: GroupValues> Growth<'a, V> {
         ensures { MatchOption result
             (GrowsNotOver (wan_in V.meaning self.now) (closings_in self.now) link group)
             (IsTermOf (wan_in V.meaning self.now) (closings_in self.now) (added_in self.now)
-            group) }
+            link group) }
     {
         let Standing::Grows { place, value } = self.standings[group as usize] else {
             return None;
         };
-        if !self.plan.uses(group, place, link) {
-            return None;
-        }
-        let amount = self.sums.amount(self.plan, group, place);
-        Some(Term {
-            group,
-            place,
-            amount,
-            value,
-            known: None,
-        })
+        let part = self.plan.part(group, place, link)?;
+        Some(self.term(group, place, value, part, None))
     }
 
-    /// The same, where the group's value at one share is known.
-    pub fn term_with(&self, group: u32, link: u32, known: ValueAt) -> Option<Term>
+    /// The same, where the group's value at one share is known, and a path group of its that uses
+    /// the link. The plan is read only where the group grows on another that may use the link too.
+    pub fn term_of_use(
+        &self,
+        group: u32,
+        link: u32,
+        link_use: LinkUse,
+        known: ValueAt,
+    ) -> Option<Term>
         requires growth { IsGrowth V.meaning self.now }
         requires group { group < length self.now.plan.now }
+        requires used { IsUseOf self.now.plan.now link group link_use }
         requires known { known.value ≡ (wan_in V.meaning self.now).value group known.share }
         ensures { MatchOption result
             (GrowsNotOver (wan_in V.meaning self.now) (closings_in self.now) link group)
             (IsTermOf (wan_in V.meaning self.now) (closings_in self.now) (added_in self.now)
-            group) }
+            link group) }
     {
-        match self.term_of(group, link) {
-            Some(term) => Some(Term {
-                group: term.group,
-                place: term.place,
-                amount: term.amount,
-                value: term.value,
-                known: Some(known),
-            }),
-            None => None,
+        let Standing::Grows { place, value } = self.standings[group as usize] else {
+            return None;
+        };
+        let part = part_by_use(self.plan, group, place, link, link_use)?;
+        Some(self.term(group, place, value, part, Some(known)))
+    }
+
+    // The term of the group at the link of the part. The group grows on the path group, from this
+    // value on.
+    fn term(
+        &self,
+        group: u32,
+        place: u32,
+        value: u64,
+        part: LinkPart,
+        known: Option<ValueAt>,
+    ) -> Term
+        requires growth { IsGrowth V.meaning self.now }
+        requires group { group < length self.now.plan.now }
+        requires grows { standing_at self.now group ≡ Grows place value }
+        requires part { IsPartOn (path_group_at self.now.plan.now group place) part.link part }
+        requires known { IsKnown (wan_in V.meaning self.now) group known }
+        ensures { IsTermOf (wan_in V.meaning self.now) (closings_in self.now) (added_in self.now)
+            part.link group result }
+    {
+        let amount = self.sums.amount(self.plan, group, place);
+        Term {
+            group,
+            place,
+            amount,
+            value,
+            part,
+            held: part.load(amount),
+            known,
         }
     }
 
@@ -450,8 +479,8 @@ impl<'a, V: GroupValues> Growth<'a, V> {
         for term in terms {
             let (then, is_amount) = self.amount_by(*term, share, asked);
             is_exact = is_exact & is_amount;
-            held += self.plan.load(term.group, term.place, link, term.amount) as u128;
-            load += self.plan.load(term.group, term.place, link, then) as u128;
+            held += term.held as u128;
+            load += term.part.load(then) as u128;
         }
         (load.saturating_sub(held), is_exact)
     }
@@ -461,7 +490,7 @@ impl<'a, V: GroupValues> Growth<'a, V> {
     fn amount_by(&self, term: Term, share: u64, asked: Asked) -> (u64, bool)
         requires growth { IsGrowth V.meaning self.now }
         requires term { IsTermOf (wan_in V.meaning self.now) (closings_in self.now)
-            (added_in self.now) term.group term }
+            (added_in self.now) term.part.link term.group term }
         requires last { last_share (closings_in self.now) ≤ share }
         requires within { share ≤ (wan_in V.meaning self.now).top }
         ensures told { IsTold asked (amounts_at (wan_in V.meaning self.now) (closings_in self.now)
@@ -542,6 +571,30 @@ impl<'a, V: GroupValues> Growth<'a, V> {
             shares,
             loads: self.sums.into_loads(),
         })
+    }
+}
+
+// What the link carries of a path group of the group, if that uses the link. Of one of the group's
+// path groups it is known that it does.
+fn part_by_use(
+    plan: &PathPlan,
+    group: u32,
+    place: u32,
+    link: u32,
+    link_use: LinkUse,
+) -> Option<LinkPart>
+    requires group { group < length plan.now }
+    requires place { place < path_group_count plan.now group }
+    requires used { IsUseOf plan.now link group link_use }
+    ensures { MatchOption result (uses (path_group_at plan.now group place) link ≡ false)
+        (IsPartOn (path_group_at plan.now group place) link) }
+{
+    if place == link_use.place {
+        Some(link_use.part)
+    } else if link_use.is_only {
+        None
+    } else {
+        plan.part(group, place, link)
     }
 }
 

@@ -10,12 +10,12 @@ use Rattle.std.proofs.lemmas.List.Sums.{sum_by-le-sum_by}
 use Rattle.std.proofs.lemmas.Map.Keys.{IsDistinct-push}
 use Rattle.bwe_specs.specs.Paths.{PathGroup, goes_over, uses, weight_of, weight_over, load_on}
 use Rattle.bwe_specs.proofs.Lists.{sum_by-map}
-use Rattle.bwe_specs.proofs.Loads.{weight_over-le, load_on-unused}
+use Rattle.bwe_specs.proofs.Loads.{weight_over-le}
 use Rattle.std.specs.Int.{div_ceil}
 use Rattle.path_groups.specs.declared.given.PathSpec.{PathSpec}
 use Rattle.path_groups.specs.declared.part.LinkPart.{LinkPart}
 use Rattle.path_groups.specs.Given.{path_of, weight_on}
-use Rattle.path_groups.specs.Parts.{IsPart, IsPartOf, has_part, AreSomeParts, AreParts, HasPartToo}
+use Rattle.path_groups.specs.Parts.{IsPart, IsPartOf, IsPartOn, has_part, AreSomeParts, AreParts, HasPartToo}
 
 -- ---- the weights, over the paths as the code has them
 
@@ -162,6 +162,6 @@ pub IsPartOf-load : (path_group : PathGroup) (part : LinkPart) (amount : ℕ) �
 unfolding load_on
 IsPartOf-load path_group part amount is = ap₂ (λ weight whole. div_ceil (amount * weight) whole) is.weight is.whole
 
--- no load on a link without one
-pub AreParts-unused : (path_group : PathGroup) (parts : List LinkPart) (link amount : ℕ) → AreParts path_group parts → has_part parts link ≡ false → load_on path_group link amount ≡ 0
-AreParts-unused path_group parts link amount are none = load_on-unused path_group link amount (sym (AreParts-used path_group parts link are) ∙ none)
+-- the load on this link by its part
+pub IsPartOn-load : (path_group : PathGroup) (link amount : ℕ) (part : LinkPart) → IsPartOn path_group link part → div_ceil (amount * part.weight) part.whole ≡ load_on path_group link amount
+IsPartOn-load path_group link amount part is = IsPartOf-load path_group part amount is.of ∙ ap (λ l. load_on path_group l amount) is.on

@@ -1,6 +1,6 @@
 //! How the amount on a path group is split over its links.
 
-ghost use Rattle.std.specs.Prelude.{◌≡◌, ℕ, ◌+◌, ◌*◌, ◌^◌, ◌<◌, ◌≤◌, true, List, ◌∷◌, length, map, sum_by, IfOk};
+ghost use Rattle.std.specs.Prelude.{◌≡◌, ℕ, ◌+◌, ◌*◌, ◌^◌, ◌<◌, ◌≤◌, true, false, List, ◌∷◌, length, map, sum_by, Contains, IfOk, MatchOption};
 ghost use Rattle.std.specs.Int.{div_ceil};
 ghost use Rattle.bwe_specs.specs.Paths.{weight_of, weight_over, uses};
 ghost use Rattle.path_groups.specs.Given.{path_of, weight_on};
@@ -15,9 +15,9 @@ use std::alloc::{AllocError, Global};
 pub struct LinkPart {
     pub link: u32,
     /// The weights of the paths over the link, together.
-    pub weight: u64,
+    pub weight: u32,
     /// The weights of all paths of the path group, together.
-    pub whole: u64,
+    pub whole: u32,
 }
 
 impl LinkPart {
@@ -29,19 +29,33 @@ impl LinkPart {
         ensures load { result ≡ div_ceil (amount * self.now.weight) self.now.whole }
         ensures at_most { result ≤ amount }
     {
-        match amount.checked_mul(self.weight) {
-            Some(product) => product.div_ceil(self.whole),
+        if self.weight == self.whole {
+            return amount;
+        }
+        match amount.checked_mul(self.weight as u64) {
+            Some(product) => product.div_ceil(self.whole as u64),
             None => (amount as u128 * self.weight as u128).div_ceil(self.whole as u128) as u64,
         }
     }
 }
 
+/// A path group of a group that uses a link.
+#[derive(Clone, Copy)]
+pub struct LinkUse {
+    /// Which of the group's path groups it is.
+    pub place: u32,
+    /// What the link carries of it.
+    pub part: LinkPart,
+    /// Whether it is known that no other path group of the group uses the link.
+    pub is_only: bool,
+}
+
 /// The parts of the links of the paths, in the order in which the links come first.
 pub(crate) fn parts_of(alloc: Global, paths: &[PathSpec]) -> Result<Vec<LinkPart>, AllocError>
-    requires { sum_by (λ path. path.weight) paths.now < 2 ^ 64 }
+    requires { sum_by (λ path. path.weight) paths.now < 2 ^ 32 }
     ensures { IfOk result (λ parts. AreParts (map path_of paths.now) parts.items) }
 {
-    let whole = all_weights(paths);
+    let whole = all_weights(paths) as u32;
     // Mostly there is one path, which has no link twice.
     let mut parts = Vec::with_capacity(alloc, first_links(paths))?;
     for path in paths {
@@ -64,10 +78,10 @@ fn first_links(paths: &[PathSpec]) -> usize {
 fn with_part(
     parts: Vec<LinkPart>,
     paths: &[PathSpec],
-    whole: u64,
+    whole: u32,
     link: u32,
 ) -> Result<Vec<LinkPart>, AllocError>
-    requires weights { sum_by (λ path. path.weight) paths.now < 2 ^ 64 }
+    requires weights { sum_by (λ path. path.weight) paths.now < 2 ^ 32 }
     requires whole { whole ≡ sum_by (λ path. path.weight) paths.now }
     requires used { uses (map path_of paths.now) link ≡ true }
     ensures { IfOk result (λ more. HasPartToo (map path_of paths.now) parts.items more.items link) }
@@ -76,7 +90,7 @@ fn with_part(
         return Ok(parts);
     }
     let mut parts = parts;
-    let weight = weights_over(paths, link);
+    let weight = weights_over(paths, link) as u32;
     parts.push(LinkPart {
         link,
         weight,
@@ -90,6 +104,19 @@ pub(crate) fn has_part(parts: &[LinkPart], link: u32) -> bool
     ensures { result ≡ has_part_of parts.now link }
 {
     parts.iter().any(|part| part.link == link)
+}
+
+/// The part of the link, if one of the parts is the link's.
+pub(crate) fn part_on(parts: &[LinkPart], link: u32) -> Option<LinkPart>
+    ensures { MatchOption result (has_part_of parts.now link ≡ false)
+        (λ part. Contains parts.now part × (part.link ≡ link)) }
+{
+    for part in parts {
+        if part.link == link {
+            return Some(*part);
+        }
+    }
+    None
 }
 
 // The weights of all paths.

@@ -1,16 +1,16 @@
 //! A plan: the path groups of each group.
 
-ghost use Rattle.std.specs.Prelude.{◌≡◌, ℕ, ◌*◌, ◌<◌, ◌≤◌, List, length, map, All, IfOk, IfErr, OnOk, None, vec_len};
+ghost use Rattle.std.specs.Prelude.{◌≡◌, ℕ, ◌*◌, ◌<◌, ◌≤◌, List, false, length, map, All, IfOk, IfErr, OnOk, MatchOption, None, vec_len};
 ghost use Rattle.bwe_specs.specs.Paths.{path_group_at, path_group_count, load_on, uses, weight_of};
 ghost use Rattle.path_groups.specs.Given.{path_groups_of, AreInRange, path_group_of, groups_of};
 ghost use Rattle.path_groups.specs.Faults.{plan_fault, TellsFault};
 ghost use Rattle.path_groups.specs.Plan.{IsPlan, IsBuiltOn};
-ghost use Rattle.path_groups.specs.Parts.{IsPart, AreParts};
+ghost use Rattle.path_groups.specs.Parts.{IsPart, IsPartOn, AreParts};
 
 use crate::check::first_fault;
 use crate::fault::PathError;
 use crate::given::{GroupSpec, PathSpec};
-use crate::part::{LinkPart, has_part, parts_of};
+use crate::part::{LinkPart, has_part, part_on, parts_of};
 use bwe_specs::{MAX_GROUPS, MAX_PATHS, MAX_TOTAL, MAX_WEIGHT};
 use std::alloc::{AllocError, Global};
 use std::marker::Model;
@@ -116,6 +116,16 @@ impl PathPlan {
         &self.groups[group as usize][place as usize].parts
     }
 
+    /// What the link carries of an amount on the path group, if a path of that goes over it.
+    pub fn part(&self, group: u32, place: u32, link: u32) -> Option<LinkPart>
+        requires group { group < length self.now }
+        requires place { place < path_group_count self.now group }
+        ensures part { MatchOption result (uses (path_group_at self.now group place) link ≡ false)
+            (IsPartOn (path_group_at self.now group place) link) }
+    {
+        part_on(self.parts(group, place), link)
+    }
+
     /// The load that the amount on the path group puts on the link ("Load rule",
     /// docs/DEFINITIONS.md). Kilobits per second.
     pub fn load(&self, group: u32, place: u32, link: u32, amount: u64) -> u64
@@ -125,12 +135,10 @@ impl PathPlan {
         ensures load { result ≡ load_on (path_group_at self.now group place) link amount }
         ensures at_most { result ≤ amount }
     {
-        for part in self.parts(group, place) {
-            if part.link == link {
-                return part.load(amount);
-            }
+        match self.part(group, place, link) {
+            Some(part) => part.load(amount),
+            None => 0,
         }
-        0
     }
 
     // The path groups of one group, with their parts.

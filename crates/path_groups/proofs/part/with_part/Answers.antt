@@ -7,6 +7,9 @@ use Rattle.path_groups.proofs.part.with_part.Goals as goal
 pub weights_over-weight-requires : goal.weights_over-weight-requires
 weights_over-weight-requires c = omega (arith, c.requires.weights, weights_over-le c.args.paths.now c.args.link)
 
+pub overflow_cast-weight : goal.overflow_cast-weight
+overflow_cast-weight c = omega (arith, c.requires.weights, c.weights_over-weight.ensures, weights_over-le c.args.paths.now c.args.link)
+
 pub returns-then-has_part : goal.returns-then-has_part
 returns-then-has_part c =
     HasPartToo-there (map path_of c.args.paths.now) c.args.parts.items c.args.link

@@ -7,16 +7,8 @@ use Rattle.mpfa_fill.proofs.StandingLemmas.{standing-read}
 use Rattle.mpfa_fill.specs.Growth.{wan_in, closings_in, added_in, IsHeld}
 use Rattle.mpfa_fill.proofs.growth.Growth.term_of.Goals as goal
 
-pub uses-requires-clause-place : goal.uses-requires-clause-place
-uses-requires-clause-place g c =
-    let wan : Wan = wan_in g.V.GroupValues.meaning c.args.self.now in
-    let closings : List Closing = closings_in c.args.self.now in
-    let held = standing-read (IsHeld wan closings (added_in c.args.self.now) c.args.group) c.args.self.now.standings.items c.args.group _ c.index.result.now (Grows c.in-Grows.place c.in-Grows.value)
-    (omega (arith, c.requires.group, c.requires.growth.each_group)) c.index.ensures c.in-Grows.is (c.requires.growth.each c.args.group c.requires.group) in
-    (current-open _ (closed_links closings) c.in-Grows.place held.0).0
-
-pub amount-amount-requires-clause-place : goal.amount-amount-requires-clause-place
-amount-amount-requires-clause-place g c =
+pub part-requires-clause-place : goal.part-requires-clause-place
+part-requires-clause-place g c =
     let wan : Wan = wan_in g.V.GroupValues.meaning c.args.self.now in
     let closings : List Closing = closings_in c.args.self.now in
     let held = standing-read (IsHeld wan closings (added_in c.args.self.now) c.args.group) c.args.self.now.standings.items c.args.group _ c.index.result.now (Grows c.in-Grows.place c.in-Grows.value)

@@ -14,7 +14,7 @@ loop-group-init g c =
     let wan : Wan = wan_in g.V.GroupValues.meaning c.args.self.now in
     let closings : List Closing = closings_in c.args.self.now.growth in
     let added : ℕ → ℕ → ℕ = added_in c.args.self.now.growth in
-    subst (λ (terms : List Term). record { each : All (λ term. IsTermOf wan closings added term.group term) terms; follows : Follows wan closings added c.args.link 0 terms }) (sym c.new-terms.ensures.items)
+    subst (λ (terms : List Term). record { each : All (λ term. IsTermOf wan closings added c.args.link term.group term) terms; follows : Follows wan closings added c.args.link 0 terms }) (sym c.new-terms.ensures.items)
     (record {
       each = λ k d lt. absurd (omega arith);
       follows = follows-start wan closings added c.args.link c.requires.moment.growth.elsewhere;
@@ -31,15 +31,15 @@ loop-group-preserved g c =
     elim c.match-term_of.branch [
       | in-Some+in_ok-push w ↦
           let items : c.match-term_of.terms.items ≡ c.loop-group.terms.items ++ w.in-Some.term ∷ [] = ap (λ terms. terms.items) w.terms-is ∙ w.in_ok-push.ensures.items in
-          let is : IsTermOf wan closings added group w.in-Some.term = w.in-Some.ensures in
-          subst (λ (terms : List Term). record { each : All (λ term. IsTermOf wan closings added term.group term) terms; follows : Follows wan closings added c.args.link (group + 1) terms }) (sym items)
+          let is : IsTermOf wan closings added c.args.link group w.in-Some.term = w.in-Some.ensures in
+          subst (λ (terms : List Term). record { each : All (λ term. IsTermOf wan closings added c.args.link term.group term) terms; follows : Follows wan closings added c.args.link (group + 1) terms }) (sym items)
           (record {
-            each = All-push (λ term. IsTermOf wan closings added term.group term) c.loop-group.terms.items w.in-Some.term i.each
-                (subst (λ group. IsTermOf wan closings added group w.in-Some.term) (sym is.group_is) is);
+            each = All-push (λ term. IsTermOf wan closings added c.args.link term.group term) c.loop-group.terms.items w.in-Some.term i.each
+                (subst (λ group. IsTermOf wan closings added c.args.link group w.in-Some.term) (sym is.group_is) is);
             follows = follows-some wan closings added c.args.link elsewhere group c.loop-group.terms.items w.in-Some.term is i.follows;
           })
       | in_default w ↦
-          subst (λ (terms : List Term). record { each : All (λ term. IsTermOf wan closings added term.group term) terms; follows : Follows wan closings added c.args.link (group + 1) terms }) (sym (ap (λ terms. terms.items) w.terms-is))
+          subst (λ (terms : List Term). record { each : All (λ term. IsTermOf wan closings added c.args.link term.group term) terms; follows : Follows wan closings added c.args.link (group + 1) terms }) (sym (ap (λ terms. terms.items) w.terms-is))
           (record {
             each = i.each;
             follows = follows-none wan closings added c.args.link elsewhere group c.loop-group.terms.items w.in_default.ensures i.follows;

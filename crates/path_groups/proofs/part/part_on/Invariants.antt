@@ -1,7 +1,7 @@
 use Rattle.std.proofs.Common.{◌≡◌, false, take}
 use Rattle.path_groups.specs.Parts.{has_part}
-use Rattle.path_groups.proofs.plan.PathPlan.load.Given as goal
+use Rattle.path_groups.proofs.part.part_on.Given as goal
 
 -- no part before is the link's
 abbrev pub invariant-loop-part : goal.invariant-loop-part
-invariant-loop-part l = has_part (take l.part-index l.part-items) l.link ≡ false
+invariant-loop-part l = has_part (take l.part-index l.parts) l.link ≡ false
