@@ -129,7 +129,7 @@ fn numbered(alloc: Global, first: u32, limits: &[u64]) -> Result<Vec<TaskLimit>,
     ensures tasks { IfOk result (λ entries.
         tasks_in entries.items ≡ range_with_len first (length limits.now)) }
 {
-    let mut entries = Vec::new(alloc);
+    let mut entries = Vec::with_capacity(alloc, limits.len())?;
     let mut task = first;
     for limit in limits {
         entries.push(TaskLimit {
