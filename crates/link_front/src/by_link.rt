@@ -1,22 +1,29 @@
 //! The groups of each link.
 
-ghost use Rattle.std.specs.Prelude.{◌≡◌, ℕ, ◌+◌, ◌<◌, [], true, All, Contains, length, IfOk, OnOk};
-ghost use Rattle.bwe_specs.specs.Paths.{path_group_at, uses};
+ghost use Rattle.std.specs.Prelude.{◌≡◌, ℕ, ◌+◌, ◌<◌, true, List, length, IfOk, OnOk};
+ghost use Rattle.bwe_specs.specs.Paths.{PathGroups, path_group_at, path_group_count, uses};
 ghost use Rattle.path_groups.specs.Plan.{IsBuiltOn};
-ghost use Rattle.path_groups.specs.Parts.{has_part};
-ghost use Rattle.link_front.specs.ByLink.{list_on, AreAscending, AreGroupsOn, AreListed, ListsMore};
+ghost use Rattle.path_groups.specs.Parts.{IsPartOn};
+ghost use Rattle.link_front.specs.ByLink.{nothing, listed_of, listed_on, AreGroupsOn, AreUsesOn, AreListed, IsListedTo, AreListedTo};
 
 use bwe_specs::OutOfMemory;
-use path_groups::{LinkPart, PathPlan};
+use path_groups::{LinkPart, LinkUse, PathPlan};
 use std::alloc::Global;
 use std::marker::Model;
 use wan_topology::Topology;
+
+/// The groups that use a link on one of their path groups, and of each the first of these.
+#[derive(Drop)]
+struct LinkGroups {
+    groups: Vec<u32>,
+    uses: Vec<LinkUse>,
+}
 
 /// The path groups of a plan, and for each link the groups that use it on one of theirs.
 #[derive(Drop)]
 pub struct GroupsByLink<'a> {
     plan: &'a PathPlan,
-    lists: Vec<Vec<u32>>,
+    lists: Vec<LinkGroups>,
 }
 
 impl<'a> Model for GroupsByLink<'a> {
@@ -58,30 +65,41 @@ impl<'a> GroupsByLink<'a> {
     pub fn on(&self, link: u32) -> &[u32]
         ensures { AreGroupsOn self.now link result.now }
     {
+        self.uses_on(link).0
+    }
+
+    /// The same, and of each of these groups, in the same order, a path group that uses the link.
+    pub fn uses_on(&self, link: u32) -> (&[u32], &[LinkUse])
+        ensures groups { AreGroupsOn self.now link result.0.now }
+        ensures uses { AreUsesOn self.now link result.0.now result.1.now }
+    {
         match self.lists.get(link as usize) {
-            Some(list) => list,
-            None => &[],
+            Some(list) => (&list.groups, &list.uses),
+            None => (&[], &[]),
         }
     }
 }
 
 // So many lists with nothing in them.
-fn empty_lists(alloc: Global, count: u32) -> Result<Vec<Vec<u32>>, OutOfMemory>
+fn empty_lists(alloc: Global, count: u32) -> Result<Vec<LinkGroups>, OutOfMemory>
     ensures count { IfOk result (λ lists. length lists.items ≡ count) }
-    ensures empty { IfOk result (λ lists. (link : ℕ) → list_on lists.items link ≡ []) }
+    ensures empty { IfOk result (λ lists. (link : ℕ) → listed_on lists.items link ≡ nothing) }
 {
     let mut lists = Vec::new(alloc);
     for _ in 0..count {
-        lists.push(Vec::new(alloc))?;
+        lists.push(LinkGroups {
+            groups: Vec::new(alloc),
+            uses: Vec::new(alloc),
+        })?;
     }
     Ok(lists)
 }
 
 // Lists each group at the links of its path groups.
-fn list_groups(lists: &mut [Vec<u32>], plan: &PathPlan) -> Result<(), OutOfMemory>
+fn list_groups(lists: &mut [LinkGroups], plan: &PathPlan) -> Result<(), OutOfMemory>
     requires links { (group place link : ℕ) → uses (path_group_at plan.now group place) link ≡ true
         → link < length lists.old }
-    requires empty { (link : ℕ) → list_on lists.old link ≡ [] }
+    requires empty { (link : ℕ) → listed_on lists.old link ≡ nothing }
     ensures { OnOk result (AreListed plan.now lists.new) }
 {
     for group in 0..plan.groups() {
@@ -90,50 +108,66 @@ fn list_groups(lists: &mut [Vec<u32>], plan: &PathPlan) -> Result<(), OutOfMemor
     Ok(())
 }
 
-// Lists a group, where those that are listed are lower.
-fn list_group(lists: &mut [Vec<u32>], plan: &PathPlan, group: u32) -> Result<(), OutOfMemory>
+// Lists a group, after those below it.
+fn list_group(lists: &mut [LinkGroups], plan: &PathPlan, group: u32) -> Result<(), OutOfMemory>
     requires group { group < length plan.now }
     requires links { (place link : ℕ) → uses (path_group_at plan.now group place) link ≡ true
         → link < length lists.old }
-    requires ascending { (link : ℕ) → AreAscending (list_on lists.old link) group }
-    ensures more { OnOk result (ListsMore group lists.old lists.new) }
-    ensures listed { OnOk result
-        ((place link : ℕ) → uses (path_group_at plan.now group place) link ≡ true
-        → Contains (list_on lists.new link) group) }
+    requires before { AreListedTo plan.now group 0 lists.old }
+    ensures each_link { OnOk result (length lists.new ≡ length lists.old) }
+    ensures after { OnOk result (AreListedTo plan.now (group + 1) 0 lists.new) }
 {
     for place in 0..plan.places(group) {
-        list_at(lists, plan.parts(group, place), group)?;
+        list_place(lists, plan, group, place)?;
     }
     Ok(())
 }
 
-// Lists a group at the links of these parts, where those that are listed are no higher.
-fn list_at(lists: &mut [Vec<u32>], parts: &[LinkPart], group: u32) -> Result<(), OutOfMemory>
-    requires links { All (λ part. part.link < length lists.old) parts.now }
-    requires ascending { (link : ℕ) → AreAscending (list_on lists.old link) (group + 1) }
-    ensures more { OnOk result (ListsMore group lists.old lists.new) }
-    ensures listed { OnOk result
-        ((link : ℕ) → has_part parts.now link ≡ true → Contains (list_on lists.new link) group) }
+// Lists a group at the links of a path group, after those below that.
+fn list_place(
+    lists: &mut [LinkGroups],
+    plan: &PathPlan,
+    group: u32,
+    place: u32,
+) -> Result<(), OutOfMemory>
+    requires group { group < length plan.now }
+    requires place { place < path_group_count plan.now group }
+    requires links { (link : ℕ) → uses (path_group_at plan.now group place) link ≡ true
+        → link < length lists.old }
+    requires before { AreListedTo plan.now group place lists.old }
+    ensures each_link { OnOk result (length lists.new ≡ length lists.old) }
+    ensures after { OnOk result (AreListedTo plan.now group (place + 1) lists.new) }
 {
-    for part in parts {
-        list_once(&mut lists[part.link as usize], group)?;
+    for part in plan.parts(group, place) {
+        list_once(&mut lists[part.link as usize], group, place, *part)?;
     }
     Ok(())
 }
 
-// Lists the group, unless it is the last that is listed.
-fn list_once(list: &mut Vec<u32>, group: u32) -> Result<(), OutOfMemory>
-    requires { AreAscending list.old.items (group + 1) }
-    ensures ascending { OnOk result (AreAscending list.new.items (group + 1)) }
-    ensures keeps { OnOk result
-        ((other : ℕ) → Contains list.old.items other → Contains list.new.items other) }
-    ensures listed { OnOk result (Contains list.new.items group) }
+// Lists the group with this path group of its, which uses the link of the list. Where it is listed
+// with an earlier one, that is not the only one.
+fn list_once(
+    list: &mut LinkGroups,
+    group: u32,
+    place: u32,
+    part: LinkPart,
+) -> Result<(), OutOfMemory>
+    ensures { (groups : List PathGroups) (link : ℕ)
+        → IsPartOn (path_group_at groups group place) link part
+        → IsListedTo groups link group place (listed_of list.old)
+        → OnOk result (IsListedTo groups link group (place + 1) (listed_of list.new)) }
 {
-    if let Some(last) = list.last()
-        && *last == group
-    {
+    if list.groups.last() == Some(&group) {
+        if let Some(last) = list.uses.last_mut() {
+            last.is_only = false;
+        }
         return Ok(());
     }
-    list.push(group)?;
+    list.groups.push(group)?;
+    list.uses.push(LinkUse {
+        place,
+        part,
+        is_only: true,
+    })?;
     Ok(())
 }

@@ -107,10 +107,11 @@ impl<'a, V: GroupValues> Front<'a, V> {
             (λ terms. AreTermsOn (wan_in V.meaning self.now) (closings_in self.now)
             (added_in self.now) link terms.items) }
     {
+        let (groups, uses) = self.by_link.uses_on(link);
         let mut terms = Vec::new(alloc);
-        for group in self.by_link.on(link) {
+        for (at, group) in groups.iter().enumerate() {
             let value = known[*group as usize];
-            if let Some(term) = self.growth.term_with(*group, link, value) {
+            if let Some(term) = self.growth.term_of_use(*group, link, uses[at], value) {
                 terms.push(term)?;
             }
         }
