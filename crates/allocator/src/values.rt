@@ -26,10 +26,6 @@ impl GroupValues for TreeValues<'_> {
         self.tree.group_value(group, share)
     }
 
-    fn at_hand(&self, _group: u32, _share: u64) -> Option<u64> {
-        None
-    }
-
     fn ceiling(&self, group: u32, share: u64) -> Option<u64> {
         self.tree.group_ceiling(group, share)
     }

@@ -101,10 +101,6 @@ impl<K: Meant> GroupValues for KnownValues<'_, K> {
         value
     }
 
-    fn at_hand(&self, group: u32, share: u64) -> Option<u64> {
-        self.known[group as usize].value(share)
-    }
-
     // Values never fall, so one that is kept at a higher share is a ceiling.
     fn ceiling(&self, group: u32, share: u64) -> Option<u64> {
         self.tree.what_holds();
@@ -116,6 +112,9 @@ impl<K: Meant> GroupValues for KnownValues<'_, K> {
     }
 
     fn floor(&self, group: u32, share: u64, most: u64) -> Option<u64> {
+        if let Some(value) = self.known[group as usize].value(share) {
+            return Some(value);
+        }
         self.tree.group_floor(group, share, most)
     }
 

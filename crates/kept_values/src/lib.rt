@@ -116,11 +116,6 @@ impl<V: GroupValues, K: Meant> GroupValues for KeptValues<'_, V, K> {
         value
     }
 
-    // To look a value up that is mostly not kept takes longer than to tell a ceiling.
-    fn at_hand(&self, group: u32, share: u64) -> Option<u64> {
-        self.values.at_hand(group, share)
-    }
-
     fn ceiling(&self, group: u32, share: u64) -> Option<u64> {
         self.values.ceiling(group, share)
     }

@@ -505,8 +505,7 @@ impl<'a, V: GroupValues> Growth<'a, V> {
     }
 
     // The value of the group of the term at the share, as is asked, and no more than at the top. It
-    // is asked for unless it is known or at hand, or few steps tell a ceiling or a floor where that
-    // will do.
+    // is asked for unless it is known, or few steps tell a ceiling or a floor where that will do.
     // And whether it is the value itself.
     fn value_by(&self, term: Term, share: u64, asked: Asked) -> (u64, bool)
         requires growth { IsGrowth V.meaning self.now }
@@ -527,9 +526,6 @@ impl<'a, V: GroupValues> Growth<'a, V> {
         }
         if known.share != self.values.top() {
             return (self.values.value(term.group, share), true);
-        }
-        if let Some(value) = self.values.at_hand(term.group, share) {
-            return (value, true);
         }
         if self.values.is_full(term.group, share, known.value) {
             return (known.value, true);

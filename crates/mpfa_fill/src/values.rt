@@ -27,12 +27,6 @@ pub trait GroupValues {
         requires share { share ≤ (meaning self.now).top }
         ensures { result ≡ (meaning self.now).value group share };
 
-    /// The group's value at the share, where it is at hand: told in fewer steps than a ceiling is.
-    fn at_hand(&self, group: u32, share: u64) -> Option<u64>
-        requires group { group < (meaning self.now).groups }
-        requires share { share ≤ (meaning self.now).top }
-        ensures { IfSome result (λ value. value ≡ (meaning self.now).value group share) };
-
     /// No less than the group's value at the share, where that is told in fewer steps than the value
     /// itself.
     fn ceiling(&self, group: u32, share: u64) -> Option<u64>

@@ -69,10 +69,6 @@ impl GroupValues for Slopes {
         value_at(self.slopes[group as usize], share)
     }
 
-    fn at_hand(&self, _group: u32, _share: u64) -> Option<u64> {
-        None
-    }
-
     fn ceiling(&self, _group: u32, _share: u64) -> Option<u64> {
         None
     }

@@ -35,10 +35,6 @@ impl GroupValues for TierValues<'_> {
         }
     }
 
-    fn at_hand(&self, _group: u32, _share: u64) -> Option<u64> {
-        None
-    }
-
     fn ceiling(&self, group: u32, share: u64) -> Option<u64> {
         if is_in_tier(self.tiers, self.tier, group) {
             self.tree.group_ceiling(group, share)

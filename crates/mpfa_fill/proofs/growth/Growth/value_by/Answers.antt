@@ -37,8 +37,3 @@ pub returns-in-None-clause-most : goal.returns-in-None-clause-most
 returns-in-None-clause-most g c =
     let wan : Wan = wan_in g.V.GroupValues.meaning c.args.self.now in
     omega (arith, c.value-in-None.ensures, value-mono wan (never_falls _ _ _ c.requires.growth.known) c.args.term.group c.args.share wan.top c.requires.within (le_refl wan.top))
-
-pub returns-in-Some-at_hand-clause-most : goal.returns-in-Some-at_hand-clause-most
-returns-in-Some-at_hand-clause-most g c =
-    let wan : Wan = wan_in g.V.GroupValues.meaning c.args.self.now in
-    omega (arith, c.in-Some-at_hand.ensures, value-mono wan (never_falls _ _ _ c.requires.growth.known) c.args.term.group c.args.share wan.top c.requires.within (le_refl wan.top))
