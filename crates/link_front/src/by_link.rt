@@ -19,6 +19,13 @@ struct LinkGroups {
     uses: Vec<LinkUse>,
 }
 
+// How many groups were counted at a link, and the last of them.
+#[derive(Clone, Copy)]
+struct Count {
+    groups: u32,
+    last: Option<u32>,
+}
+
 /// The path groups of a plan, and for each link the groups that use it on one of theirs.
 #[derive(Drop)]
 pub struct GroupsByLink<'a> {
@@ -40,7 +47,7 @@ impl<'a> Model for GroupsByLink<'a> {
 
 impl<'a> GroupsByLink<'a> {
     /// The groups of the plan, by the links of the topology on which it was built. It walks all
-    /// paths once.
+    /// paths twice: the lists take the room that they need.
     pub fn of(
         alloc: Global,
         topology: &Topology,
@@ -49,7 +56,8 @@ impl<'a> GroupsByLink<'a> {
         requires { IsBuiltOn topology.now plan.now }
         ensures { IfOk result (λ by_link. by_link ≡ plan.now) }
     {
-        let mut lists = empty_lists(alloc, topology.links())?;
+        let counts = counts_of(alloc, topology.links(), plan)?;
+        let mut lists = empty_lists(alloc, &counts)?;
         list_groups(&mut lists, plan)?;
         Ok(GroupsByLink { plan, lists })
     }
@@ -80,16 +88,48 @@ impl<'a> GroupsByLink<'a> {
     }
 }
 
-// So many lists with nothing in them.
-fn empty_lists(alloc: Global, count: u32) -> Result<Vec<LinkGroups>, OutOfMemory>
-    ensures count { IfOk result (λ lists. length lists.items ≡ count) }
+// How many groups use each link.
+fn counts_of(alloc: Global, links: u32, plan: &PathPlan) -> Result<Vec<Count>, OutOfMemory>
+    ensures { IfOk result (λ counts. length counts.items ≡ links) }
+{
+    let none = Count {
+        groups: 0,
+        last: None,
+    };
+    let mut counts = vec![in alloc; none; links as usize]?;
+    for group in 0..plan.groups() {
+        for place in 0..plan.places(group) {
+            count_parts(&mut counts, plan.parts(group, place), group);
+        }
+    }
+    Ok(counts)
+}
+
+// Counts a group at the links of a path group, at each once.
+fn count_parts(counts: &mut [Count], parts: &[LinkPart], group: u32)
+    ensures { length counts.new ≡ length counts.old }
+{
+    for part in parts {
+        if let Some(count) = counts.get_mut(part.link as usize)
+            && count.last != Some(group)
+        {
+            count.groups = count.groups.saturating_add(1);
+            count.last = Some(group);
+        }
+    }
+}
+
+// A list with nothing in it for each link, with room for as many groups as were counted.
+fn empty_lists(alloc: Global, counts: &[Count]) -> Result<Vec<LinkGroups>, OutOfMemory>
+    ensures count { IfOk result (λ lists. length lists.items ≡ length counts.now) }
     ensures empty { IfOk result (λ lists. (link : ℕ) → listed_on lists.items link ≡ nothing) }
 {
-    let mut lists = Vec::new(alloc);
-    for _ in 0..count {
+    let mut lists = Vec::with_capacity(alloc, counts.len())?;
+    for count in counts {
+        let room = count.groups as usize;
         lists.push(LinkGroups {
-            groups: Vec::new(alloc),
-            uses: Vec::new(alloc),
+            groups: Vec::with_capacity(alloc, room)?,
+            uses: Vec::with_capacity(alloc, room)?,
         })?;
     }
     Ok(lists)
