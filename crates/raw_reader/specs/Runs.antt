@@ -30,4 +30,5 @@ AreRunsRead (run ∷ runs) (r ∷ rs) = IsRunRead run r × AreRunsRead runs rs
 
 -- all runs were read, and these are the pieces of their stretches
 abbrev pub AreAllPieces : List (Option (Vec (Vec Piece))) → List (Vec Piece) → Type 0
-AreAllPieces found all = (parts : List (Vec (Vec Piece))) × (found ≡ map Some parts) × (all ≡ pieces_in parts)
+AreAllPieces found all =
+    (parts : List (Vec (Vec Piece))) × (found ≡ map Some parts) × (all ≡ pieces_in parts)
