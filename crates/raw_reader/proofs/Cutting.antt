@@ -1,5 +1,5 @@
 -- The stretches of a text, and what was read of them.
-use Rattle.std.proofs.Common.{◌≡◌, ℕ, suc, ◌<◌, arith, length, slice_index_or, Bool, true, false, List, [], ◌∷◌, ◌++◌, map, Option, Some, refl, sym, ap, ◌∙◌, subst}
+use Rattle.std.proofs.Common.{◌≡◌, ℕ, Bool, true, false, List, [], ◌∷◌, ◌++◌, map, Some, refl, sym, ap, ◌∙◌, subst}
 use Rattle.std.proofs.lemmas.List.{append-nil}
 use Rattle.std.specs.Global.{Vec}
 use Rattle.json.specs.Token.{Token, begin_object}
@@ -87,12 +87,3 @@ all_behind version text s (t ∷ ss) (ps ∷ more) are read =
 pub all_taken : (version : ℕ) (text : List ℕ) (ss : List Stretch) (all : List (Vec Piece)) → AreStretches version text ss → AreRead ss (map Some all) → AllTake version all (tokens text)
 all_taken version text [] all are read = absurd are
 all_taken version text (s ∷ ss) all are read = (all_behind version text s ss all are.1 read).0
-
--- ---- what threads gave is what was read of the stretches
-
-pub are_read : (ss : List Stretch) (rs : List (Option (Vec Piece))) → length rs ≡ length ss
-    → ((i : ℕ) (s : Stretch) (r : Option (Vec Piece)) → i < length ss → IsRead (slice_index_or ss i s) (slice_index_or rs i r)) → AreRead ss rs
-are_read [] [] same each = tt
-are_read [] (r ∷ rs) same each = absurd cc
-are_read (s ∷ ss) [] same each = absurd cc
-are_read (s ∷ ss) (r ∷ rs) same each = (each 0 s r (omega arith), are_read ss rs (omega (arith, same)) (λ i t q lt. each (suc i) t q (omega (arith, lt))))

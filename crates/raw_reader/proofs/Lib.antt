@@ -4,6 +4,7 @@ pub mod Lists
 pub mod Shapes
 pub mod Frames
 pub mod Cutting
+pub mod Running
 pub mod Putting
 pub mod Joining
 pub mod Taking

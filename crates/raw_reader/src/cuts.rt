@@ -7,15 +7,17 @@ ghost use Rattle.std.specs.Prelude.{IfSome, IsTrue};
 ghost use Rattle.raw_reader.specs.Stretches.{IsCut, IsInList, AreStretches};
 
 use crate::pieces::{Place, Stretch};
-use json::Scratch;
 use memchr::{memchr, memmem};
 use std::alloc::Global;
 
-/// Into how many stretches a text is cut at most.
-pub const MOST_STRETCHES: usize = 4;
-
 // A text of fewer bytes is not cut: its threads would cost what they save.
-const FEW_BYTES: usize = 2_097_152;
+const FEW_BYTES: usize = 262_144;
+
+// About how long a stretch is, and so the scratch that it is read over.
+const STRETCH_BYTES: usize = 131_072;
+
+// Into how many stretches a text is cut at least, where its lists can be cut so often.
+const LEAST_STRETCHES: usize = 4;
 
 // How many ends of objects are looked at for one cut.
 const MOST_TRIES: usize = 1024;
@@ -105,9 +107,17 @@ fn cuts_of(alloc: Global, text: &[u8]) -> Option<Vec<Cut>> {
     }
     let groups = long_list(text, 0, b"\"groups\"", Place::Groups)?;
     let script = long_list(text, groups.begin, b"\"script\"", Place::Script)?;
-    let mut cuts = Vec::with_capacity(alloc, MOST_STRETCHES).ok()?;
-    for number in 1..MOST_STRETCHES {
-        if let Some(cut) = cut_near(text, text.len() / MOST_STRETCHES * number, &groups, &script) {
+    let count = (text.len() / STRETCH_BYTES).max(LEAST_STRETCHES);
+    let length = text.len().checked_div(count)?;
+    let mut cuts = Vec::with_capacity(alloc, count).ok()?;
+    let mut begin = 0;
+    for number in 1..count {
+        let at = length.checked_mul(number)?;
+        if at < begin {
+            continue;
+        }
+        if let Some(cut) = cut_near(text, at, &groups, &script) {
+            begin = cut.comma.checked_add(1)?;
             cuts.push(cut).ok()?;
         }
     }
@@ -131,17 +141,11 @@ fn is_in_list(place: Place) -> bool
     matches!(place, Place::Groups | Place::Script)
 }
 
-/// The text of a document of this version in stretches, of which each is lent a scratch.
-pub fn stretches_of<'a>(
-    alloc: Global,
-    version: u64,
-    text: &'a str,
-    scratches: &'a mut [Scratch],
-) -> Option<Vec<Stretch<'a>>>
+/// The text of a document of this version in stretches.
+pub fn stretches_of(alloc: Global, version: u64, text: &str) -> Option<Vec<Stretch<'_>>>
     ensures { IfSome result (λ stretches. AreStretches version text.now stretches.items) }
 {
-    let mut scratches = scratches.iter_mut();
-    let mut stretches = Vec::with_capacity(alloc, MOST_STRETCHES).ok()?;
+    let mut stretches = Vec::new(alloc);
     let mut rest = text;
     let mut place = Place::Outside;
     let mut done = 0usize;
@@ -150,28 +154,24 @@ pub fn stretches_of<'a>(
         if !is_in_list(cut.place) {
             return None;
         }
-        let scratch = scratches.next()?;
         stretches
             .push(Stretch {
                 alloc,
                 version,
                 text: front,
                 place,
-                scratch,
             })
             .ok()?;
         rest = behind;
         place = cut.place;
         done = cut.comma.checked_add(1)?;
     }
-    let scratch = scratches.next()?;
     stretches
         .push(Stretch {
             alloc,
             version,
             text: rest,
             place,
-            scratch,
         })
         .ok()?;
     Some(stretches)

@@ -11,8 +11,9 @@ ghost use Rattle.raw_reader.specs.Slots.{DocumentHolds};
 use crate::guess::guess_version;
 use crate::part::Part;
 use crate::slots::{Slots, fill, fill_slots};
+use crate::source::Source;
 use crate::values::{MAX_DEPTH, is};
-use json::{Reader, Scratch};
+use json::Scratch;
 use raw_document::{DocKey, RawClosing, RawDocument, RawGroup, RawLink, RawReport};
 use std::alloc::Global;
 
@@ -37,7 +38,7 @@ impl<'a> Slots<'a> for DocumentSlots<'a> {
         alloc: Global,
         version: u64,
         key: &str,
-        reader: &mut Reader<'a>,
+        reader: &mut Source<'a, '_>,
         depth: usize,
     ) -> Option<()> {
         if is(key, DocKey::Version) {
@@ -73,7 +74,7 @@ impl<'a> Part<'a> for RawDocument<'a> {
     fn read(
         alloc: Global,
         version: u64,
-        reader: &mut Reader<'a>,
+        reader: &mut Source<'a, '_>,
         depth: usize,
     ) -> Option<RawDocument<'a>> {
         let mut slots = DocumentSlots::new();
@@ -162,7 +163,7 @@ fn read_text<'a>(
     ensures { IfSome result (λ raw. (d : Data) × (read text.now ≡ Some d)
         × (document_at d ≡ Ok (raw_view raw))) }
 {
-    let mut reader = Reader::new(text, scratch).ok()?;
+    let mut reader = Source::lasting(text, scratch)?;
     let document = RawDocument::read(alloc, version, &mut reader, MAX_DEPTH)?;
     if reader.next().is_some() {
         return None;

@@ -6,8 +6,8 @@ ghost use Rattle.raw_document.specs.Forms.{closing_at, report_at};
 
 use crate::part::{Item, Part};
 use crate::slots::{Slots, fill, fill_members, fill_slots};
+use crate::source::Source;
 use crate::values::{is, open_object};
-use json::Reader;
 use raw_document::{DocKey, RawClosing, RawReport, RawTarget};
 use std::alloc::Global;
 
@@ -30,7 +30,7 @@ impl<'a> Slots<'a> for ReportSlots<'a> {
         alloc: Global,
         version: u64,
         key: &str,
-        reader: &mut Reader<'a>,
+        reader: &mut Source<'a, '_>,
         depth: usize,
     ) -> Option<()> {
         if is(key, DocKey::Reporter) {
@@ -60,7 +60,7 @@ impl<'a> Part<'a> for RawReport<'a> {
     fn read(
         alloc: Global,
         version: u64,
-        reader: &mut Reader<'a>,
+        reader: &mut Source<'a, '_>,
         depth: usize,
     ) -> Option<RawReport<'a>> {
         open_object(reader, depth)?;
@@ -72,7 +72,7 @@ impl<'a> Item<'a> for RawReport<'a> {
     fn read_behind_brace(
         alloc: Global,
         version: u64,
-        reader: &mut Reader<'a>,
+        reader: &mut Source<'a, '_>,
         depth: usize,
     ) -> Option<RawReport<'a>> {
         let mut slots = ReportSlots {
@@ -114,7 +114,7 @@ impl<'a> Slots<'a> for ClosingSlots<'a> {
         alloc: Global,
         version: u64,
         key: &str,
-        reader: &mut Reader<'a>,
+        reader: &mut Source<'a, '_>,
         depth: usize,
     ) -> Option<()> {
         if is(key, DocKey::Link) {
@@ -135,7 +135,7 @@ impl<'a> Part<'a> for RawClosing<'a> {
     fn read(
         alloc: Global,
         version: u64,
-        reader: &mut Reader<'a>,
+        reader: &mut Source<'a, '_>,
         depth: usize,
     ) -> Option<RawClosing<'a>> {
         let mut slots = ClosingSlots {

@@ -6,8 +6,8 @@ ghost use Rattle.raw_document.specs.Forms.{group_at, link_at, path_at};
 
 use crate::part::{Item, Part};
 use crate::slots::{Slots, fill, fill_members, fill_slots};
+use crate::source::Source;
 use crate::values::{is, open_object};
-use json::Reader;
 use raw_document::{DocKey, RawGroup, RawLink, RawPath, RawUser};
 use std::alloc::Global;
 
@@ -30,7 +30,7 @@ impl<'a> Slots<'a> for LinkSlots<'a> {
         alloc: Global,
         version: u64,
         key: &str,
-        reader: &mut Reader<'a>,
+        reader: &mut Source<'a, '_>,
         depth: usize,
     ) -> Option<()> {
         if is(key, DocKey::Name) {
@@ -60,7 +60,7 @@ impl<'a> Part<'a> for RawLink<'a> {
     fn read(
         alloc: Global,
         version: u64,
-        reader: &mut Reader<'a>,
+        reader: &mut Source<'a, '_>,
         depth: usize,
     ) -> Option<RawLink<'a>> {
         let mut slots = LinkSlots {
@@ -100,7 +100,7 @@ impl<'a> Slots<'a> for PathSlots<'a> {
         alloc: Global,
         version: u64,
         key: &str,
-        reader: &mut Reader<'a>,
+        reader: &mut Source<'a, '_>,
         depth: usize,
     ) -> Option<()> {
         if is(key, DocKey::Weight) {
@@ -121,7 +121,7 @@ impl<'a> Part<'a> for RawPath<'a> {
     fn read(
         alloc: Global,
         version: u64,
-        reader: &mut Reader<'a>,
+        reader: &mut Source<'a, '_>,
         depth: usize,
     ) -> Option<RawPath<'a>> {
         let mut slots = PathSlots {
@@ -156,7 +156,7 @@ impl<'a> Slots<'a> for GroupSlots<'a> {
         alloc: Global,
         version: u64,
         key: &str,
-        reader: &mut Reader<'a>,
+        reader: &mut Source<'a, '_>,
         depth: usize,
     ) -> Option<()> {
         if is(key, DocKey::Name) {
@@ -189,7 +189,7 @@ impl<'a> Part<'a> for RawGroup<'a> {
     fn read(
         alloc: Global,
         version: u64,
-        reader: &mut Reader<'a>,
+        reader: &mut Source<'a, '_>,
         depth: usize,
     ) -> Option<RawGroup<'a>> {
         open_object(reader, depth)?;
@@ -201,7 +201,7 @@ impl<'a> Item<'a> for RawGroup<'a> {
     fn read_behind_brace(
         alloc: Global,
         version: u64,
-        reader: &mut Reader<'a>,
+        reader: &mut Source<'a, '_>,
         depth: usize,
     ) -> Option<RawGroup<'a>> {
         let mut slots = GroupSlots {

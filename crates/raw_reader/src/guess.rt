@@ -2,8 +2,9 @@
 //!
 //! A wrong guess is noticed when the document is read, so nothing is promised of one.
 
+use crate::source::Source;
 use crate::values::{MAX_DEPTH, is, number, open_object};
-use json::{Reader, Scratch};
+use json::Scratch;
 use memchr::memmem;
 use raw_document::DocKey;
 
@@ -13,7 +14,7 @@ const QUOTED: &[u8] = b"\"version\"";
 /// The number of the version, wherever it stands. The first member is looked at, then the end of
 /// the text, and all members only where neither has it.
 pub fn guess_version(text: &str, scratch: &mut Scratch) -> Option<u64> {
-    let mut reader = Reader::new(text, scratch).ok()?;
+    let mut reader = Source::passing(text, scratch)?;
     open_object(&mut reader, MAX_DEPTH)?;
     let first = reader.next_key().ok()??;
     if is(first, DocKey::Version) {
@@ -23,7 +24,7 @@ pub fn guess_version(text: &str, scratch: &mut Scratch) -> Option<u64> {
     if last.is_some() {
         return last;
     }
-    reader.skip_value(MAX_DEPTH).ok()?;
+    reader.skip_value(MAX_DEPTH)?;
     guess_by_members(&mut reader)
 }
 
@@ -44,12 +45,12 @@ pub fn guess_at_ends(text: &str) -> Option<u64> {
 }
 
 // The number of the version among the members that are left of an object.
-fn guess_by_members(reader: &mut Reader<'_>) -> Option<u64> {
+fn guess_by_members(reader: &mut Source<'_, '_>) -> Option<u64> {
     'members: while let Some(key) = reader.next_key().ok()? {
         if is(key, DocKey::Version) {
             return number(reader);
         }
-        reader.skip_value(MAX_DEPTH).ok()?;
+        reader.skip_value(MAX_DEPTH)?;
     }
     None
 }

@@ -3,8 +3,9 @@
 ghost use Rattle.std.specs.Prelude.{IfSome, OnSome, ◌≡◌, ◌<◌, ◌∷◌, ◌++◌, [], length};
 ghost use Rattle.raw_reader.specs.Takes.{Takes, ListRead};
 
+use crate::source::Source;
 use crate::values::{number, open_array, text};
-use json::{Reader, Token};
+use json::Token;
 use std::alloc::Global;
 
 /// What is read of a value.
@@ -20,7 +21,7 @@ pub trait Part<'a>: Sized + Drop {
     ghost is_read: { ℕ → Data → Self → Type 0 };
 
     /// The next value, in which arrays and objects may nest `depth` deep.
-    fn read(alloc: Global, version: u64, reader: &mut Reader<'a>, depth: usize) -> Option<Self>
+    fn read(alloc: Global, version: u64, reader: &mut Source<'a, '_>, depth: usize) -> Option<Self>
         ensures value { IfSome result (λ x. Takes depth reader.old reader.new
             (λ d. is_read version d x)) }
         ensures shorter { OnSome result (length reader.new < length reader.old) };
@@ -35,7 +36,7 @@ pub trait Item<'a>: Part<'a> {
     fn read_behind_brace(
         alloc: Global,
         version: u64,
-        reader: &mut Reader<'a>,
+        reader: &mut Source<'a, '_>,
         depth: usize,
     ) -> Option<Self>
         requires { 0 < depth }
@@ -55,7 +56,7 @@ impl<'a> Part<'a> for &'a str {
     fn read(
         _alloc: Global,
         _version: u64,
-        reader: &mut Reader<'a>,
+        reader: &mut Source<'a, '_>,
         _depth: usize,
     ) -> Option<&'a str> {
         text(reader)
@@ -70,7 +71,12 @@ impl<'a> Part<'a> for u64 {
 
     ghost is_read = { λ version d n. whole d ≡ Ok n };
 
-    fn read(_alloc: Global, _version: u64, reader: &mut Reader<'a>, _depth: usize) -> Option<u64> {
+    fn read(
+        _alloc: Global,
+        _version: u64,
+        reader: &mut Source<'a, '_>,
+        _depth: usize,
+    ) -> Option<u64> {
         number(reader)
     }
 }
@@ -87,7 +93,7 @@ impl<'a> Part<'a> for (u64, u64) {
     fn read(
         _alloc: Global,
         _version: u64,
-        reader: &mut Reader<'a>,
+        reader: &mut Source<'a, '_>,
         depth: usize,
     ) -> Option<(u64, u64)> {
         open_array(reader, depth)?;
@@ -105,7 +111,12 @@ impl<'a, T: Part<'a>> Part<'a> for Vec<T> {
 
     ghost is_read = { λ version d xs. ListRead (T.is_read version) d xs.items };
 
-    fn read(alloc: Global, version: u64, reader: &mut Reader<'a>, depth: usize) -> Option<Vec<T>> {
+    fn read(
+        alloc: Global,
+        version: u64,
+        reader: &mut Source<'a, '_>,
+        depth: usize,
+    ) -> Option<Vec<T>> {
         open_array(reader, depth)?;
         let mut found = Vec::new(alloc);
         'items: while !reader.take_end_array() {

@@ -10,8 +10,9 @@ ghost use Rattle.raw_reader.specs.Pieces.{MemberIs, ItemsTake, Closes, PieceTake
 ghost use Rattle.raw_reader.specs.Stretches.{IsRead};
 
 use crate::part::{Item, Part, add};
+use crate::source::Source;
 use crate::values::{MAX_DEPTH, is, open_array, open_object};
-use json::{Reader, Scratch, Token};
+use json::{Scratch, Token};
 use raw_document::{DocKey, RawClosing, RawGroup, RawLink, RawReport};
 use std::alloc::Global;
 
@@ -32,7 +33,6 @@ pub struct Stretch<'a> {
     pub version: u64,
     pub text: &'a str,
     pub place: Place,
-    pub scratch: &'a mut Scratch,
 }
 
 /// A member of a document other than its groups and its script.
@@ -74,7 +74,7 @@ fn read_member<'a>(
     alloc: Global,
     version: u64,
     key: &str,
-    reader: &mut Reader<'a>,
+    reader: &mut Source<'a, '_>,
 ) -> Option<Member<'a>>
     ensures value { IfSome result (λ member. Takes member_depth reader.old reader.new
         (λ d. MemberIs version member key.now d)) }
@@ -104,7 +104,7 @@ fn read_member<'a>(
 fn read_items<'a, T: Item<'a>>(
     alloc: Global,
     version: u64,
-    reader: &mut Reader<'a>,
+    reader: &mut Source<'a, '_>,
 ) -> Option<(Vec<T>, bool)>
     ensures value { IfSome result (λ found. (behind : List SpecToken)
         × ItemsTake (T.is_read version) found.0.items reader.old behind
@@ -126,7 +126,7 @@ fn read_items<'a, T: Item<'a>>(
 fn read_more_items<'a, T: Item<'a>>(
     alloc: Global,
     version: u64,
-    reader: &mut Reader<'a>,
+    reader: &mut Source<'a, '_>,
     found: &mut Vec<T>,
 ) -> Option<bool>
     ensures value { IfSome result (λ closed. (behind : List SpecToken) × (xs : List T)
@@ -158,7 +158,7 @@ fn read_at_key<'a>(
     alloc: Global,
     version: u64,
     key: &str,
-    reader: &mut Reader<'a>,
+    reader: &mut Source<'a, '_>,
 ) -> Option<(Piece<'a>, Option<Place>)>
     ensures value { IfSome result (λ found. PieceTakes version found.0
         (key_token key.now ∷ reader.old) reader.new) }
@@ -182,7 +182,7 @@ fn read_piece<'a>(
     alloc: Global,
     version: u64,
     place: Place,
-    reader: &mut Reader<'a>,
+    reader: &mut Source<'a, '_>,
 ) -> Option<(Piece<'a>, Option<Place>)>
     ensures value { IfSome result (λ found. PieceTakes version found.0 reader.old reader.new) }
     ensures begins { OnSome result (BeginsAt place reader.old) }
@@ -211,10 +211,10 @@ fn read_piece<'a>(
 }
 
 /// All pieces of a stretch.
-pub fn read_stretch<'a>(stretch: Stretch<'a>) -> Option<Vec<Piece<'a>>>
+pub fn read_stretch<'a>(stretch: Stretch<'a>, scratch: &mut Scratch) -> Option<Vec<Piece<'a>>>
     ensures { IsRead stretch.entry result }
 {
-    let mut reader = Reader::new(stretch.text, stretch.scratch).ok()?;
+    let mut reader = Source::passing(stretch.text, scratch)?;
     let mut pieces = Vec::new(stretch.alloc);
     let mut place = Some(stretch.place);
     'pieces: while let Some(now) = place {

@@ -6,8 +6,8 @@ ghost use Rattle.serde_json.specs.Data.{no_members};
 ghost use Rattle.raw_reader.specs.Takes.{Takes, TakesMember, TakesObject};
 
 use crate::part::Part;
+use crate::source::Source;
 use crate::values::open_object;
-use json::Reader;
 use std::alloc::Global;
 
 /// A place for the value of each member that an object may have.
@@ -24,7 +24,7 @@ pub trait Slots<'a>: Sized {
         alloc: Global,
         version: u64,
         key: &str,
-        reader: &mut Reader<'a>,
+        reader: &mut Source<'a, '_>,
         depth: usize,
     ) -> Option<()>
         ensures value { OnSome result (TakesMember depth key.now reader.old reader.new
@@ -37,7 +37,7 @@ pub fn fill<'a, T: Part<'a>>(
     slot: &mut Option<T>,
     alloc: Global,
     version: u64,
-    reader: &mut Reader<'a>,
+    reader: &mut Source<'a, '_>,
     depth: usize,
 ) -> Option<()>
     ensures value { OnSome result ((x : T) × (slot.new ≡ Some x)
@@ -53,7 +53,7 @@ pub fn fill_slots<'a, S: Slots<'a>>(
     slots: &mut S,
     alloc: Global,
     version: u64,
-    reader: &mut Reader<'a>,
+    reader: &mut Source<'a, '_>,
     depth: usize,
 ) -> Option<()>
     requires { S.holds version slots.old no_members }
@@ -70,7 +70,7 @@ pub fn fill_members<'a, S: Slots<'a>>(
     slots: &mut S,
     alloc: Global,
     version: u64,
-    reader: &mut Reader<'a>,
+    reader: &mut Source<'a, '_>,
     depth: usize,
 ) -> Option<()>
     requires holds { S.holds version slots.old no_members }

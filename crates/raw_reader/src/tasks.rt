@@ -6,8 +6,8 @@ ghost use Rattle.raw_document.specs.Forms.{job_at, task_at, user_at};
 
 use crate::part::Part;
 use crate::slots::{Slots, fill, fill_slots};
+use crate::source::Source;
 use crate::values::is;
-use json::Reader;
 use raw_document::{DocKey, RawJob, RawTask, RawUser};
 use std::alloc::Global;
 
@@ -28,7 +28,7 @@ impl<'a> Slots<'a> for TaskSlots<'a> {
         alloc: Global,
         version: u64,
         key: &str,
-        reader: &mut Reader<'a>,
+        reader: &mut Source<'a, '_>,
         depth: usize,
     ) -> Option<()> {
         if is(key, DocKey::Name) {
@@ -52,7 +52,7 @@ impl<'a> Part<'a> for RawTask<'a> {
     fn read(
         alloc: Global,
         version: u64,
-        reader: &mut Reader<'a>,
+        reader: &mut Source<'a, '_>,
         depth: usize,
     ) -> Option<RawTask<'a>> {
         let mut slots = TaskSlots {
@@ -87,7 +87,7 @@ impl<'a> Slots<'a> for JobSlots<'a> {
         alloc: Global,
         version: u64,
         key: &str,
-        reader: &mut Reader<'a>,
+        reader: &mut Source<'a, '_>,
         depth: usize,
     ) -> Option<()> {
         if is(key, DocKey::Name) {
@@ -114,7 +114,7 @@ impl<'a> Part<'a> for RawJob<'a> {
     fn read(
         alloc: Global,
         version: u64,
-        reader: &mut Reader<'a>,
+        reader: &mut Source<'a, '_>,
         depth: usize,
     ) -> Option<RawJob<'a>> {
         let mut slots = JobSlots {
@@ -153,7 +153,7 @@ impl<'a> Slots<'a> for UserSlots<'a> {
         alloc: Global,
         version: u64,
         key: &str,
-        reader: &mut Reader<'a>,
+        reader: &mut Source<'a, '_>,
         depth: usize,
     ) -> Option<()> {
         if is(key, DocKey::Name) {
@@ -177,7 +177,7 @@ impl<'a> Part<'a> for RawUser<'a> {
     fn read(
         alloc: Global,
         version: u64,
-        reader: &mut Reader<'a>,
+        reader: &mut Source<'a, '_>,
         depth: usize,
     ) -> Option<RawUser<'a>> {
         let mut slots = UserSlots {

@@ -6,7 +6,8 @@ ghost use Rattle.serde_json.specs.Data.{unsigned};
 ghost use Rattle.serde_json.specs.Read.{number_of};
 ghost use Rattle.raw_document.specs.Words.{word};
 
-use json::{Reader, Token};
+use crate::source::Source;
+use json::Token;
 use raw_document::DocKey;
 use version_scan::whole_number;
 
@@ -22,7 +23,7 @@ pub fn is(text: &str, key: DocKey) -> bool
 }
 
 /// Takes the bracket that opens an array, where one may still open.
-pub fn open_array(reader: &mut Reader<'_>, depth: usize) -> Option<()>
+pub fn open_array(reader: &mut Source<'_, '_>, depth: usize) -> Option<()>
     ensures { OnSome result ((reader.old ≡ begin_array ∷ reader.new) × (0 < depth)) }
 {
     match reader.next()? {
@@ -32,7 +33,7 @@ pub fn open_array(reader: &mut Reader<'_>, depth: usize) -> Option<()>
 }
 
 /// Takes the brace that opens an object, where one may still open.
-pub fn open_object(reader: &mut Reader<'_>, depth: usize) -> Option<()>
+pub fn open_object(reader: &mut Source<'_, '_>, depth: usize) -> Option<()>
     ensures { OnSome result ((reader.old ≡ begin_object ∷ reader.new) × (0 < depth)) }
 {
     match reader.next()? {
@@ -42,17 +43,14 @@ pub fn open_object(reader: &mut Reader<'_>, depth: usize) -> Option<()>
 }
 
 /// Takes a text.
-pub fn text<'a>(reader: &mut Reader<'a>) -> Option<&'a str>
+pub fn text<'a>(reader: &mut Source<'a, '_>) -> Option<&'a str>
     ensures { IfSome result (λ s. reader.old ≡ string s.now ∷ reader.new) }
 {
-    match reader.next()? {
-        Token::String(text) => Some(text),
-        _ => None,
-    }
+    reader.text()
 }
 
 /// Takes a number without a sign, a fraction or an exponent, of at most 64 bits.
-pub fn number(reader: &mut Reader<'_>) -> Option<u64>
+pub fn number(reader: &mut Source<'_, '_>) -> Option<u64>
     ensures { IfSome result (λ n. (s : List ℕ) × (reader.old ≡ number_token s ∷ reader.new)
         × (number_of s ≡ Some (unsigned n))) }
 {
