@@ -14,12 +14,13 @@ use version_scan::whole_number;
 /// Most arrays and objects that may stand in one another.
 pub const MAX_DEPTH: usize = 127;
 
-/// Whether this is the key.
+/// Whether this is the key. Most keys differ in length, which takes no call to compare.
 #[inline(always)]
 pub fn is(text: &str, key: DocKey) -> bool
     ensures { IsTrue result → text.now ≡ word key }
 {
-    text == key.text()
+    let word = key.text();
+    text.len() == word.len() && text == word
 }
 
 /// Takes the bracket that opens an array, where one may still open.
