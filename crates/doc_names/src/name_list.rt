@@ -1,6 +1,6 @@
 //! Names in one text.
 
-ghost use Rattle.std.specs.Prelude.{◌≡◌, ◌+◌, ◌<◌, ◌∷◌, ◌++◌, [], IfOk, OnErr, OnOk, length, position, slice_get, slice_index_or, option_copied, string_bytes};
+ghost use Rattle.std.specs.Prelude.{◌≡◌, ◌+◌, ◌<◌, ◌∷◌, ◌++◌, [], IfOk, OnErr, OnOk, length, position, slice_index_or, string_bytes};
 ghost use Rattle.std.specs.Str.{bytes_eq};
 ghost use Rattle.doc_names.specs.NameList.{start_in};
 
@@ -72,16 +72,6 @@ impl NameList {
         let start = start_of(&self.ends, number);
         let end = self.ends[number] as usize;
         &self.text.as_str()[start..end]
-    }
-
-    /// The name of this number, `None` where there is no such number.
-    pub fn get(&self, number: usize) -> Option<&str>
-        ensures { option_copied result ≡ slice_get self.now number }
-    {
-        if number < self.len() {
-            return Some(self.name(number));
-        }
-        None
     }
 
     /// The number of the first name with these bytes. Takes a look at each name before it.

@@ -90,5 +90,8 @@ pub(crate) fn is_known(names: &NameList, word: &[u8]) -> bool
 pub(crate) fn name_of(names: &NameList, number: usize) -> &[u8]
     ensures { result.now ≡ entry_at names.now number }
 {
-    names.get(number).unwrap_or("").as_bytes()
+    if number < names.len() {
+        return names.name(number).as_bytes();
+    }
+    b""
 }

@@ -40,5 +40,9 @@ pub(crate) fn push_name(text: &mut String, word: &str, name: &str) -> Result<(),
 pub fn name_of(names: &NameList, number: u32) -> &str
     ensures { result.now ≡ entry_at names.now number }
 {
-    names.get(number as usize).unwrap_or("")
+    let number = number as usize;
+    if number < names.len() {
+        return names.name(number);
+    }
+    ""
 }
