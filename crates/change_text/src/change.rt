@@ -1,6 +1,6 @@
 //! The text of what a later table has otherwise.
 
-ghost use Rattle.std.specs.Prelude.{◌≡◌, ◌++◌, ◌<◌, ◌^◌, IfOk, OnOk, flat_map, length, map, string_bytes};
+ghost use Rattle.std.specs.Prelude.{◌≡◌, ◌++◌, ◌<◌, ◌^◌, IfOk, OnOk, flat_map, length, string_bytes};
 ghost use Rattle.bwe_specs.specs.Reports.{numbers};
 ghost use Rattle.limit_table.specs.Tables.{frame_of};
 ghost use Rattle.doc_names.specs.NameTexts.{texts_of};
@@ -8,7 +8,7 @@ ghost use Rattle.table_text.specs.TableText.{closing_line, group_lines, value_li
 ghost use Rattle.change_text.specs.ChangeText.{change_text_of, changed, changed_closings, closing_lines};
 
 use bwe_specs::{Closing, OutOfMemory};
-use doc_names::Names;
+use doc_names::{NameList, Names};
 use limit_table::{GroupLine, LimitTable, total_in};
 use std::alloc::{AllocError, Global};
 use table_text::{end_with_number, push_closings, push_group, push_value};
@@ -90,7 +90,7 @@ fn closings_text(alloc: Global, names: &Names, closings: &[Closing]) -> Result<S
 fn push_changed_value(
     text: &mut String,
     word: &str,
-    names: &[String],
+    names: &NameList,
     between: &str,
     earlier: &[u64],
     later: &[u64],
@@ -100,8 +100,8 @@ fn push_changed_value(
     requires same_length { length earlier.now ≡ length later.now }
     requires few { length later.now < 2 ^ 32 }
     ensures { OnOk result (string_bytes text.new ≡ string_bytes text.old
-        ++ changed (value_line word.now between.now (map string_bytes names.now) earlier.now)
-        (value_line word.now between.now (map string_bytes names.now) later.now) number) }
+        ++ changed (value_line word.now between.now names.now earlier.now)
+        (value_line word.now between.now names.now later.now) number) }
 {
     if earlier[number] == later[number] {
         return Ok(());
@@ -113,7 +113,7 @@ fn push_changed_value(
 fn push_changed_values(
     text: &mut String,
     word: &str,
-    names: &[String],
+    names: &NameList,
     between: &str,
     earlier: &[u64],
     later: &[u64],
@@ -122,8 +122,8 @@ fn push_changed_values(
     requires few { length later.now < 2 ^ 32 }
     ensures { OnOk result (string_bytes text.new ≡ string_bytes text.old
         ++ flat_map (changed
-        (value_line word.now between.now (map string_bytes names.now) earlier.now)
-        (value_line word.now between.now (map string_bytes names.now) later.now))
+        (value_line word.now between.now names.now earlier.now)
+        (value_line word.now between.now names.now later.now))
         (numbers (length later.now))) }
 {
     for number in 0..later.len() {

@@ -1,2 +1,3 @@
+pub mod NameLists
 pub mod OwnerFacts
 pub mod OwnerLoop

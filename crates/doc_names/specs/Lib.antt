@@ -1,2 +1,3 @@
+pub mod NameList
 pub mod NameTexts
 pub mod Owners

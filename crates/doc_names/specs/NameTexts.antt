@@ -1,5 +1,5 @@
 -- The names of a document as texts. A text is the list of its bytes.
-use Rattle.std.specs.Prelude.{◌≢◌, ℕ, List, [], map, slice_index_or, string_bytes}
+use Rattle.std.specs.Prelude.{◌≢◌, ℕ, List, [], slice_index_or}
 use Rattle.std.specs.List.{All}
 use Rattle.doc_names.specs.declared.Names.{Names}
 
@@ -13,10 +13,10 @@ pub record NameTexts : Type 0 where
 -- what contracts see of names
 abbrev pub texts_of : Names → NameTexts
 texts_of names = record {
-  links = map string_bytes names.links.items;
-  groups = map string_bytes names.groups.items;
-  tasks = map string_bytes names.tasks.items;
-  reporters = map string_bytes names.reporters.items;
+  links = names.links;
+  groups = names.groups;
+  tasks = names.tasks;
+  reporters = names.reporters;
 }
 
 -- the entry of a list of texts at this number; an empty text where there is no such entry

@@ -7,16 +7,18 @@
 //! report what is said by `owner_of`, `is_owner` and `find_not_owned` (`specs/Owners.antt`).
 #![tactic(auto)]
 
+mod name_list;
 mod owners;
 
+pub use name_list::NameList;
 pub use owners::{find_not_owned, is_owner, owner_of};
 
 /// The names of a document's links, groups, tasks and reporters, each list in the order of their
 /// numbers.
 #[derive(Debug, Drop)]
 pub struct Names {
-    pub links: Vec<String>,
-    pub groups: Vec<String>,
-    pub tasks: Vec<String>,
-    pub reporters: Vec<String>,
+    pub links: NameList,
+    pub groups: NameList,
+    pub tasks: NameList,
+    pub reporters: NameList,
 }

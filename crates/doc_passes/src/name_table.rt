@@ -1,10 +1,11 @@
 //! Names in the order in which they stand, each with its number.
 
-ghost use Rattle.std.specs.Prelude.{◌≡◌, ◌↔◌, [], length, map, string_bytes, IfOk, IsTrue, Ok};
+ghost use Rattle.std.specs.Prelude.{◌≡◌, ◌↔◌, [], length, map, IfOk, IsTrue, Ok};
 ghost use Rattle.raw_document.specs.Reading.{Gives};
 ghost use Rattle.raw_document.specs.Raw.{name_view};
 ghost use Rattle.doc_passes.specs.Names.{fresh, number_in};
 
+use doc_names::NameList;
 use indexmap::IndexSet;
 use raw_document::Fault;
 use std::alloc::{AllocError, Global};
@@ -57,8 +58,8 @@ impl<'a> NameTable<'a> {
     }
 
     /// Copies of the names, in their order.
-    pub fn copies(&self, alloc: Global) -> Result<Vec<String>, AllocError>
-        ensures { IfOk result (λ copies. map string_bytes copies.items ≡ self.now) }
+    pub fn copies(&self, alloc: Global) -> Result<NameList, AllocError>
+        ensures { IfOk result (λ copies. copies ≡ self.now) }
     {
         copies_of(alloc, self.names.as_slice())
     }
@@ -122,13 +123,12 @@ fn number_of(alloc: Global, names: &IndexSet<&str>, name: &str) -> Result<u32, F
 }
 
 // Copies of names.
-fn copies_of(alloc: Global, names: &[&str]) -> Result<Vec<String>, AllocError>
-    ensures { IfOk result
-        (λ copies. map string_bytes copies.items ≡ map name_view names.now) }
+fn copies_of(alloc: Global, names: &[&str]) -> Result<NameList, AllocError>
+    ensures { IfOk result (λ copies. copies ≡ map name_view names.now) }
 {
-    let mut copies = Vec::with_capacity(alloc, names.len())?;
+    let mut copies = NameList::with_room(alloc, names.len())?;
     for name in names {
-        copies.push(String::from_str(alloc, name)?)?;
+        copies.push(name)?;
     }
     Ok(copies)
 }

@@ -1,6 +1,6 @@
 //! The text of written events: what `bwe enforce` writes.
 
-ghost use Rattle.std.specs.Prelude.{◌≡◌, ◌<◌, ◌≤◌, ◌^◌, [], IfOk, length, map, string_bytes};
+ghost use Rattle.std.specs.Prelude.{◌≡◌, ◌<◌, ◌≤◌, ◌^◌, [], IfOk, length};
 ghost use Rattle.std.specs.List.{All};
 ghost use Rattle.demand_book.specs.Fit.{IsFit};
 ghost use Rattle.enforce_run.specs.EventLines.{AreThere};
@@ -14,6 +14,7 @@ use crate::regions::regions_of;
 use crate::text::enforce_text;
 use bwe_specs::{MAX_REPORTS, OutOfMemory, Report};
 use demand_book::Maker;
+use doc_names::NameList;
 use std::alloc::Global;
 
 /// The text of the events on a world with a region for each reporter ("Enforce text",
@@ -29,7 +30,7 @@ pub fn enforce<M: Maker>(
     script: &[Report],
     reporters: u32,
     owners: &[u32],
-    names: &[String],
+    names: &NameList,
     lines: &[EventLine],
 ) -> Result<Vec<u8>, OutOfMemory>
     requires empty { M.absorbed maker [] }
@@ -41,8 +42,7 @@ pub fn enforce<M: Maker>(
     requires there { AreThere reporters [] lines.now }
     ensures text { IfOk result (λ text. text.items ≡ enforced_text M.Table.covers M.Table.limit_at
         (M.table_of (M.plan maker)) script.now (regions_of_owners reporters owners.now)
-        (map string_bytes names.now)
-        lines.now) }
+        names.now lines.now) }
     // at every moment of the events that are printed, and for all that come later
     ensures lawful { AreLawful M.Table.frame M.Table.covers M.Table.limit_at
         (M.table_of (M.plan maker))

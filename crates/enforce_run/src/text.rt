@@ -1,6 +1,6 @@
 //! The text of a world, row by row.
 
-ghost use Rattle.std.specs.Prelude.{◌≡◌, ◌++◌, ◌<◌, ◌^◌, IfOk, OnOk, flat_map, length, map, string_bytes};
+ghost use Rattle.std.specs.Prelude.{◌≡◌, ◌++◌, ◌<◌, ◌^◌, IfOk, OnOk, flat_map, length, string_bytes};
 ghost use Rattle.bwe_specs.specs.Reports.{numbers};
 ghost use Rattle.std.specs.List.{All};
 ghost use Rattle.enforcer_core.specs.World.{tasks_at};
@@ -8,6 +8,7 @@ ghost use Rattle.enforce_run.specs.EnforceText.{answer_line, enforce_text_of, li
 
 use bwe_specs::OutOfMemory;
 use demand_book::Posted;
+use doc_names::NameList;
 use enforcer_core::{World, WorldAnswer};
 use std::alloc::{AllocError, Global};
 use table_text::{end_with_number, name_of, push_number};
@@ -20,14 +21,14 @@ use table_text::{end_with_number, name_of, push_number};
 #[tactic(auto, unfolding(crate::specs::EnforceText::enforce_text_of))]
 pub(crate) fn enforce_text<T: Posted>(
     alloc: Global,
-    names: &[String],
+    names: &NameList,
     answers: &[WorldAnswer],
     world: &World<T>,
 ) -> Result<Vec<u8>, OutOfMemory>
     requires regions { length world.now.tasks < 2 ^ 32 }
     requires tasks { All (λ tasks. length tasks < 2 ^ 32) world.now.tasks }
     ensures { IfOk result (λ text. text.items
-        ≡ enforce_text_of T.covers (map string_bytes names.now) answers.now world.now) }
+        ≡ enforce_text_of T.covers names.now answers.now world.now) }
 {
     let mut text = String::new(alloc);
     push_answers(&mut text, answers)?;
@@ -72,13 +73,13 @@ fn push_answer(text: &mut String, answer: WorldAnswer) -> Result<(), AllocError>
 #[tactic(auto, using(table_text::proofs::Lines::one_line_more))]
 fn push_regions<T: Posted>(
     text: &mut String,
-    names: &[String],
+    names: &NameList,
     world: &World<T>,
 ) -> Result<(), AllocError>
     requires regions { length world.now.tasks < 2 ^ 32 }
     requires tasks { All (λ tasks. length tasks < 2 ^ 32) world.now.tasks }
     ensures { OnOk result (string_bytes text.new ≡ string_bytes text.old
-        ++ flat_map (region_lines (map string_bytes names.now) world.now)
+        ++ flat_map (region_lines names.now world.now)
         (numbers (length world.now.tasks))) }
 {
     for region in 0..world.regions() {
@@ -89,14 +90,14 @@ fn push_regions<T: Posted>(
 
 fn push_region<T: Posted>(
     text: &mut String,
-    names: &[String],
+    names: &NameList,
     world: &World<T>,
     region: u32,
 ) -> Result<(), AllocError>
     requires region { region < length world.now.tasks }
     requires tasks { All (λ tasks. length tasks < 2 ^ 32) world.now.tasks }
     ensures { OnOk result (string_bytes text.new
-        ≡ string_bytes text.old ++ region_lines (map string_bytes names.now) world.now region) }
+        ≡ string_bytes text.old ++ region_lines names.now world.now region) }
 {
     let (floor, acked) = (world.floor(region), world.acked(region));
     push_region_line(text, region, floor, acked, world.in_force(region))?;
@@ -129,14 +130,14 @@ fn push_region_line(
 #[tactic(auto, using(table_text::proofs::Lines::one_line_more))]
 fn push_limits<T: Posted>(
     text: &mut String,
-    names: &[String],
+    names: &NameList,
     world: &World<T>,
     region: u32,
 ) -> Result<(), AllocError>
     requires region { region < length world.now.tasks }
     requires tasks { length (tasks_at world.now region) < 2 ^ 32 }
     ensures { OnOk result (string_bytes text.new ≡ string_bytes text.old
-        ++ flat_map (limit_line (map string_bytes names.now) world.now region)
+        ++ flat_map (limit_line names.now world.now region)
         (numbers (length (tasks_at world.now region)))) }
 {
     for place in 0..world.tasks(region).len() {
@@ -147,7 +148,7 @@ fn push_limits<T: Posted>(
 
 fn push_limit_at<T: Posted>(
     text: &mut String,
-    names: &[String],
+    names: &NameList,
     world: &World<T>,
     region: u32,
     place: usize,
@@ -156,7 +157,7 @@ fn push_limit_at<T: Posted>(
     requires place { place < length (tasks_at world.now region) }
     requires tasks { length (tasks_at world.now region) < 2 ^ 32 }
     ensures { OnOk result (string_bytes text.new
-        ≡ string_bytes text.old ++ limit_line (map string_bytes names.now) world.now region place) }
+        ≡ string_bytes text.old ++ limit_line names.now world.now region place) }
 {
     let name = name_of(names, world.tasks(region)[place]);
     push_limit(text, name, world.limit(region, place as u32))

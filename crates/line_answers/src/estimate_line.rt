@@ -97,7 +97,7 @@ fn reports_behind(
     ensures few { IfOk result (λ reports.
         length reports.items ≤ most - length document.now.script.items) }
     ensures fit { (links : ℕ) → IfOk result (λ reports.
-        All (IsFit (length document.now.names.tasks.items) links) reports.items) }
+        All (IsFit (length document.now.names.tasks) links) reports.items) }
     ensures owned { IfOk result (λ reports.
         All (IsByOwner document.now.task_owners.items) reports.items) }
 {
@@ -115,7 +115,7 @@ fn solve_behind(
     requires usable { IsUsable document }
     requires few { length reports.now ≤ MAX_REPORTS - length document.script.items }
     requires fit { (links : ℕ)
-        → All (IsFit (length document.names.tasks.items) links) reports.now }
+        → All (IsFit (length document.names.tasks) links) reports.now }
     requires owned { All (IsByOwner document.task_owners.items) reports.now }
     ensures { IfOk result (λ answer. answer
         ≡ table_reply (texts_of document.names) (plan_in document)

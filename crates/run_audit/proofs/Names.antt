@@ -1,28 +1,25 @@
 -- Names, looked for among many.
-use Rattle.std.proofs.Common.{String, Global, string_bytes, true, cond, not, ap₂, arith, ◌≡◌, ℕ, ◌+◌, ◌<◌, List, [], ◌∷◌, length, get_or, refl, sym, ap, ◌∙◌}
-use Rattle.std.specs.Prelude.{nat_lt, position, Bool, ◌||◌, map, Some, None}
-use Rattle.std.specs.List.{list_any, position_or_len}
+use Rattle.std.proofs.Common.{◌≡◌, ℕ, ◌<◌, ◌+◌, Bool, true, false, cond, List, [], ◌∷◌, length, get_or, Some, refl, sym, ap, ◌∙◌}
+use Rattle.std.specs.Prelude.{is_some, position, ◌||◌}
+use Rattle.std.specs.List.{list_any, position_from}
 use Rattle.std.specs.Str.{bytes_eq}
-use Rattle.std.proofs.lemmas.List.{get_or-map, length-map}
+use Rattle.std.proofs.lemmas.Iterator.Adapters.{position_from-zero}
 use Rattle.std.proofs.lemmas.List.Folds.{list_any_at}
 
--- a test of what the items show
-pub list_any-map : {X Y : Type 0} (p : Y → Bool) (view : X → Y) (xs : List X) → list_any (λ x. p (view x)) xs ≡ list_any p (map view xs)
-list_any-map p view [] = refl
-list_any-map p view (x ∷ xs) = ap (λ later. p (view x) || later) (list_any-map p view xs)
-
 -- one of the names settles that a word is known
-pub known_at : (names : List (String Global)) (number : ℕ) (name : String Global) (word : List ℕ) → number < length names → name ≡ get_or names number name
-    → bytes_eq word (string_bytes name) ≡ true → list_any (bytes_eq word) (map string_bytes names) ≡ true
-known_at names number name word within is same =
-    list_any_at (bytes_eq word) (map string_bytes names) number [] (omega (arith, length-map names string_bytes, within))
-    (ap (bytes_eq word) (get_or-map string_bytes names number name [] within ∙ ap string_bytes (sym is)) ∙ same)
+pub known_at : (names : List (List ℕ)) (number : ℕ) (name word : List ℕ) → number < length names → name ≡ get_or names number []
+    → bytes_eq word name ≡ true → list_any (bytes_eq word) names ≡ true
+known_at names number name word within is same = list_any_at (bytes_eq word) names number [] within (ap (bytes_eq word) (sym is) ∙ same)
 
-place-map : {X Y : Type 0} (p : Y → Bool) (view : X → Y) (xs : List X) → position_or_len (λ x. p (view x)) xs ≡ position_or_len p (map view xs)
-place-map p view [] = refl
-place-map p view (x ∷ xs) = ap (λ later. cond (not (p (view x))) (1 + later) 0) (place-map p view xs)
+found_from : {X : Type 0} (test : X → Bool) (number : ℕ) (items : List X) → is_some (position_from test number items) ≡ list_any test items
+found_from test number [] = refl
+found_from test number (item ∷ items) = go (test item) (found_from test (number + 1) items)
+  where
+    go : (passes : Bool) → is_some (position_from test (number + 1) items) ≡ list_any test items
+        → is_some (cond passes (Some number) (position_from test (number + 1) items)) ≡ (passes || list_any test items)
+    go true later = refl
+    go false later = later
 
--- the place of an item by what the items show
-pub position-map : {X Y : Type 0} (p : Y → Bool) (view : X → Y) (xs : List X) → position (λ x. p (view x)) xs ≡ position p (map view xs)
-position-map p view xs =
-    ap₂ (λ (place : ℕ) (end : ℕ). cond (nat_lt place end) (Some place) None) (place-map p view xs) (sym (length-map xs view))
+-- an item has a place where one passes the test
+pub found_is : {X : Type 0} (test : X → Bool) (items : List X) → is_some (position test items) ≡ list_any test items
+found_is test items = ap is_some (position_from-zero test items) ∙ found_from test 0 items

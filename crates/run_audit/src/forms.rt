@@ -1,5 +1,5 @@
 //! The forms of the lines before the table.
-ghost use Rattle.std.specs.Prelude.{◌≡◌, ◌&&◌, ◌==◌, codes, length, map, position, string_bytes};
+ghost use Rattle.std.specs.Prelude.{◌≡◌, ◌&&◌, ◌==◌, codes, length, position};
 ghost use Rattle.std.specs.Str.{bytes_eq};
 ghost use Rattle.text_scan.specs.Words.{words_of};
 ghost use Rattle.run_audit.specs.Words.{is_known as is_known_word};
@@ -8,7 +8,7 @@ ghost use Rattle.run_audit.specs.Forms.{history_of as history_words, is_of_known
 
 use crate::words::{LineWords, is_known, split};
 use bwe_specs::Target;
-use doc_names::Names;
+use doc_names::{NameList, Names};
 
 /// What a report's line says beside the name of its task or link.
 #[derive(Clone, Copy, Drop)]
@@ -61,7 +61,7 @@ pub(crate) fn report_of(
     line: &LineWords<'_>,
 ) -> Option<ReportWords>
     requires reporter { reporter
-        ≡ position (bytes_eq (entry_at line.now 2)) (map string_bytes names.now.reporters.items) }
+        ≡ position (bytes_eq (entry_at line.now 2)) names.now.reporters }
     ensures { result ≡ report_words (texts_of names.now) line.now }
 {
     if line.count() == 5 && is_of_known(names, likely, line) {
@@ -77,13 +77,9 @@ pub(crate) fn report_of(
 /// The number of the reporter that a report's line names.
 pub(crate) fn reporter_of(names: &Names, line: &LineWords<'_>) -> Option<usize>
     ensures { result
-        ≡ position (bytes_eq (entry_at line.now 2)) (map string_bytes names.now.reporters.items) }
+        ≡ position (bytes_eq (entry_at line.now 2)) names.now.reporters }
 {
-    let word = line.word(2);
-    names
-        .reporters
-        .iter()
-        .position(|name| word == name.as_bytes())
+    names.reporters.position(line.word(2))
 }
 
 // Whether the name goes with the first word of a report's line.
@@ -106,12 +102,12 @@ fn likely_numbers(likely: Option<Target>) -> (Option<u32>, Option<u32>) {
 }
 
 // Whether the word is one of the names. The likely one is tried first.
-fn is_likely_known(names: &[String], likely: Option<u32>, word: &[u8]) -> bool
-    ensures { result ≡ is_known_word (map string_bytes names.now) word.now }
+fn is_likely_known(names: &NameList, likely: Option<u32>, word: &[u8]) -> bool
+    ensures { result ≡ is_known_word names.now word.now }
 {
     if let Some(number) = likely {
         let number = number as usize;
-        if number < names.len() && word == names[number].as_bytes() {
+        if number < names.len() && word == names.name(number).as_bytes() {
             return true;
         }
     }

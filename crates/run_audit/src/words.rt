@@ -1,9 +1,10 @@
 //! The words of a line, and the numbers and names among them.
-ghost use Rattle.std.specs.Prelude.{◌≡◌, ◌<◌, length, map, string_bytes, IfNone, IfSome};
+ghost use Rattle.std.specs.Prelude.{◌≡◌, ◌<◌, length, IfNone, IfSome};
 ghost use Rattle.text_scan.specs.Words.{words_of};
 ghost use Rattle.doc_names.specs.NameTexts.{entry_at};
 ghost use Rattle.run_audit.specs.Words.{is_known as is_known_word, is_word as is_word_of, number_at as number_in};
 
+use doc_names::NameList;
 use std::marker::Model;
 use text_scan::{cut_at, printed_number_of};
 
@@ -79,18 +80,18 @@ impl<'a> LineWords<'a> {
 }
 
 /// Whether the word is one of the names.
-pub(crate) fn is_known(names: &[String], word: &[u8]) -> bool
-    ensures { result ≡ is_known_word (map string_bytes names.now) word.now }
+pub(crate) fn is_known(names: &NameList, word: &[u8]) -> bool
+    ensures { result ≡ is_known_word names.now word.now }
 {
-    names.iter().any(|name| word == name.as_bytes())
+    names.position(word).is_some()
 }
 
 /// The name of a number, an empty one where it has none.
-pub(crate) fn name_of(names: &[String], number: usize) -> &[u8]
-    ensures { result.now ≡ entry_at (map string_bytes names.now) number }
+pub(crate) fn name_of(names: &NameList, number: usize) -> &[u8]
+    ensures { result.now ≡ entry_at names.now number }
 {
     if number < names.len() {
-        return names[number].as_bytes();
+        return names.name(number).as_bytes();
     }
     b""
 }

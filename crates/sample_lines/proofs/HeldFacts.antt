@@ -1,9 +1,8 @@
 -- What holds of every sample that was read, and of every report.
-use Rattle.std.proofs.Common.{◌≡◌, ℕ, suc, ◌≤◌, Bool, true, false, cond, List, [], ◌∷◌, ◌++◌, length, Option, Some, None, Ok, String, Global, string_bytes, refl, sym, ap, subst, ◌∙◌, nat_le, nat_lt, arith, length-append}
+use Rattle.std.proofs.Common.{◌≡◌, ℕ, suc, ◌≤◌, Bool, true, false, cond, List, [], ◌∷◌, ◌++◌, length, Option, Some, None, Ok, refl, sym, ap, subst, ◌∙◌, nat_le, nat_lt, arith, length-append}
 use Rattle.std.specs.Prelude.{option_and_then, position, slice_get, All}
 use Rattle.std.specs.Str.{bytes_eq}
 use Rattle.std.proofs.lemmas.Bool.{leb-true, ltb-true}
-use Rattle.std.proofs.lemmas.List.{length-map}
 use Rattle.std.proofs.lemmas.List.Elements.{All-nil, All-push, All-cons, All-head, All-tail}
 use Rattle.std.proofs.lemmas.List.Quantifiers.{position-Some}
 use Rattle.bwe_specs.specs.declared.limits.TheConstants.{MAX_AMOUNT}
@@ -115,9 +114,6 @@ reports_owned known window headroom samples held =
 
 -- ---- of a document
 
-known_tasks : (names : Names) (task_owners : List ℕ) → length (known_by names task_owners).names.tasks ≡ length names.tasks.items
-known_tasks names task_owners = length-map {A = String Global} {B = List ℕ} names.tasks.items string_bytes
-
 pub part_held : (known : Known) (names : Names) (task_owners : List ℕ) (room : ℕ) (part : Text) (found : List Sample) → known ≡ known_by names task_owners
     → items_of (next_sample known room) part ≡ Ok found → All (IsHeld (known_by names task_owners)) found × (length found ≤ room)
 part_held known names task_owners room part found is e =
@@ -127,10 +123,9 @@ pub reports_few : (window headroom room : ℕ) (samples : List Sample) (reports 
 reports_few window headroom room samples reports is few = let same : length reports ≡ length (reports_behind window headroom [] samples) = ap (λ (some : List Report). length some) is in omega (arith, length-reports window headroom [] samples)
 
 pub fit_all : (names : Names) (task_owners : List ℕ) (links window headroom : ℕ) (samples : List Sample) (reports : List Report) → reports ≡ reports_behind window headroom [] samples
-    → All (IsHeld (known_by names task_owners)) samples → All (IsFit (length names.tasks.items) links) reports
+    → All (IsHeld (known_by names task_owners)) samples → All (IsFit (length names.tasks) links) reports
 fit_all names task_owners links window headroom samples reports is held =
-    subst (λ (n : ℕ). All (IsFit n links) reports) (known_tasks names task_owners)
-    (subst (λ (some : List Report). All (IsFit (length (known_by names task_owners).names.tasks) links) some) (sym is) (reports_fit (known_by names task_owners) links window headroom samples held))
+    subst (λ (some : List Report). All (IsFit (length names.tasks) links) some) (sym is) (reports_fit (known_by names task_owners) links window headroom samples held)
 
 pub owned_all : (names : Names) (task_owners : List ℕ) (window headroom : ℕ) (samples : List Sample) (reports : List Report) → reports ≡ reports_behind window headroom [] samples
     → All (IsHeld (known_by names task_owners)) samples → All (IsByOwner task_owners) reports

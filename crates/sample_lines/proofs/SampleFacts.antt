@@ -16,3 +16,8 @@ pub sample_is : (known : Known) (text : Text) (fields : Fields) (reporter task a
     → sample_by owns reporter task amount ≡ sample_of known text
 unfolding sample_of
 sample_is known text fields reporter task amount owns cut by of much owned = sym (rw (sym cut, sym by, sym of, sym much, sym owned) refl)
+
+pub no_task : (known : Known) (text : Text) (fields : Fields) (reporter : ℕ) → Some fields ≡ fields_of text → Some reporter ≡ number_of_name known.names.reporters fields.reporter
+    → None ≡ number_of_name known.names.tasks fields.task → None ≡ sample_of known text
+unfolding sample_of
+no_task known text fields reporter cut by none = sym (rw (sym cut, sym by, sym none) refl)

@@ -56,7 +56,7 @@ pub fn estimate_reports(
     // There is room for the reports, and they may stand in a log.
     ensures few { IfOk result (λ reports. length reports.items ≤ room) }
     ensures fit { (links : ℕ)
-        → IfOk result (λ reports. All (IsFit (length names.now.tasks.items) links) reports.items) }
+        → IfOk result (λ reports. All (IsFit (length names.now.tasks) links) reports.items) }
     ensures owned { IfOk result (λ reports. All (IsByOwner task_owners.now) reports.items) }
 {
     let known = Known::new(alloc, names, task_owners)?;

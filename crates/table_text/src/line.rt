@@ -1,9 +1,10 @@
 //! Pieces of a line, put one behind another: a table may have two million lines, and each would
 //! take longer by `write!`.
 
-ghost use Rattle.std.specs.Prelude.{◌≡◌, ◌++◌, OnOk, codes, decimal, map, string_bytes};
+ghost use Rattle.std.specs.Prelude.{◌≡◌, ◌++◌, OnOk, codes, decimal, string_bytes};
 ghost use Rattle.doc_names.specs.NameTexts.{entry_at};
 
+use doc_names::NameList;
 use itoa::Buffer;
 use std::alloc::AllocError;
 
@@ -36,12 +37,12 @@ pub(crate) fn push_name(text: &mut String, word: &str, name: &str) -> Result<(),
 }
 
 /// The name of the number, an empty text where it has none.
-pub fn name_of(names: &[String], number: u32) -> &str
-    ensures { result.now ≡ entry_at (map string_bytes names.now) number }
+pub fn name_of(names: &NameList, number: u32) -> &str
+    ensures { result.now ≡ entry_at names.now number }
 {
     let number = number as usize;
     if number < names.len() {
-        return names[number].as_str();
+        return names.name(number);
     }
     ""
 }

@@ -1,6 +1,6 @@
 //! The text of a table, line by line.
 
-ghost use Rattle.std.specs.Prelude.{◌≡◌, ◌++◌, ◌<◌, ◌≤◌, ◌^◌, ℕ, All, IfOk, OnOk, codes, decimal, flat_map, length, map, string_bytes, sum_by};
+ghost use Rattle.std.specs.Prelude.{◌≡◌, ◌++◌, ◌<◌, ◌≤◌, ◌^◌, ℕ, All, IfOk, OnOk, codes, decimal, flat_map, length, string_bytes, sum_by};
 ghost use Rattle.bwe_specs.specs.Reports.{numbers};
 ghost use Rattle.bwe_specs.specs.declared.limits.TheConstants.{MAX_TOTAL};
 ghost use Rattle.doc_names.specs.NameTexts.{texts_of};
@@ -8,7 +8,7 @@ ghost use Rattle.table_text.specs.TableText.{closed_text, closing_line, group_li
 
 use crate::line::{end_with_number, name_of, push_name, push_number};
 use bwe_specs::{Closing, OutOfMemory};
-use doc_names::Names;
+use doc_names::{NameList, Names};
 use limit_table::{GroupLine, LimitTable, PlaceLine, total_in};
 use std::alloc::{AllocError, Global};
 
@@ -80,7 +80,7 @@ pub fn push_closings(
 pub fn push_value(
     text: &mut String,
     word: &str,
-    names: &[String],
+    names: &NameList,
     between: &str,
     values: &[u64],
     number: usize,
@@ -88,7 +88,7 @@ pub fn push_value(
     requires value { number < length values.now }
     requires few { length values.now < 2 ^ 32 }
     ensures { OnOk result (string_bytes text.new ≡ string_bytes text.old
-        ++ value_line word.now between.now (map string_bytes names.now) values.now number) }
+        ++ value_line word.now between.now names.now values.now number) }
 {
     push_name(text, word, name_of(names, number as u32))?;
     end_with_number(text, between, values[number])
@@ -99,13 +99,13 @@ pub fn push_value(
 pub fn push_values(
     text: &mut String,
     word: &str,
-    names: &[String],
+    names: &NameList,
     between: &str,
     values: &[u64],
 ) -> Result<(), AllocError>
     requires few { length values.now < 2 ^ 32 }
     ensures { OnOk result (string_bytes text.new ≡ string_bytes text.old
-        ++ flat_map (value_line word.now between.now (map string_bytes names.now) values.now)
+        ++ flat_map (value_line word.now between.now names.now values.now)
         (numbers (length values.now))) }
 {
     for number in 0..values.len() {

@@ -1,16 +1,14 @@
 -- The numbers of names, as one name more is numbered.
-use Rattle.std.proofs.Common.{◌≡◌, ℕ, ◌+◌, ◌<◌, ◌≤◌, Bool, true, false, cond, List, [], ◌∷◌, ◌++◌, length, get_or, take, map, Option, Some, None, String, Global, HashMap, BuildHasherDefault, string_bytes, refl, sym, ap, subst, ◌∙◌, arith, add-one}
-use Rattle.std.specs.Prelude.{position, is_some, All}
+use Rattle.std.proofs.Common.{◌≡◌, ℕ, ◌+◌, ◌<◌, Bool, true, false, cond, List, [], ◌∷◌, ◌++◌, length, get_or, take, Option, Some, None, String, Global, HashMap, BuildHasherDefault, string_bytes, refl, sym, ap, subst, ◌∙◌, arith}
+use Rattle.std.specs.Prelude.{position, is_some}
 use Rattle.std.specs.HashMap.{get_by_text, UpdatesBy}
+use Rattle.std.specs.Map.{lookup}
 use Rattle.std.specs.List.{position_from}
 use Rattle.std.specs.Option.{option_or}
 use Rattle.std.specs.Str.{bytes_eq, IsUtf8}
 use Rattle.std.specs.declared.hash.FoldHasher.{FoldHasher}
-use Rattle.std.proofs.Math.Seq.{take-suc}
 use Rattle.std.proofs.lemmas.Iterator.Adapters.{position_from-zero}
-use Rattle.std.proofs.lemmas.List.{map_push, take-map, length-map, length-take-le, take_all as whole}
-use Rattle.std.proofs.lemmas.List.Elements.{All-nil, All-cons}
-use Rattle.std.proofs.lemmas.List.Quantifiers.{position-Some}
+use Rattle.std.proofs.lemmas.List.{take_more}
 use Rattle.std.proofs.lemmas.Map.Text.{hash_map_updates_text}
 use Rattle.std.proofs.lemmas.Slice.Eq.{bytes_eq-Decides}
 use Rattle.std.proofs.lemmas.Str.{IsUtf8-string_bytes}
@@ -91,32 +89,20 @@ stands_now numbers after before name number known new updates place = λ query. 
     go query false e = rw (e, other_way query name e) (known query ∙ or_none (position (bytes_eq query) before))
 
 -- the names so far and the next one
-pub one_more : (names : List (String Global)) (i : ℕ) (name : String Global) → i < length names → name ≡ get_or names i name → take i (map string_bytes names) ++ string_bytes name ∷ [] ≡ take (i + 1) (map string_bytes names)
-one_more names i name l is =
-    sym (take-map string_bytes (i + 1) names
-    ∙ ap (λ (some : List (String Global)). map string_bytes some) (rw add-one (take-suc names i name l))
-    ∙ ap (λ (next : String Global). map string_bytes (take i names ++ next ∷ [])) (sym is)
-    ∙ map_push string_bytes (take i names) name
-    ∙ ap (λ (some : List Text). some ++ string_bytes name ∷ []) (sym (take-map string_bytes i names)))
-
-pub take_all : (names : List (String Global)) (i : ℕ) → length names ≤ i → take i (map string_bytes names) ≡ map string_bytes names
-take_all names i l = take-map string_bytes i names ∙ ap (λ (some : List (String Global)). map string_bytes some) (whole i names l)
-
-pub length_before : (names : List (String Global)) (i : ℕ) → i < length names → length (take i (map string_bytes names)) ≡ i
-length_before names i l = length-take-le i (map string_bytes names) (omega (arith, length-map {A = String Global} {B = List ℕ} names))
+pub one_more : (names : List Text) (i : ℕ) → i < length names → take i names ++ get_or names i [] ∷ [] ≡ take (i + 1) names
+one_more names i within = sym (take_more names i [] within)
 
 -- ---- a name of bytes
 
-are_text : (names : List (String Global)) → All IsUtf8 (map string_bytes names)
-are_text [] = All-nil IsUtf8
-are_text (name ∷ names) = All-cons IsUtf8 (string_bytes name) (map string_bytes names) (IsUtf8-string_bytes name) (are_text names)
+none_has : (name : Text) (entries : List (String Global × ℕ)) → (IsUtf8 name → ⊥) → lookup (λ key. bytes_eq name (string_bytes key)) entries ≡ None
+none_has name [] none = refl
+none_has name (entry ∷ entries) none = go (bytes_eq name (string_bytes entry.0)) refl (none_has name entries none)
+  where
+    go : (b : Bool) → bytes_eq name (string_bytes entry.0) ≡ b → lookup (λ key. bytes_eq name (string_bytes key)) entries ≡ None
+        → cond b (Some entry.1) (lookup (λ key. bytes_eq name (string_bytes key)) entries) ≡ None
+    go false e rest = rest
+    go true e rest = absurd (none (subst IsUtf8 (sym (same_name name (string_bytes entry.0) e)) (IsUtf8-string_bytes entry.0)))
 
 -- bytes that are no UTF-8 are no name
-pub no_number : (names : List (String Global)) (name : Text) → (IsUtf8 name → ⊥) → None ≡ number_of_name (map string_bytes names) name
-no_number names name none = go (position (bytes_eq name) (map string_bytes names)) refl
-  where
-    go : (o : Option ℕ) → position (bytes_eq name) (map string_bytes names) ≡ o → None ≡ number_of_name (map string_bytes names) name
-    go None e = sym e
-    go (Some place) e =
-        let found = position-Some (bytes_eq name) (map string_bytes names) place [] e in
-        absurd (none (subst IsUtf8 (sym (same_name name (get_or (map string_bytes names) place []) found.1)) (are_text names place [] found.0)))
+pub no_number : (names : List Text) (numbers : Numbers) (name : Text) → AreNumbered names numbers → (IsUtf8 name → ⊥) → None ≡ number_of_name names name
+no_number names numbers name known none = sym (none_has name numbers.entries none) ∙ known name

@@ -1,8 +1,7 @@
 -- The numbers of names.
-use Rattle.std.specs.Prelude.{◌≡◌, ℕ, List, map, Option, position, String, string_bytes}
+use Rattle.std.specs.Prelude.{◌≡◌, ℕ, List, Option, position}
 use Rattle.std.specs.HashMap.{get_by_text}
 use Rattle.std.specs.Str.{bytes_eq}
-use Rattle.std.specs.declared.alloc.Global.{Global}
 use Rattle.text_scan.specs.declared.names.NameIndex.{NameIndex}
 
 -- a name's number is the first index at which it stands
@@ -20,5 +19,4 @@ IsIndexOf names index = (name : List ℕ) → number_in index name ≡ number_of
 -- the number that a name has among any names of which this is the index
 abbrev pub IsNumberOf : NameIndex → List ℕ → Option ℕ → Type 0
 IsNumberOf index name number =
-    (names : List (String Global)) → IsIndexOf (map string_bytes names) index
-    → number ≡ number_of_name (map string_bytes names) name
+    (names : List (List ℕ)) → IsIndexOf names index → number ≡ number_of_name names name

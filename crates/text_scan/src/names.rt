@@ -1,9 +1,10 @@
 //! Names, each with its number.
 
-ghost use Rattle.std.specs.Prelude.{◌≡◌, map, string_bytes, IfOk};
+ghost use Rattle.std.specs.Prelude.{◌≡◌, IfOk};
 ghost use Rattle.text_scan.specs.Names.{number_in, IsIndexOf, IsNumberOf};
 
 use bwe_specs::OutOfMemory;
+use doc_names::NameList;
 use std::alloc::Global;
 use std::collections::HashMap;
 
@@ -16,16 +17,17 @@ pub struct NameIndex {
 
 impl NameIndex {
     /// Numbers the names. Takes about the time of one hash for each, and keeps a copy of each.
-    pub fn new(alloc: Global, names: &[String]) -> Result<NameIndex, OutOfMemory>
-        ensures { IfOk result (IsIndexOf (map string_bytes names.now)) }
+    pub fn new(alloc: Global, names: &NameList) -> Result<NameIndex, OutOfMemory>
+        ensures { IfOk result (IsIndexOf names.now) }
     {
         let mut numbers = HashMap::new(alloc);
-        for (number, name) in names.iter().enumerate() {
-            if !numbers.contains_key(name.as_str()) {
-                let Ok(number) = u32::try_from(number) else {
+        for place in 0..names.len() {
+            let name = names.name(place);
+            if !numbers.contains_key(name) {
+                let Ok(number) = u32::try_from(place) else {
                     return Err(OutOfMemory);
                 };
-                numbers.insert(name.clone()?, number)?;
+                numbers.insert(String::from_str(alloc, name)?, number)?;
             }
         }
         Ok(NameIndex { numbers })

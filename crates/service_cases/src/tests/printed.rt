@@ -6,22 +6,22 @@ ghost use Rattle.std.specs.List.{All};
 
 use bwe_specs::{Cause, OutOfMemory, Report, Target, Verdict};
 use crew_log::{CrewLog, ReadLine, ReaderLog};
-use doc_names::Names;
+use doc_names::{NameList, Names};
 use limit_table::LimitTable;
 use run_text::run_text;
 use std::alloc::Global;
 use table_text::check_text;
 
-fn named(alloc: Global, text: &str) -> Result<Vec<String>, OutOfMemory> {
-    let mut names = Vec::new(alloc);
-    names.push(String::from_str(alloc, text)?)?;
+fn named(alloc: Global, name: &str) -> Result<NameList, OutOfMemory> {
+    let mut names = NameList::new(alloc);
+    names.push(name)?;
     Ok(names)
 }
 
 fn names(alloc: Global) -> Result<Names, OutOfMemory> {
     Ok(Names {
         links: named(alloc, "l0")?,
-        groups: Vec::new(alloc),
+        groups: NameList::new(alloc),
         tasks: named(alloc, "t0")?,
         reporters: named(alloc, "r0")?,
     })

@@ -1,6 +1,6 @@
-use Rattle.std.proofs.Common.{map, string_bytes, take}
+use Rattle.std.proofs.Common.{take}
 use Rattle.text_scan.proofs.NameFacts.{AreNumbered}
 use Rattle.text_scan.proofs.names.NameIndex.new.Given as goal
 
-abbrev pub invariant-loop-number : goal.invariant-loop-number
-invariant-loop-number l = AreNumbered (take l.number (map string_bytes l.names)) l.numbers
+abbrev pub invariant-loop-place : goal.invariant-loop-place
+invariant-loop-place l = AreNumbered (take l.place l.names) l.numbers
