@@ -1,8 +1,6 @@
 -- A history whose reporters' reports are those of a script has the script's table.
-use Rattle.std.proofs.Common.{◌≡◌, ◌==◌, ℕ, ◌<◌, ◌≤◌, true, false, cond, Bool, List, [], ◌∷◌, Vec, Global, length, filter, get_or, slice_index_or, unwrap_or, refl, sym, ap, ◌∙◌, subst, arith, inl, inr, All, le_trans, Result, Ok, Err, IfOk, vec_len}
+use Rattle.std.proofs.Common.{◌≡◌, ◌==◌, ℕ, ◌<◌, ◌≤◌, true, false, cond, Bool, List, [], ◌∷◌, Vec, Global, length, filter, get_or, slice_index_or, unwrap_or, refl, sym, ap, ◌∙◌, subst, arith, inl, inr, All, le_trans, Result, Ok, Err, IfOk}
 use Rattle.std.proofs.lemmas.Bool.{cases_lt, eq-eqb, ne_eqb}
-use Rattle.std.specs.Prelude.{string_bytes}
-use Rattle.std.proofs.lemmas.List.{length-map}
 use Rattle.std.proofs.lemmas.List.Elements.{All-filter, All-head, All-tail, All-nil, All-cons, All-same}
 use Rattle.bwe_specs.specs.declared.report.Report.{Report}
 use Rattle.bwe_specs.specs.declared.report.Target.{Target}
@@ -87,10 +85,6 @@ module _ (plan : Plan) (owner : Target → ℕ) (reporters : ℕ) (script histor
 module _ (document : Document) (usable : IsUsable document) where
   abbrev pub plan_in : Plan
   plan_in = record { top = document.tree.top; clusters = document.tree.clusters; groups = document.plan; capacities = document.topology.capacities }
-
-  -- the code counts the names of the reporters
-  pub reporters-are : vec_len document.names.reporters ≡ reporter_count document
-  reporters-are = document.names.reporters.ok.0 ∙ sym (length-map document.names.reporters.items string_bytes)
 
   pub owner_in : Target → ℕ
   owner_in target = unwrap_or (owner_of document.task_owners.items document.link_owners.items target) 0

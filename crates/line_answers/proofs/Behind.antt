@@ -1,7 +1,6 @@
 -- Reports behind the script of a document.
-use Rattle.std.proofs.Common.{◌≡◌, ℕ, ◌-◌, ◌<◌, ◌≤◌, List, ◌++◌, length, Option, Some, None, Vec, Global, string_bytes, ap, sym, subst, ◌∙◌, arith, length-append}
+use Rattle.std.proofs.Common.{◌≡◌, ℕ, ◌-◌, ◌<◌, ◌≤◌, List, ◌++◌, length, Option, Some, None, Vec, Global, ap, sym, subst, ◌∙◌, arith, length-append}
 use Rattle.std.specs.Prelude.{All, get_or}
-use Rattle.std.proofs.lemmas.List.{length-map}
 use Rattle.std.proofs.lemmas.List.Elements.{All-append, All-get_or}
 use Rattle.std.proofs.lemmas.Option.{get_or_from_slice_get, slice_get_within}
 use Rattle.bwe_specs.specs.declared.limits.TheConstants.{MAX_REPORTS}
@@ -38,9 +37,9 @@ with_script document script = record {
   link_owners = document.link_owners;
 }
 
-module _ (document : Document) (reports : List Report) (usable : IsUsable document) (fit : (links : ℕ) → All (IsFit (length document.names.tasks.items) links) reports) (owned : All (IsByOwner document.task_owners.items) reports) where
-  task_count : length document.names.tasks.items ≡ tasks_in document
-  task_count = sym (length-map document.names.tasks.items string_bytes) ∙ usable.task_names
+module _ (document : Document) (reports : List Report) (usable : IsUsable document) (fit : (links : ℕ) → All (IsFit (length document.names.tasks) links) reports) (owned : All (IsByOwner document.task_owners.items) reports) where
+  task_count : length document.names.tasks ≡ tasks_in document
+  task_count = usable.task_names
 
   all_reports : All (IsReport (link_count document) (tasks_in document) (reporter_count document)) reports
   all_reports = λ place other within. (

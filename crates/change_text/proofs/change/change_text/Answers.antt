@@ -26,6 +26,4 @@ returns c =
       c.deref-7.ensures.value,
       c.deref-8.ensures.value,
       c.deref-9.ensures.value,
-      c.deref-10.ensures.value,
-      c.deref-11.ensures.value,
     ) refl

@@ -6,5 +6,5 @@ use Rattle.line_answers.proofs.estimate_line.estimate_document.Goals as goal
 
 pub solve_behind-requires-clause-fit : goal.solve_behind-requires-clause-fit
 solve_behind-requires-clause-fit c = λ links.
-    subst (λ (reports : List Report). All (IsFit (length c.args.document.names.tasks.items) links) reports)
+    subst (λ (reports : List Report). All (IsFit (length c.args.document.names.tasks) links) reports)
     (sym c.deref.ensures.value) (c.in-Ok.ensures.fit links)
