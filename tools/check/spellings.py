@@ -2,12 +2,12 @@
 """tools/check/spellings.py [COUNT [SEED]]: long documents, spelled by chance, answered with threads
 and without.
 
-`bwe solve` reads a text of 2 MiB and more in stretches on threads, where it finds places to cut it;
-`bwe-live` reads each text by one thread. A document of `bwe make` is spelled anew: its members in
-another order, keys of its groups and reports too, with blanks or none, with names that need escapes
-or look like a place to cut; and one in two gets a fault. The table of `solve`, or its refusal, has
-to be the first table of `bwe-live`, or its refusal. The last line says how many did not agree, and
-the status is 0 where all did.
+`bwe solve` reads a text of 256 KiB and more in stretches on threads, where it finds places to cut
+it; `bwe-live` reads each text by one thread. A document of `bwe make` is spelled anew: its members
+in another order, keys of its groups and reports too, with blanks or none, with names that need
+escapes or look like a place to cut; and one in two gets a fault. The table of `solve`, or its
+refusal, has to be the first table of `bwe-live`, or its refusal. The last line says how many did not
+agree, and the status is 0 where all did.
 
 The programs are crates/bwe/out/bwe and crates/bwe_live/out/bwe_live, or those that BWE and BWE_LIVE
 name.
@@ -26,7 +26,7 @@ TOP = Path(__file__).resolve().parents[2]
 BWE = os.environ.get("BWE", str(TOP / "crates/bwe/out/bwe"))
 BWE_LIVE = os.environ.get("BWE_LIVE", str(TOP / "crates/bwe_live/out/bwe_live"))
 COUNT, SECONDS = 20, 120
-LONG = 2_097_152  # bytes from which on a text is read in stretches
+LONG = 262_144  # bytes from which on a text is read in stretches
 LONGER = "-of-a-long-name"  # behind the name of each task
 ODD = ["é", '"', "\\", '},{"name"', '}, {"reporter": ', "日本", "\t"]
 STYLES: list[dict[str, Any]] = [
