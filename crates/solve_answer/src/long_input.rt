@@ -26,20 +26,24 @@ const END: usize = 1_024;
 /// and not a document of version 4.
 ///
 /// An accepted document that is likely of version 4 is read once, whatever its length: what was read
-/// has its version. Any other input that is that long is passed over for its version.
+/// has its version. Any other input that is that long is passed over for its version. The input is
+/// let go before a table is made.
 pub(crate) fn solve_unless_too_long<R: Threads + Sync>(
     rt: &R,
     alloc: Global,
-    input: &[u8],
+    input: Vec<u8>,
 ) -> Result<Option<Answer>, OutOfMemory>
-    ensures { IfOk result (IsForInput input.now) }
+    ensures { IfOk result (IsForInput input.items) }
 {
-    if input.len() as u64 <= MAX_INPUT || !is_likely_of_version_4(input) {
+    if input.len() as u64 <= MAX_INPUT || !is_likely_of_version_4(&input) {
         return solve_after_a_look(rt, alloc, input);
     }
-    match read_document_on_threads(rt, alloc, input) {
-        Ok(document) => solve_of_version_4(rt, alloc, document),
-        Err(error) => refused_unless_too_long(alloc, input, &error),
+    match read_document_on_threads(rt, alloc, &input) {
+        Ok(document) => {
+            drop(input);
+            solve_of_version_4(rt, alloc, document)
+        }
+        Err(error) => refused_unless_too_long(alloc, &input, &error),
     }
 }
 
@@ -47,11 +51,11 @@ pub(crate) fn solve_unless_too_long<R: Threads + Sync>(
 fn solve_after_a_look<R: Threads + Sync>(
     rt: &R,
     alloc: Global,
-    input: &[u8],
+    input: Vec<u8>,
 ) -> Result<Option<Answer>, OutOfMemory>
-    ensures { IfOk result (IsForInput input.now) }
+    ensures { IfOk result (IsForInput input.items) }
 {
-    if document_is_too_long(alloc, input)? {
+    if document_is_too_long(alloc, &input)? {
         return Ok(None);
     }
     let answer = solve_on_threads(rt, alloc, input)?;

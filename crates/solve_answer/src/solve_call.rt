@@ -38,7 +38,7 @@ pub fn solve_once<S: Source, K: Sink, R: Threads + Sync>(
         Ok(input) => input,
         Err(error) => return refuse_input(sink, error),
     };
-    match solve_unless_too_long(rt, alloc, &input) {
+    match solve_unless_too_long(rt, alloc, input) {
         Ok(Some(answer)) => finish(sink, Ok(answer)),
         Ok(None) => refuse_input(sink, InputError::TooLong),
         Err(OutOfMemory) => refuse_input(sink, InputError::OutOfMemory),

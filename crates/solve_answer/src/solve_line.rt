@@ -57,16 +57,20 @@ fn solve_opened(alloc: Global, opened: &mut OpenedDocument) -> Result<Answer, Ou
     Ok(Answer { status: 0, text })
 }
 
-/// The answer to its input, read and worked out on threads.
+/// The answer to its input, read and worked out on threads. The input is let go before the table is
+/// made.
 pub(crate) fn solve_on_threads<R: Threads + Sync>(
     rt: &R,
     alloc: Global,
-    input: &[u8],
+    input: Vec<u8>,
 ) -> Result<Answer, OutOfMemory>
-    ensures { IfOk result (λ answer. answer ≡ document_reply solve_accepted input.now) }
+    ensures { IfOk result (λ answer. answer ≡ document_reply solve_accepted input.items) }
 {
-    match read_document_on_threads(rt, alloc, input) {
-        Ok(document) => solve_document_on_threads(rt, alloc, document),
+    match read_document_on_threads(rt, alloc, &input) {
+        Ok(document) => {
+            drop(input);
+            solve_document_on_threads(rt, alloc, document)
+        }
         Err(error) => refused(alloc, &error),
     }
 }
