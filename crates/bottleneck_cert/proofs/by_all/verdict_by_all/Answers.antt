@@ -9,10 +9,10 @@ use Rattle.mpfa_fill.proofs.MomentLemmas.{never_falls, over-along, right-along}
 use Rattle.bottleneck_cert.proofs.Causes.{verdict-here, verdict-next, verdict-end}
 use Rattle.bottleneck_cert.proofs.by_all.verdict_by_all.Given.{Over}
 use Rattle.bottleneck_cert.proofs.by_all.verdict_by_all.Goals as goal
-use Rattle.bottleneck_cert.proofs.by_all.verdict_by_all.Goals.{After-drop-moment-in-Some-4, After-drop-moment-6}
+use Rattle.bottleneck_cert.proofs.by_all.verdict_by_all.Goals.{After-drop-moment-in-Some-5, After-drop-moment-7}
 
 -- a closing at fault is the first ..
-fault-said : (g : Over) (c : After-drop-moment-in-Some-4 g)
+fault-said : (g : Over) (c : After-drop-moment-in-Some-5 g)
     → Wrong c.loop-place.place c.in-Some.cause ≡ verdict (wan_of (g.V.GroupValues.meaning c.args.values.now) c.args.plan.now c.args.topology.now.capacities) c.args.closings.now
 fault-said g c =
     let wan : Wan = wan_of (g.V.GroupValues.meaning c.args.values.now) c.args.plan.now c.args.topology.now.capacities in
@@ -25,7 +25,7 @@ fault-said g c =
     ∙ i.rest
 
 -- .. and after all closings the verdict goes by the top
-top-said : (g : Over) (c : After-drop-moment-6 g)
+top-said : (g : Over) (c : After-drop-moment-7 g)
     → c.top_verdict.result ≡ verdict (wan_of (g.V.GroupValues.meaning c.args.values.now) c.args.plan.now c.args.topology.now.capacities) c.args.closings.now
 top-said g c =
     let wan : Wan = wan_of (g.V.GroupValues.meaning c.args.values.now) c.args.plan.now c.args.topology.now.capacities in
