@@ -1,4 +1,4 @@
-use Rattle.std.proofs.Common.{rules, arith, string_bytes, sym, ap, ◌∙◌, ◌≡◌, ◌<◌, ◌^◌}
+use Rattle.std.proofs.Common.{rules, arith, string_bytes, sym, ap, ◌≡◌}
 use Rattle.std.specs.Prelude.{decimal}
 use Rattle.std.proofs.lemmas.Fmt.{decimal_injective}
 use Rattle.bwe_specs.specs.Allocation.{GroupLine}
