@@ -19,17 +19,17 @@ returns-in-Err g c =
 pub returns-in-Ok-Some : goal.returns-in-Ok-Some
 returns-in-Ok-Some g c =
     let found = rw c.in-Ok-Some.field-0-is at c.in-Ok-Some.ensures in
-    let answer : IsForInput c.in-Ok.input.items (Some c.in-Ok-Some.answer) = rw c.deref.ensures.value at found in
+    let answer : IsForInput c.in-Ok.input.items (Some c.in-Ok-Some.answer) = found in
     ending-writes _ _ _ (answered refl c.in-Ok.ensures.input answer.0 answer.1) c.finish.ensures
 
 pub returns-in-Ok-None : goal.returns-in-Ok-None
 returns-in-Ok-None g c =
     let found = rw c.in-Ok-None.field-0-is at c.in-Ok-None.ensures in
-    let long : IsForInput c.in-Ok.input.items None = rw c.deref.ensures.value at found in
+    let long : IsForInput c.in-Ok.input.items None = found in
     ending-writes _ _ _ (too_long refl c.in-Ok.ensures.input long) (c.refuse_input-in-Ok-None.ensures.too_long refl)
 
-pub returns : goal.returns
-returns g c =
+pub returns-in-Err-solve_unless_too_long : goal.returns-in-Err-solve_unless_too_long
+returns-in-Err-solve_unless_too_long g c =
     ending-refused _ _ _ tt refl never
     OutOfMemory (λ is. absurd cc) (λ is. absurd cc) (λ is. absurd cc)
     c.refuse_input-in-Err-solve_unless_too_long.ensures.fault c.refuse_input-in-Err-solve_unless_too_long.ensures.too_long c.refuse_input-in-Err-solve_unless_too_long.ensures.far_too_long c.refuse_input-in-Err-solve_unless_too_long.ensures.memory
