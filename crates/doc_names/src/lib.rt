@@ -3,8 +3,8 @@
 //!
 //! Reading a document makes them; the texts of tables and runs print them. A name's place in its
 //! list is the number of what it names. `texts_of` (`specs/NameTexts.antt`) is what contracts see
-//! of them. Nothing is promised here of names: a text says which lists have to be long enough. Who may
-//! report what is said by `owner_of`, `is_owner` and `find_not_owned` (`specs/Owners.antt`).
+//! of them. Nothing is promised here of names: a text says which lists have to be long enough. Who
+//! may report what is said by `owner_of`, `is_owner` and `find_not_owned` (`specs/Owners.antt`).
 #![tactic(auto)]
 
 mod name_list;
