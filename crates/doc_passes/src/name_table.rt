@@ -49,6 +49,13 @@ impl<'a> NameTable<'a> {
         self.names.as_slice().len()
     }
 
+    /// Makes room for so many more names, where there is memory for them. Nothing else changes.
+    pub fn reserve(&mut self, count: usize)
+        ensures { self.new ≡ self.old }
+    {
+        let _ = self.names.reserve(count);
+    }
+
     /// Adds a name at the end, or answers a fault here where it stood before. Takes about the time
     /// of one hash.
     pub fn add(&mut self, alloc: Global, name: &'a str) -> Result<(), Fault>

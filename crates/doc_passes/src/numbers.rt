@@ -199,8 +199,11 @@ impl<'a, 'b> Walked<NameTable<'b>, Vec<u32>, ()> for RawTask<'a> {
         owners: &mut Vec<u32>,
         _second: &mut (),
     ) -> Result<(), Fault> {
-        // The tasks of a job mostly have one owner.
-        let guess = owners.last().copied().unwrap_or(0);
+        // The tasks of a job mostly have one owner, or two in turn.
+        let guess = match owners.as_slice() {
+            [.., owner, _] => *owner,
+            _ => 0,
+        };
         let owner = number_near_in_member(
             alloc,
             DocKey::Reporter,
@@ -330,25 +333,44 @@ fn target_number(
     }
 }
 
-// The task behind the last report's, of which a script that goes through the tasks in their order
-// reports next. It is a guess, and no clause is needed.
+// The task that is as far behind the last report's as that is behind the one before: a script goes
+// through the tasks in their order, or through those of one group after the other in turn. It is a
+// guess, and no clause is needed.
 fn likely_task(found: &[Report]) -> u32 {
-    match found.last() {
-        Some(
+    match found {
+        [
+            ..,
             Report {
-                target: Target::Task { number },
+                target: Target::Task { number: before },
                 ..
             },
-        ) => number.saturating_add(1),
+            Report {
+                target: Target::Task { number: last },
+                ..
+            },
+        ] => last.saturating_add(last.saturating_sub(*before)),
+        [
+            ..,
+            Report {
+                target: Target::Task { number: last },
+                ..
+            },
+        ] => last.saturating_add(1),
         _ => 0,
     }
 }
 
-// The owner of the target where it is a task, whose report should come from it. It is a guess, and
-// no clause is needed.
-fn likely_reporter(target: &Result<Target, Fault>, task_owners: &[u32]) -> u32 {
-    match target {
-        Ok(Target::Task { number }) => task_owners.get(*number as usize).copied().unwrap_or(0),
+// The owner of the target where it is a task, whose report should come from it. Where owners are
+// not known, the reporter of four reports before: reporters mostly come one after the other, or in
+// turn. It is a guess, and no clause is needed.
+fn likely_reporter(target: &Result<Target, Fault>, task_owners: &[u32], found: &[Report]) -> u32 {
+    if let Ok(Target::Task { number }) = target
+        && let Some(owner) = task_owners.get(*number as usize)
+    {
+        return *owner;
+    }
+    match found {
+        [.., report, _, _, _] => report.reporter,
         _ => 0,
     }
 }
@@ -361,13 +383,13 @@ fn report_numbers(
     tasks: &NameTable,
     reporters: &NameTable,
     task_owners: &[u32],
-    likely_task: u32,
+    found: &[Report],
 ) -> Result<Report, Fault>
     ensures { Gives (λ report. report) result
         (spec.report_numbers links.now tasks.now reporters.now (report_view report.now)) }
 {
-    let target = target_number(alloc, &report.target, links, tasks, likely_task);
-    let guess = likely_reporter(&target, task_owners);
+    let target = target_number(alloc, &report.target, links, tasks, likely_task(found));
+    let guess = likely_reporter(&target, task_owners, found);
     let reporter = number_near_in_member(
         alloc,
         DocKey::Reporter,
@@ -398,8 +420,7 @@ fn each_report(
 {
     let mut found = Vec::with_capacity(alloc, script.len())?;
     for (place, report) in script.iter().enumerate() {
-        let guess = likely_task(&found);
-        match report_numbers(alloc, report, links, tasks, reporters, task_owners, guess) {
+        match report_numbers(alloc, report, links, tasks, reporters, task_owners, &found) {
             Ok(numbers) => found.push(numbers)?,
             Err(fault) => return Err(fault.under(PathStep::Index {
                 place: place as u64,

@@ -177,6 +177,19 @@ impl<'a> Walked<(), NameTable<'a>, NameTable<'a>> for RawGroup<'a> {
     }
 }
 
+// How many tasks the groups have. It is a guess at the room of a table, and no clause is needed.
+fn task_count(groups: &[RawGroup]) -> usize {
+    let mut count: usize = 0;
+    for group in groups {
+        for user in &group.users {
+            for job in &user.jobs {
+                count = count.saturating_add(job.tasks.len());
+            }
+        }
+    }
+    count
+}
+
 /// Fills the tables with the names of the document, up to the first name that stood before.
 #[tactic(auto, unfolding(crate::specs::Names::name_lists))]
 pub fn fill_tables<'a>(
@@ -200,7 +213,10 @@ pub fn fill_tables<'a>(
         })
         result (names.name_lists (raw_view raw.now)) }
 {
+    links.reserve(raw.links.len());
     walk_member(alloc, DocKey::Links, &raw.links, &(), links, &mut ())?;
+    groups.reserve(raw.groups.len());
+    tasks.reserve(task_count(&raw.groups));
     walk_member(alloc, DocKey::Groups, &raw.groups, &(), groups, tasks)?;
     walk_member(
         alloc,

@@ -1,6 +1,6 @@
 //! A network filled with the groups' values, of which many are kept.
 
-ghost use Rattle.std.specs.Prelude.{◌≡◌, ◌≤◌, ℕ, length, IfOk};
+ghost use Rattle.std.specs.Prelude.{◌≡◌, ◌≤◌, ℕ, length, IfOk, IfSome};
 ghost use Rattle.mpfa_fill.specs.Filling.{IsFilling};
 ghost use Rattle.mpfa_fill.specs.GroupValues.{wan_of};
 ghost use Rattle.path_groups.specs.Plan.{IsBuiltOn};
@@ -37,14 +37,15 @@ struct Answer<K: Meant> {
     ghost is: { value ≡ K.value group share },
 }
 
-/// The groups of a tree with what is kept of them. What else is asked for is listed. It is steady
-/// where few groups have changed since the last filling, which asked nearly the same.
+/// The groups of a tree with what is kept of them. What else is asked for is listed by group, and
+/// asked for once. It is steady where few groups have changed since the last filling, which asked
+/// nearly the same.
 #[derive(Drop)]
 struct KnownValues<'a, K: Meant> {
     tree: &'a PolicyTree,
     known: &'a [KnownGroup],
     is_steady: bool,
-    answers: RefCell<Vec<Answer<K>>>,
+    answers: RefCell<Vec<Vec<Answer<K>>>>,
     ghost are: { AreKnown tree.now known.now },
     ghost meant: { K.value ≡ value_in tree.now },
 }
@@ -54,14 +55,29 @@ impl<K: Meant> KnownValues<'_, K> {
     fn list(&self, group: u32, share: u64, value: u64)
         requires { value ≡ value_in self.now.tree.now group share }
     {
-        if let Ok(mut answers) = self.answers.try_borrow_mut() {
+        if let Ok(mut answers) = self.answers.try_borrow_mut()
+            && let Some(list) = answers.get_mut(group as usize)
+        {
             let answer = Answer {
                 group,
                 share,
                 value,
                 of: PhantomData,
             };
-            let _ = answers.push(answer);
+            let _ = list.push(answer);
+        }
+    }
+
+    // The value, where it is listed.
+    fn listed(&self, group: u32, share: u64) -> Option<u64>
+        ensures { IfSome result (λ value. value ≡ value_in self.now.tree.now group share) }
+    {
+        match self.answers.try_borrow() {
+            Ok(answers) => match answers.get(group as usize) {
+                Some(list) => value_among(list, group, share),
+                None => None,
+            },
+            Err(_) => None,
         }
     }
 
@@ -94,6 +110,9 @@ impl<K: Meant> GroupValues for KnownValues<'_, K> {
 
     fn value(&self, group: u32, share: u64) -> u64 {
         if let Some(value) = self.known[group as usize].value(share) {
+            return value;
+        }
+        if let Some(value) = self.listed(group, share) {
             return value;
         }
         let value = self.tree.group_value(group, share);
@@ -161,20 +180,57 @@ fn filled_by<K: Meant>(
         (IsFilling (wan_of (values_of tree.now) plan.now topology.now.capacities)) }
     ensures known { AreKnown tree.now known.new }
 {
+    let answers = no_answers(alloc, tree.groups())?;
     let values: KnownValues<K> = KnownValues {
         tree,
         known: &*known,
         is_steady,
-        answers: RefCell::new(Vec::new(alloc)),
+        answers: RefCell::new(answers),
     };
     let filling = solve_by_guesses(alloc, &values, topology, plan, guesses);
     let KnownValues { answers, .. } = values;
     let answers = answers.into_inner();
-    add_answers(tree, known, &answers);
+    add_all_answers(tree, known, &answers);
     filling
 }
 
-// Keeps the values that were listed.
+// No answer of so many groups.
+fn no_answers<K: Meant>(alloc: Global, groups: u32) -> Result<Vec<Vec<Answer<K>>>, OutOfMemory> {
+    let mut answers = Vec::with_capacity(alloc, groups as usize)?;
+    for _ in 0..groups {
+        answers.push(Vec::new(alloc))?;
+    }
+    Ok(answers)
+}
+
+// The value that one of the answers gives.
+fn value_among<K: Meant>(answers: &[Answer<K>], group: u32, share: u64) -> Option<u64>
+    ensures { IfSome result (λ value. value ≡ K.value group share) }
+{
+    for answer in answers {
+        if answer.group == group && answer.share == share {
+            return Some(answer.value);
+        }
+    }
+    None
+}
+
+// Keeps the values that were listed of all groups.
+fn add_all_answers<K: Meant>(
+    tree: &PolicyTree,
+    known: &mut [KnownGroup],
+    answers: &[Vec<Answer<K>>],
+)
+    requires meant { K.value ≡ value_in tree.now }
+    requires known { AreKnown tree.now known.old }
+    ensures { AreKnown tree.now known.new }
+{
+    for list in answers {
+        add_answers(tree, known, list);
+    }
+}
+
+// Keeps these values.
 fn add_answers<K: Meant>(tree: &PolicyTree, known: &mut [KnownGroup], answers: &[Answer<K>])
     requires meant { K.value ≡ value_in tree.now }
     requires known { AreKnown tree.now known.old }

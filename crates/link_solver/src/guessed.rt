@@ -26,6 +26,12 @@ use std::marker::Brand;
 use std::sync::ledger::{Blank, Ledger};
 use wan_topology::Topology;
 
+// An aim between no two shares, for a look in the middle.
+const NO_AIM: u64 = 0;
+
+// So many looks behind a guess all go by the loads.
+const MOST_AIMS: u64 = 4;
+
 /// The same filling as that of `solve_by_links`, found by fewer looks where the guesses are right.
 /// What it finds of each link is a guess for the next filling.
 ///
@@ -211,8 +217,8 @@ fn next_guessed<V: GroupValues, L: Ledger, P: Ledger>(
 // What is known of a link after some looks, of which the first is at the guess: it is known at
 // which share it is over first, or it fits at a share above `enough`.
 //
-// Behind a guess that is wrong it looks farther and farther away from there, and in the middle once
-// that is no longer between a share at which the link fits and one at which it is over.
+// Behind a guess that is wrong it looks where the line through two loads comes to the capacity:
+// after a few changed demands a link is due near its guess, and its load rises about evenly there.
 fn searched<V: GroupValues, L: Ledger>(
     front: &Front<V>,
     terms: &[Term],
@@ -242,21 +248,26 @@ fn searched<V: GroupValues, L: Ledger>(
     let mut high = due.over.min(top + 1);
     let mut low_load = due.low_load;
     let mut over_load = due.over_load;
+    let aiming = Aiming {
+        first: due,
+        capacity,
+        top,
+        is_guided: guess < top,
+    };
     let mut aim = guess;
-    let mut stride: u64 = if guess < top { 1 } else { 0 };
+    let mut looks: u64 = 0;
     while high - low > 1 && low <= enough {
         let middle = between(low, high, aim);
         let load = load_within(front, terms, link, middle, capacity, steps);
-        let step = stride;
-        stride = stride.saturating_mul(8);
+        looks = looks.saturating_add(1);
         if load > capacity {
             high = middle;
             over_load = load;
-            aim = middle.saturating_sub(step);
+            aim = aiming.next(looks, low, low_load, middle, load);
         } else {
             low = middle;
             low_load = load;
-            aim = middle.saturating_add(step);
+            aim = aiming.next(looks, middle, load, high, over_load);
         }
     }
     Due {
@@ -264,6 +275,54 @@ fn searched<V: GroupValues, L: Ledger>(
         over: high,
         low_load,
         over_load,
+    }
+}
+
+// By what a search picks its next look: what was known of the link before its first one, the
+// capacity and the top, and whether the first look was at a guess.
+#[derive(Clone, Copy)]
+struct Aiming {
+    first: Due,
+    capacity: u128,
+    top: u64,
+    is_guided: bool,
+}
+
+impl Aiming {
+    // The share at which to look next, where a link fits at the one share and is over at the other,
+    // or not known to be where that is above the top. It is a guess, and no clause is needed.
+    //
+    // Where some looks have not come to the end, loads bend, and every other look is in the middle.
+    fn next(&self, looks: u64, low: u64, low_load: u128, high: u64, over_load: u128) -> u64 {
+        if !self.is_guided || looks > MOST_AIMS && looks % 2 == 0 {
+            return NO_AIM;
+        }
+        if high > self.top {
+            return self.beyond(low, low_load);
+        }
+        crossing(low, low_load, high, over_load, self.capacity)
+            .max(low.saturating_add(1))
+            .min(high.saturating_sub(1))
+    }
+
+    // A little beyond the line through the loads of a link that is not over anywhere so far.
+    fn beyond(&self, low: u64, low_load: u128) -> u64 {
+        let first = self.first;
+        let there = crossing(first.share, first.low_load, low, low_load, self.capacity);
+        let ahead = there.saturating_sub(low);
+        there.saturating_add(ahead / 4).saturating_add(1)
+    }
+}
+
+// The last share at which the line through the loads at two shares is within the capacity, or no aim
+// where it does not rise.
+fn crossing(low: u64, low_load: u128, high: u64, high_load: u128, capacity: u128) -> u64 {
+    let room = capacity.saturating_sub(low_load);
+    let rise = high_load.saturating_sub(low_load);
+    let shares = high.saturating_sub(low) as u128;
+    match room.saturating_mul(shares).checked_div(rise) {
+        Some(steps) => low.saturating_add(u64::try_from(steps).unwrap_or(u64::MAX)),
+        None => NO_AIM,
     }
 }
 

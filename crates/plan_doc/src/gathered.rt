@@ -510,6 +510,7 @@ fn gathered_in_stretches<R: Threads + Sync>(
 {
     let mut scratches = scratches_of(alloc).ok()?;
     let raw = read_straight_on_threads(rt, alloc, bytes, scratches.as_mut_slice())?;
+    drop(scratches);
     Some(gather_on_threads(rt, alloc, &raw))
 }
 
