@@ -77,11 +77,11 @@ module _ {Y : Type 0} (add : Y → Y → Y) (first others : Result Y (List PathS
   abbrev whole : Result Y (List PathStep)
   whole = first >>= λ early. others >>= λ late. Ok (add early late)
 
-  early_fails : (fault : Fault) → Fails fault first → Fails fault whole
+  pub early_fails : (fault : Fault) → Fails fault first → Fails fault whole
   early_fails OutOfMemory fails = tt
   early_fails (At path) fails = ap (λ r. r >>= λ early. others >>= λ late. Ok (add early late)) fails
 
-  late_fails : (early : Y) (fault : Fault) → first ≡ Ok early → Fails fault others → Fails fault whole
+  pub late_fails : (early : Y) (fault : Fault) → first ≡ Ok early → Fails fault others → Fails fault whole
   late_fails early OutOfMemory is fails = tt
   late_fails early (At path) is fails =
       ap (λ r. r >>= λ early. others >>= λ late. Ok (add early late)) is ∙ ap (λ r. r >>= λ late. Ok (add early late)) fails

@@ -8,3 +8,5 @@ pub mod NameFacts
 pub mod NumberFacts
 pub mod LimitFacts
 pub mod GroupHalves
+pub mod EachFrom
+pub mod ScriptHalves

@@ -405,21 +405,23 @@ fn report_numbers(
     })
 }
 
-// The numbers of each report, or the first fault, told from the list.
-fn each_report(
+// The numbers of each report from this place on, or the first fault, told from the list of all.
+fn each_report_from(
     alloc: Global,
     script: &[RawReport],
+    from: usize,
     links: &NameTable,
     tasks: &NameTable,
     reporters: &NameTable,
     task_owners: &[u32],
 ) -> Result<Vec<Report>, Fault>
     ensures { Gives (λ script. script.items) result
-        (each (spec.report_numbers links.now tasks.now reporters.now) 0
-        (map report_view script.now)) }
+        (each (spec.report_numbers links.now tasks.now reporters.now) from
+        (map report_view (drop from script.now))) }
 {
-    let mut found = Vec::with_capacity(alloc, script.len())?;
-    for (place, report) in script.iter().enumerate() {
+    let mut found = Vec::with_capacity(alloc, script.len().saturating_sub(from))?;
+    for place in from..script.len() {
+        let report = &script[place];
         match report_numbers(alloc, report, links, tasks, reporters, task_owners, &found) {
             Ok(numbers) => found.push(numbers)?,
             Err(fault) => return Err(fault.under(PathStep::Index {
@@ -446,7 +448,91 @@ fn script_numbers(
         PathStep::Key {
             name: DocKey::Script,
         },
-        each_report(alloc, script, links, tasks, reporters, task_owners),
+        each_report_from(alloc, script, 0, links, tasks, reporters, task_owners),
+    )
+}
+
+// The reports before this place and those from it on, each in a thread of its own, told from the
+// list of all. Both end before it answers.
+fn script_halves<R: Threads + Sync>(
+    rt: &R,
+    alloc: Global,
+    script: &[RawReport],
+    middle: usize,
+    links: &NameTable,
+    tasks: &NameTable,
+    reporters: &NameTable,
+) -> (Result<Vec<Report>, Fault>, Result<Vec<Report>, Fault>)
+    requires middle { middle ≤ length script.now }
+    ensures early { Gives (λ script. script.items) result.0
+        (each (spec.report_numbers links.now tasks.now reporters.now) 0
+        (map report_view (take middle script.now))) }
+    ensures late { Gives (λ script. script.items) result.1
+        (each (spec.report_numbers links.now tasks.now reporters.now) middle
+        (map report_view (drop middle script.now))) }
+{
+    // a copy for each closure
+    let theirs = alloc;
+    let (first, _) = script.split_at(middle);
+    let late = move || -> Result<Vec<Report>, Fault>
+        ensures { Gives (λ script. script.items) result
+            (each (spec.report_numbers links.entry.now tasks.entry.now reporters.entry.now) middle
+            (map report_view (drop middle script.entry.now))) }
+    { each_report_from(theirs, script, middle, links, tasks, reporters, &[]) };
+    let early = move || -> Result<Vec<Report>, Fault>
+        ensures { Gives (λ script. script.items) result
+            (each (spec.report_numbers links.entry.now tasks.entry.now reporters.entry.now) 0
+            (map report_view first.entry.now)) }
+    { each_report_from(alloc, first, 0, links, tasks, reporters, &[]) };
+    join(rt, early, late)
+}
+
+// The numbers of each report, half of them in a thread of its own.
+fn each_report_on_threads<R: Threads + Sync>(
+    rt: &R,
+    alloc: Global,
+    script: &[RawReport],
+    links: &NameTable,
+    tasks: &NameTable,
+    reporters: &NameTable,
+) -> Result<Vec<Report>, Fault>
+    ensures { Gives (λ script. script.items) result
+        (each (spec.report_numbers links.now tasks.now reporters.now) 0
+        (map report_view script.now)) }
+{
+    let middle = script.len() / 2;
+    let (early, late) = script_halves(rt, alloc, script, middle, links, tasks, reporters);
+    let mut all = early?;
+    let mut rest = late?;
+    all.append(&mut rest)?;
+    Ok(all)
+}
+
+// So many reports are worth a thread.
+const MANY_REPORTS: usize = 8_192;
+
+// The script by halves where it is long. The guesses do without the owners of tasks, which are
+// found beside it.
+fn script_numbers_on_threads<R: Threads + Sync>(
+    rt: &R,
+    alloc: Global,
+    script: &[RawReport],
+    links: &NameTable,
+    tasks: &NameTable,
+    reporters: &NameTable,
+) -> Result<Vec<Report>, Fault>
+    ensures { Gives (λ script. script.items) result (under (Key keys.Script)
+        (each (spec.report_numbers links.now tasks.now reporters.now) 0
+        (map report_view script.now))) }
+{
+    if script.len() < MANY_REPORTS {
+        return script_numbers(alloc, script, links, tasks, reporters, &[]);
+    }
+    under(
+        PathStep::Key {
+            name: DocKey::Script,
+        },
+        each_report_on_threads(rt, alloc, script, links, tasks, reporters),
     )
 }
 
@@ -633,8 +719,8 @@ pub fn document_numbers(
     })
 }
 
-// The numbers of groups and script, each in a thread of its own. Both end before it answers. The
-// script's guesses do without the owners of tasks, which are found beside it.
+// The numbers of groups and script, each by halves in a thread of its own. Both end before it
+// answers.
 fn groups_beside_script<R: Threads + Sync>(
     rt: &R,
     alloc: Global,
@@ -651,10 +737,11 @@ fn groups_beside_script<R: Threads + Sync>(
     // a copy for each closure
     let theirs = alloc;
     let script = move || -> Result<Vec<Report>, Fault>
+        requires { IsSync R.row }
         ensures { Gives (λ script. script.items) result (under (Key keys.Script)
             (each (spec.report_numbers links.entry.now tasks.entry.now reporters.entry.now) 0
             (raw_view raw.entry.now).script)) }
-    { script_numbers(theirs, &raw.script, links, tasks, reporters, &[]) };
+    { script_numbers_on_threads(rt, theirs, &raw.script, links, tasks, reporters) };
     let groups = move || -> Result<GroupNumbers, Fault>
         requires { IsSync R.row }
         ensures { Gives group_numbers_view result (fold_member keys.Groups
@@ -664,7 +751,8 @@ fn groups_beside_script<R: Threads + Sync>(
     join(rt, groups, script)
 }
 
-/// The same by three threads: one takes the script, and two the groups by halves.
+/// The same by four threads: two take the script, where it is long, and two the groups, each by
+/// halves.
 #[tactic(auto, unfolding(crate::specs::Numbers::numbers))]
 pub fn document_numbers_on_threads<R: Threads + Sync>(
     rt: &R,

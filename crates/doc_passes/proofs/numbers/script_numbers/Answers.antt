@@ -8,4 +8,4 @@ use Rattle.raw_document.proofs.Lists.{under_gives}
 use Rattle.doc_passes.proofs.numbers.script_numbers.Goals as goal
 
 pub returns : goal.returns
-returns c = under_gives (λ found. found.items) (Key keys.Script) (each (report_numbers c.args.links.now c.args.tasks.now c.args.reporters.now) 0 (map report_view c.args.script.now)) c.each_report.result c.under.result c.each_report.ensures c.under.ensures
+returns c = under_gives (λ found. found.items) (Key keys.Script) (each (report_numbers c.args.links.now c.args.tasks.now c.args.reporters.now) 0 (map report_view c.args.script.now)) c.each_report_from.result c.under.result c.each_report_from.ensures c.under.ensures
