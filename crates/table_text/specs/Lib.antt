@@ -1,4 +1,5 @@
 pub mod TableText
+pub mod Parts
 pub mod CheckText
 pub mod BulkText
 pub mod LevelsText
