@@ -298,15 +298,19 @@ impl Aiming {
             return NO_AIM;
         }
         if high > self.top {
-            return self.beyond(low, low_load);
+            return self.beyond(looks, low, low_load);
         }
         crossing(low, low_load, high, over_load, self.capacity)
             .max(low.saturating_add(1))
             .min(high.saturating_sub(1))
     }
 
-    // A little beyond the line through the loads of a link that is not over anywhere so far.
-    fn beyond(&self, low: u64, low_load: u128) -> u64 {
+    // The share above a guess at which the link fits: a link that is due as it was is over there.
+    // Where it is not, a little beyond the line through the link's loads.
+    fn beyond(&self, looks: u64, low: u64, low_load: u128) -> u64 {
+        if looks <= 1 {
+            return low.saturating_add(1);
+        }
         let first = self.first;
         let there = crossing(first.share, first.low_load, low, low_load, self.capacity);
         let ahead = there.saturating_sub(low);
