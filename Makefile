@@ -41,7 +41,7 @@ sources   = $(filter crates/$1/src% crates/$1/specs% crates/$1/proofs%,$(files))
 built     = $(if $(filter $1,$(programs)),crates/$1/out/$1,crates/$1/out/rlib/stamp)
 
 .PHONY: build check edits plant-main cases tools pages look study study-references bench demo install deb release clean help $(programs)
-.PHONY: chaos chaos-mutants
+.PHONY: chaos chaos-mutants tests-of-tools tests-of-control
 build: $(programs)
 $(foreach it,$(programs),$(eval $(it): $(call built,$(it))))
 
@@ -73,10 +73,13 @@ plant-main: $(programs)
 cases: $(programs)
 	@tools/check/cases.py
 
+# Those of control/ mostly wait, so both run beside each other. What each prints stands together.
 tools:
 	@tools/build/packages
-	@/usr/bin/python3 -m pytest -q -p no:cacheprovider tools
-	@/usr/bin/python3 -m pytest -q -p no:cacheprovider control
+	@$(MAKE) --output-sync=target tests-of-tools tests-of-control
+
+tests-of-tools tests-of-control: tests-of-%:
+	@/usr/bin/python3 -m pytest -q -p no:cacheprovider $*
 
 pages:
 	@tools/build/pages.py
