@@ -18,6 +18,9 @@ use std::cell::RefCell;
 use std::marker::{Brand, PhantomData};
 use wan_topology::Topology;
 
+// Among so many answers of a group at most a value is looked for.
+const MOST_LISTED: usize = 64;
+
 /// What groups may have at shares, at the time of a filling.
 pub(crate) trait Meant {
     ghost value: { ℕ → ℕ → ℕ };
@@ -68,13 +71,13 @@ impl<K: Meant> KnownValues<'_, K> {
         }
     }
 
-    // The value, where it is listed.
+    // The value, where it is among those that were listed last.
     fn listed(&self, group: u32, share: u64) -> Option<u64>
         ensures { IfSome result (λ value. value ≡ value_in self.now.tree.now group share) }
     {
         match self.answers.try_borrow() {
             Ok(answers) => match answers.get(group as usize) {
-                Some(list) => value_among(list, group, share),
+                Some(list) => value_among(latest(list), group, share),
                 None => None,
             },
             Err(_) => None,
@@ -201,6 +204,13 @@ fn no_answers<K: Meant>(alloc: Global, groups: u32) -> Result<Vec<Vec<Answer<K>>
         answers.push(Vec::new(alloc))?;
     }
     Ok(answers)
+}
+
+// The last of the answers: a search asks mostly for what was asked just before, and a group over
+// thousands of links is asked for many.
+fn latest<K: Meant>(answers: &[Answer<K>]) -> &[Answer<K>] {
+    let from = answers.len().saturating_sub(MOST_LISTED);
+    &answers[from..]
 }
 
 // The value that one of the answers gives.
