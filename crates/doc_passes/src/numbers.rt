@@ -27,6 +27,9 @@ use raw_document::{
 use std::alloc::Global;
 use std::thread::{Threads, join};
 
+// The numbers of so many reports are worth a thread.
+const MANY_REPORTS: usize = 8_192;
+
 /// What the document says of numbers: the groups over the links, the script, the closings, and who
 /// owns what.
 #[derive(Drop)]
@@ -507,9 +510,6 @@ fn each_report_on_threads<R: Threads + Sync>(
     all.append(&mut rest)?;
     Ok(all)
 }
-
-// So many reports are worth a thread.
-const MANY_REPORTS: usize = 8_192;
 
 // The script by halves where it is long. The guesses do without the owners of tasks, which are
 // found beside it.

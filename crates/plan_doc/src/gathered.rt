@@ -1,8 +1,9 @@
 //! What is gathered of a document while its raw form stands: names and numbers, clusters and
 //! topology. The refusals up to 8 are found here.
 //!
-//! A raw document is lent by its text and by the reader's scratch, and owns a vector for each list.
-//! It is let go with these once all is gathered, and the tables of names before that.
+//! A raw document is lent by its text, and owns a vector for each list. It is let go once all is
+//! gathered, and the tables of names before that. The reader's scratch is let go as soon as a text
+//! was read in stretches.
 
 ghost use Rattle.std.specs.Prelude.{◌≡◌, ◌≤◌, None, Ok, map, IfOk, IfSome};
 ghost use Rattle.std.specs.Thread.{IsSync};

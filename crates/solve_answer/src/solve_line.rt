@@ -17,7 +17,7 @@ use plan_doc::{Document, read_document, read_document_on_threads};
 use std::alloc::Global;
 use std::mem::forget;
 use std::thread::Threads;
-use table_text::{table_text, table_text_on_threads};
+use table_text::table_text;
 
 /// The answer to its input.
 pub fn solve(alloc: Global, input: &[u8]) -> Result<Answer, OutOfMemory>
@@ -103,7 +103,7 @@ fn solve_opened_on_threads<R: Threads + Sync>(
         (⟦<Allocator as Maker>⟧.plan opened.old.allocator) script) }
 {
     let table = opened.allocator.table_on_threads(rt, alloc)?;
-    let text = table_text_on_threads(rt, alloc, &table, &opened.names)?;
+    let text = table_text(alloc, &table, &opened.names)?;
     forget(table);
     Ok(Answer { status: 0, text })
 }

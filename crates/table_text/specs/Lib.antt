@@ -1,5 +1,4 @@
 pub mod TableText
-pub mod Parts
 pub mod CheckText
 pub mod BulkText
 pub mod LevelsText

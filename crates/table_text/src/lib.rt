@@ -3,7 +3,6 @@
 //!
 //! The top call uses `table_text`, `bulk_text`, `check_text` and `levels_text`, whose clauses are
 //! the whole texts ("Table text", "Bulk text", "Check text" and "Levels text", docs/FORMAT.md).
-//! `solve` takes `table_text_on_threads`, whose clause is that of `table_text`.
 //! `name_of` is the name that a text prints for a number. Texts that share lines with a table's put
 //! them by `push_closings` and `push_limits`, and single lines by `push_value` and its like. Texts
 //! are made whole before anything is written, so memory runs out before the first byte is written,
@@ -14,13 +13,10 @@ mod bulk;
 mod check;
 mod levels;
 mod line;
-mod on_threads;
-mod room;
 mod table;
 
 pub use bulk::bulk_text;
 pub use check::check_text;
 pub use levels::levels_text;
 pub use line::{end_with_number, name_of, push_number};
-pub use on_threads::table_text_on_threads;
 pub use table::{push_closings, push_group, push_limits, push_value, push_values, table_text};

@@ -1,13 +1,12 @@
 //! The text of a table, line by line.
 
-ghost use Rattle.std.specs.Prelude.{◌≡◌, ◌++◌, ◌<◌, ◌≤◌, ◌^◌, ℕ, All, IfOk, OnOk, codes, decimal, drop, flat_map, length, string_bytes, sum_by};
+ghost use Rattle.std.specs.Prelude.{◌≡◌, ◌++◌, ◌<◌, ◌≤◌, ◌^◌, ℕ, All, IfOk, OnOk, codes, decimal, flat_map, length, string_bytes, sum_by};
 ghost use Rattle.bwe_specs.specs.Reports.{numbers};
 ghost use Rattle.bwe_specs.specs.declared.limits.TheConstants.{MAX_TOTAL};
 ghost use Rattle.doc_names.specs.NameTexts.{texts_of};
 ghost use Rattle.table_text.specs.TableText.{closed_text, closing_line, group_lines, place_line, text_of, value_line, with_limits};
 
 use crate::line::{end_with_number, name_of, push_name, push_number};
-use crate::room::{lines_before_tasks, with_room};
 use bwe_specs::{Closing, OutOfMemory};
 use doc_names::{NameList, Names};
 use limit_table::{GroupLine, LimitTable, PlaceLine, total_in};
@@ -21,8 +20,7 @@ use std::alloc::{AllocError, Global};
 pub fn table_text(alloc: Global, table: &LimitTable, names: &Names) -> Result<Vec<u8>, OutOfMemory>
     ensures { IfOk result (λ text. text.items ≡ text_of (texts_of names.now) table.now) }
 {
-    let lines = lines_before_tasks(table).saturating_add(table.limits.len());
-    let mut text = with_room(alloc, lines);
+    let mut text = String::new(alloc);
     end_with_number(&mut text, "table ", table.prefix)?;
     push_closings(&mut text, names, &table.closings)?;
     push_limits(&mut text, names, &table.loads, &table.groups, &table.limits)?;
@@ -97,6 +95,7 @@ pub fn push_value(
 }
 
 /// Puts such a line for each number at the end of the text.
+#[tactic(auto, using(crate::proofs::Lines::one_line_more))]
 pub fn push_values(
     text: &mut String,
     word: &str,
@@ -109,28 +108,7 @@ pub fn push_values(
         ++ flat_map (value_line word.now between.now names.now values.now)
         (numbers (length values.now))) }
 {
-    push_values_between(text, word, names, between, values, 0, values.len())
-}
-
-/// Puts such a line for each number from the first on and below the end at the end of the text.
-#[tactic(auto, using(crate::proofs::Lines::no_line_yet, crate::proofs::Lines::one_line_more_from))]
-pub(crate) fn push_values_between(
-    text: &mut String,
-    word: &str,
-    names: &NameList,
-    between: &str,
-    values: &[u64],
-    first: usize,
-    end: usize,
-) -> Result<(), AllocError>
-    requires order { first ≤ end }
-    requires end { end ≤ length values.now }
-    requires few { length values.now < 2 ^ 32 }
-    ensures { OnOk result (string_bytes text.new ≡ string_bytes text.old
-        ++ flat_map (value_line word.now between.now names.now values.now)
-        (drop first (numbers end))) }
-{
-    for number in first..end {
+    for number in 0..values.len() {
         push_value(text, word, names, between, values, number)?;
     }
     Ok(())
@@ -202,11 +180,7 @@ pub fn push_group(
 
 /// Puts the lines of each group at the end of the text.
 #[tactic(auto, using(crate::proofs::Lines::one_line_more))]
-pub(crate) fn push_groups(
-    text: &mut String,
-    names: &Names,
-    lines: &[GroupLine],
-) -> Result<(), AllocError>
+fn push_groups(text: &mut String, names: &Names, lines: &[GroupLine]) -> Result<(), AllocError>
     requires few { length lines.now < 2 ^ 32 }
     ensures { OnOk result
         (string_bytes text.new
