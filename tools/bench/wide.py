@@ -9,6 +9,8 @@
 - hub: each group has a narrow link of its own and then the one link that all come to;
 - shed: each group goes over one trunk and a link of its own, and leaves the trunk when that closes.
 
+`chains(..)` has few groups over many links, so that one group is asked for very many values.
+
 `wan(..)` is a mesh of sites with all pairs as groups, three path groups each, and functions at users.
 """
 
@@ -90,6 +92,83 @@ def _hard_group(at, ways, groups, tasks, top):
     job = {"name": "j", "task": [[0, 0], [top, 1_000 * top]], "tasks": own}
     ends = {"name": f"g{at}", "from": "a", "to": "c"}
     return {**ends, "paths": paths, "users": [{"name": "u", "jobs": [job]}]}
+
+
+# ---- few groups over many links
+
+
+def chains(seed: int, groups: int = 8, places: int = 16, paths: int = 16, hops: int = 32) -> Document:
+    """Groups of so many path groups, of so many paths each, of so many links that no other path has.
+
+    Functions stand on all three levels, so that a value of a group takes a search.
+    """
+    dice = random.Random(f"chains {seed}")
+    capacities = (1_000_000 // (places * paths), 4_000_000 // paths)
+    return {
+        "version": 4,
+        "top": 1_000_000,
+        "links": [
+            {
+                "name": _hop(path, hop),
+                "from": _stop(path, hop, hops),
+                "to": _stop(path, hop + 1, hops),
+                "capacity": dice.randint(*capacities),
+            }
+            for path in range(groups * places * paths)
+            for hop in range(hops)
+        ],
+        "groups": [_chained_group(dice, at, places, paths, hops) for at in range(groups)],
+        "reporters": [f"r{at}" for at in range(REPORTERS)],
+        "script": [
+            {"reporter": f"r{at % REPORTERS}", "task": f"t{at}", "demand": dice.randint(10**5, 10**6)}
+            for at in range(8 * groups)
+        ],
+    }
+
+
+def _chained_group(dice, at, places, paths, hops):
+    first = at * places * paths
+    ways = [
+        [
+            {"weight": dice.randint(1, 4), "links": [_hop(path, hop) for hop in range(hops)]}
+            for path in range(start, start + paths)
+        ]
+        for start in range(first, first + places * paths, paths)
+    ]
+    ends = {"name": f"g{at}", "from": "a", "to": "c"}
+    return {**ends, "paths": ways, "users": _three_levels(dice, at)}
+
+
+def _hop(path, hop):
+    return f"l{path}.{hop}"
+
+
+def _stop(path, hop, hops):
+    return "a" if hop == 0 else "c" if hop == hops else f"s{path}.{hop}"
+
+
+def _three_levels(dice, group):
+    """Two users of two jobs of two tasks each."""
+    return [
+        {
+            "name": f"u{user}",
+            "function": _rising(dice, 5, 3_000_000),
+            "jobs": [
+                {
+                    "name": f"j{job}",
+                    "function": _rising(dice, 5, 2_000_000),
+                    "task": _rising(dice, 5, 1_000_000),
+                    "tasks": [
+                        {"name": f"t{at}", "reporter": f"r{at % REPORTERS}"}
+                        for at in range(first, first + 2)
+                    ],
+                }
+                for job in range(2)
+                for first in [8 * group + 4 * user + 2 * job]
+            ],
+        }
+        for user in range(2)
+    ]
 
 
 # ---- a mesh of sites

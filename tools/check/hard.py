@@ -5,14 +5,18 @@ implementations.
 The networks are those of tools/bench/wide.py: own, cascade, same, hub and shed. In small, tables,
 verdicts, levels and tiers are compared with tools/check/compare.py, one share after the other. With
 --full each has 65,536 links and 131,072 tasks, and the table is compared with the one that `Steps`
-below makes, one share after the other too, which keeps loads as closings come: it takes minutes. The
-last line says how many agreed; the status is 0 where all did.
+below makes, one share after the other too, which keeps loads as closings come: it takes minutes.
+Then `bwe-live`, the built one or that in BWE_LIVE, has to give the table of `solve` for the network
+`chains`, in at most four times as long. The last line says how many agreed; the status is 0 where
+all did.
 """
 
 import heapq
+import os
 import random
 import subprocess
 import sys
+import time
 from concurrent.futures import ProcessPoolExecutor
 from functools import partial
 from pathlib import Path
@@ -23,7 +27,9 @@ sys.path.append(str(TOP / "tools/bench"))
 import compare  # noqa: E402
 import wide  # noqa: E402
 
+BWE_LIVE = os.environ.get("BWE_LIVE", TOP / "crates/bwe_live/out/bwe_live")
 SMALL, FULL_LINKS, FULL_TASKS, FULL_TOP, SECONDS = 40, 65_536, 131_072, 1_000, 900
+MOST_TIMES = 4  # as long as `solve` may `bwe-live` take for its first table
 
 
 class Steps:
@@ -176,6 +182,24 @@ def fault_in_full(program, kind):
     return f"status {ran.returncode}, {next((pair for pair in pairs if pair[0] != pair[1]), None)}"
 
 
+def timed(line, given):
+    """What a program writes, and how many seconds it takes."""
+    begun = time.perf_counter()
+    ran = subprocess.run(line, input=given, capture_output=True, timeout=SECONDS)
+    return ran.stdout, time.perf_counter() - begun
+
+
+def fault_of_live(program):
+    """`bwe-live` keeps what it is asked, of each group very much in this network."""
+    document = wide.text(wide.chains(1))
+    wanted, seconds = timed([program, "solve"], document)
+    found, longer = timed([BWE_LIVE], b"%d\n%s" % (len(document), document))
+    print(f"chains: solve {seconds:.1f} s, bwe-live {longer:.1f} s", flush=True)
+    if not wanted.startswith(b"table ") or found != wanted:
+        return "the tables differ"
+    return f"{longer / seconds:.1f} times as long" if longer > MOST_TIMES * seconds else None
+
+
 def main(words):
     if words[:1] == ["--help"]:
         print(__doc__)
@@ -185,6 +209,7 @@ def main(words):
     program = words[0] if words else str(TOP / "crates/bwe/out/bwe")
     if is_full:
         found = [(kind, fault_in_full(program, kind)) for kind in wide.KINDS]
+        found.append(("chains", fault_of_live(program)))
     else:
         found = results(program, SMALL)
     faults = [(name, fault) for name, fault in found if fault is not None]

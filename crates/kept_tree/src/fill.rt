@@ -1,44 +1,22 @@
 //! A network filled with the groups' values, of which many are kept.
 
-ghost use Rattle.std.specs.Prelude.{◌≡◌, ◌≤◌, ℕ, length, IfOk, IfSome};
+ghost use Rattle.std.specs.Prelude.{◌≡◌, ◌≤◌, length, IfOk};
 ghost use Rattle.mpfa_fill.specs.Filling.{IsFilling};
 ghost use Rattle.mpfa_fill.specs.GroupValues.{wan_of};
 ghost use Rattle.path_groups.specs.Plan.{IsBuiltOn};
 ghost use Rattle.policy_tree.specs.Trees.{value_in};
 ghost use Rattle.kept_tree.specs.Known.{AreKnown, values_of};
 
-use crate::group::KnownGroup;
+use crate::group::{KnownGroup, MOST_VALUES};
 use bwe_specs::OutOfMemory;
+use kept_values::{Answer, Answers, Meant};
 use link_solver::{Guesses, solve_by_guesses};
 use mpfa_fill::{Filling, GroupValues};
 use path_groups::PathPlan;
 use policy_tree::PolicyTree;
 use std::alloc::Global;
-use std::cell::RefCell;
-use std::marker::{Brand, PhantomData};
+use std::marker::Brand;
 use wan_topology::Topology;
-
-// Among so many answers of a group at most a value is looked for.
-const MOST_LISTED: usize = 64;
-
-/// What groups may have at shares, at the time of a filling.
-pub(crate) trait Meant {
-    ghost value: { ℕ → ℕ → ℕ };
-}
-
-impl Meant for Brand {
-    ghost value = { λ group share. 0 };
-}
-
-/// A value that was asked for and was not kept.
-#[derive(Drop)]
-struct Answer<K: Meant> {
-    group: u32,
-    share: u64,
-    value: u64,
-    of: PhantomData<K>,
-    ghost is: { value ≡ K.value group share },
-}
 
 /// The groups of a tree with what is kept of them. What else is asked for is listed by group, and
 /// asked for once. It is steady where few groups have changed since the last filling, which asked
@@ -48,42 +26,12 @@ struct KnownValues<'a, K: Meant> {
     tree: &'a PolicyTree,
     known: &'a [KnownGroup],
     is_steady: bool,
-    answers: RefCell<Vec<Vec<Answer<K>>>>,
+    answers: Answers<K>,
     ghost are: { AreKnown tree.now known.now },
     ghost meant: { K.value ≡ value_in tree.now },
 }
 
 impl<K: Meant> KnownValues<'_, K> {
-    // Lists the value, where there is memory.
-    fn list(&self, group: u32, share: u64, value: u64)
-        requires { value ≡ value_in self.now.tree.now group share }
-    {
-        if let Ok(mut answers) = self.answers.try_borrow_mut()
-            && let Some(list) = answers.get_mut(group as usize)
-        {
-            let answer = Answer {
-                group,
-                share,
-                value,
-                of: PhantomData,
-            };
-            let _ = list.push(answer);
-        }
-    }
-
-    // The value, where it is among those that were listed last.
-    fn listed(&self, group: u32, share: u64) -> Option<u64>
-        ensures { IfSome result (λ value. value ≡ value_in self.now.tree.now group share) }
-    {
-        match self.answers.try_borrow() {
-            Ok(answers) => match answers.get(group as usize) {
-                Some(list) => value_among(latest(list), group, share),
-                None => None,
-            },
-            Err(_) => None,
-        }
-    }
-
     // Up to which share a value that is kept is a ceiling of that at the share. A value that is
     // kept far above is a loose one, so that the values themselves have to be asked for; where much
     // the same is asked again, that pays, since they are kept from then on.
@@ -115,11 +63,11 @@ impl<K: Meant> GroupValues for KnownValues<'_, K> {
         if let Some(value) = self.known[group as usize].value(share) {
             return value;
         }
-        if let Some(value) = self.listed(group, share) {
+        if let Some(value) = self.answers.value(group, share) {
             return value;
         }
         let value = self.tree.group_value(group, share);
-        self.list(group, share, value);
+        self.answers.list(group, share, value);
         value
     }
 
@@ -183,46 +131,17 @@ fn filled_by<K: Meant>(
         (IsFilling (wan_of (values_of tree.now) plan.now topology.now.capacities)) }
     ensures known { AreKnown tree.now known.new }
 {
-    let answers = no_answers(alloc, tree.groups())?;
+    let answers = Answers::new(alloc, tree.groups(), MOST_VALUES)?;
     let values: KnownValues<K> = KnownValues {
         tree,
         known: &*known,
         is_steady,
-        answers: RefCell::new(answers),
+        answers,
     };
     let filling = solve_by_guesses(alloc, &values, topology, plan, guesses);
     let KnownValues { answers, .. } = values;
-    let answers = answers.into_inner();
-    add_all_answers(tree, known, &answers);
+    add_all_answers(tree, known, &answers.into_lists());
     filling
-}
-
-// No answer of so many groups.
-fn no_answers<K: Meant>(alloc: Global, groups: u32) -> Result<Vec<Vec<Answer<K>>>, OutOfMemory> {
-    let mut answers = Vec::with_capacity(alloc, groups as usize)?;
-    for _ in 0..groups {
-        answers.push(Vec::new(alloc))?;
-    }
-    Ok(answers)
-}
-
-// The last of the answers: a search asks mostly for what was asked just before, and a group over
-// thousands of links is asked for many.
-fn latest<K: Meant>(answers: &[Answer<K>]) -> &[Answer<K>] {
-    let from = answers.len().saturating_sub(MOST_LISTED);
-    &answers[from..]
-}
-
-// The value that one of the answers gives.
-fn value_among<K: Meant>(answers: &[Answer<K>], group: u32, share: u64) -> Option<u64>
-    ensures { IfSome result (λ value. value ≡ K.value group share) }
-{
-    for answer in answers {
-        if answer.group == group && answer.share == share {
-            return Some(answer.value);
-        }
-    }
-    None
 }
 
 // Keeps the values that were listed of all groups.

@@ -5,8 +5,8 @@ ghost use Rattle.kept_tree.specs.Known.{IsKnownOf};
 
 use std::alloc::Global;
 
-// So many values of one group are kept at most.
-const MOST_VALUES: usize = 1_024;
+/// So many values of one group are kept at most.
+pub(crate) const MOST_VALUES: usize = 1_024;
 
 /// What a group may have at a share, in kilobits per second.
 #[derive(Clone, Copy, Debug, PartialEq, Eq, Drop)]

@@ -26,6 +26,12 @@ def test_links_of_each_kind_close(kind):
     assert len(steps.closings) > 45
 
 
+def test_few_groups_stand_over_many_links():
+    document = wide.chains(1, groups=2, places=3, paths=4, hops=5)
+    paths = [path for group in document["groups"] for place in group["paths"] for path in place]
+    assert len(document["links"]) == sum(len(path["links"]) for path in paths) == 2 * 3 * 4 * 5
+
+
 def test_a_mesh_is_made_from_its_seed_and_has_all_pairs():
     made = b"".join(wide.wan(3, 6, 100, trunks=2))
     assert made == b"".join(wide.wan(3, 6, 100, trunks=2))
