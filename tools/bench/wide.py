@@ -97,8 +97,10 @@ def _hard_group(at, ways, groups, tasks, top):
 # ---- few groups over many links
 
 
-def chains(seed: int, groups: int = 8, places: int = 16, paths: int = 16, hops: int = 32) -> Document:
-    """Groups of so many path groups, of so many paths each, of so many links that no other path has.
+def chains(
+    seed: int, groups: int = 8, places: int = 16, paths: int = 16, hops: int = 32
+) -> Document:
+    """Groups of so many path groups, of so many paths each, of so many links of their own each.
 
     Functions stand on all three levels, so that a value of a group takes a search.
     """
@@ -120,7 +122,11 @@ def chains(seed: int, groups: int = 8, places: int = 16, paths: int = 16, hops: 
         "groups": [_chained_group(dice, at, places, paths, hops) for at in range(groups)],
         "reporters": [f"r{at}" for at in range(REPORTERS)],
         "script": [
-            {"reporter": f"r{at % REPORTERS}", "task": f"t{at}", "demand": dice.randint(10**5, 10**6)}
+            {
+                "reporter": f"r{at % REPORTERS}",
+                "task": f"t{at}",
+                "demand": dice.randint(10**5, 10**6),
+            }
             for at in range(8 * groups)
         ],
     }

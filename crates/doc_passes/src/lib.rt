@@ -5,17 +5,19 @@
 //! leave to the builders. Each answers what its definition says (`Limits`, `Ranges`, `Names` and
 //! `Numbers` of `specs/`): nothing, the names in their order, numbers in place of names, or the
 //! place of the first fault in the walk. `document_numbers_on_threads` answers the same as
-//! `document_numbers`. Nothing is promised of time. Each name is hashed at most
-//! once where it stands and at most once where it is referred to.
+//! `document_numbers`. Nothing is promised of time. Each name is hashed at most once where it stands
+//! and at most once where it is referred to.
 #![tactic(auto)]
 
 mod few_names;
+mod group_numbers;
 mod limit;
 mod name_table;
 mod numbered;
 mod numbers;
 mod range;
 mod repeats;
+mod script_numbers;
 mod walk;
 
 pub use limit::{Overrun, What, find_overrun};

@@ -1,12 +1,13 @@
 //! Names of one table, replaced by their numbers, and lists of them.
 
 ghost use Rattle.std.specs.Prelude.{map};
-ghost use Rattle.raw_document.specs.Reading.{Gives, each_view, each};
+ghost use Rattle.raw_document.specs.Reading.{Gives, each_view, under, each};
+ghost use Rattle.raw_document.specs.declared.doc_path.PathStep.TheVariants.{Key};
 ghost use Rattle.raw_document.specs.Raw.{name_view};
 ghost use Rattle.doc_passes.specs.Names.{number_in};
 
 use crate::name_table::NameTable;
-use raw_document::{Fault, PathStep};
+use raw_document::{DocKey, Fault, PathStep, under};
 use std::alloc::Global;
 
 /// What refers by names to what stands in one table.
@@ -92,4 +93,32 @@ impl<T: Numbered> Numbered for Vec<T> {
     fn numbers(&self, alloc: Global, table: &NameTable) -> Result<Vec<T::Numbers>, Fault> {
         each_numbers(alloc, self.as_slice(), table)
     }
+}
+
+/// The number of a name, or the fault below its key.
+pub(crate) fn number_in_member(
+    alloc: Global,
+    key: DocKey,
+    table: &NameTable,
+    name: &str,
+) -> Result<u32, Fault>
+    ensures { Gives (λ number. number) result (under (Key key) (number_in table.now name.now)) }
+{
+    under(PathStep::Key { name: key }, table.number(alloc, name))
+}
+
+/// The same, where the name is guessed to have a number.
+pub(crate) fn number_near_in_member(
+    alloc: Global,
+    key: DocKey,
+    table: &NameTable,
+    name: &str,
+    guess: u32,
+) -> Result<u32, Fault>
+    ensures { Gives (λ number. number) result (under (Key key) (number_in table.now name.now)) }
+{
+    under(
+        PathStep::Key { name: key },
+        table.number_near(alloc, name, guess),
+    )
 }

@@ -3,7 +3,7 @@ use Rattle.std.proofs.lemmas.Result.{err_from_is_err_and}
 use Rattle.raw_document.specs.Raw.{report_view}
 use Rattle.doc_passes.specs.Numbers.{report_numbers}
 use Rattle.doc_passes.proofs.ScriptHalves.{early_refused, late_refused, both_found}
-use Rattle.doc_passes.proofs.numbers.each_report_on_threads.Goals as goal
+use Rattle.doc_passes.proofs.script_numbers.each_report_on_threads.Goals as goal
 
 pub returns-in_err-all : goal.returns-in_err-all
 returns-in_err-all g c =

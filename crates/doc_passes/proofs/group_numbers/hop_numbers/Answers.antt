@@ -5,7 +5,7 @@ use Rattle.raw_document.specs.Reading.{each}
 use Rattle.raw_document.specs.Raw.{name_view}
 use Rattle.doc_passes.specs.Names.{number_in}
 use Rattle.raw_document.proofs.Lists.{under_gives, gives_itself}
-use Rattle.doc_passes.proofs.numbers.hop_numbers.Goals as goal
+use Rattle.doc_passes.proofs.group_numbers.hop_numbers.Goals as goal
 
 pub returns : goal.returns
 returns c =

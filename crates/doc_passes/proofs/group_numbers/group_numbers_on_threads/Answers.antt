@@ -3,7 +3,7 @@ use Rattle.std.proofs.lemmas.Result.{err_from_is_err_and}
 use Rattle.raw_document.specs.Raw.{group_view}
 use Rattle.doc_passes.specs.NumbersView.{group_numbers_view}
 use Rattle.doc_passes.proofs.GroupHalves.{early_refused, late_refused, both_found}
-use Rattle.doc_passes.proofs.numbers.group_numbers_on_threads.Goals as goal
+use Rattle.doc_passes.proofs.group_numbers.group_numbers_on_threads.Goals as goal
 
 pub returns-in_err-early : goal.returns-in_err-early
 returns-in_err-early g c =
