@@ -16,7 +16,7 @@ use std::alloc::Global;
 use std::thread::{Threads, join};
 
 // The numbers of so many reports are worth a thread.
-const MANY_REPORTS: usize = 8_192;
+const MANY_REPORTS: usize = 32_768;
 
 fn target_number(
     alloc: Global,

@@ -8,6 +8,9 @@ use crate::values::{number, open_array, text};
 use json::Token;
 use std::alloc::Global;
 
+// Room for so many items more is let go behind a list.
+const MUCH_ROOM: usize = 8;
+
 /// What is read of a value.
 pub trait Part<'a>: Sized + Drop {
     /// How many of it a list mostly has at least. It is a guess at the room, and no clause is
@@ -123,7 +126,17 @@ impl<'a, T: Part<'a>> Part<'a> for Vec<T> {
             let item = T::read(alloc, version, reader, depth - 1)?;
             add(&mut found, item)?;
         }
+        let_room_go(&mut found);
         Some(found)
+    }
+}
+
+// Lets go of the room behind a list's items, where it is much.
+fn let_room_go<T>(found: &mut Vec<T>)
+    ensures { found.new.items ≡ found.old.items }
+{
+    if found.capacity().saturating_sub(found.len()) >= MUCH_ROOM {
+        found.shrink_to_fit();
     }
 }
 

@@ -27,5 +27,5 @@ returns-clause-value g c =
     let bracket = c.in_ok-open_array.ensures in (
       array (items_before whole.0 no_items),
       ap (λ ts. converted of_json (value c.args.depth ts)) bracket.0 ∙ array_is c.args.depth c.open_array.new.reader bracket.1 ∙ ap (parse_map array) whole.2,
-      (items_before whole.0 no_items, refl, subst (λ ds. EachRead IsRead ds l.found.items) (sym (listed whole.0)) whole.1),
+      (items_before whole.0 no_items, refl, rw (c.let_room_go.ensures) (subst (λ ds. EachRead IsRead ds l.found.items) (sym (listed whole.0)) whole.1)),
     )
