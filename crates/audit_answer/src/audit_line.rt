@@ -9,7 +9,7 @@ ghost use Rattle.plan_doc.specs.Conditions.{IsUsable, tasks_in};
 ghost use Rattle.doc_names.specs.NameTexts.{texts_of};
 ghost use Rattle.plan_doc.specs.Plans.{plan_in};
 ghost use Rattle.audit_answer.specs.AuditReply.{IsAuditReply, audit_reply, audit_status};
-ghost use Rattle.opened_document.specs.Parted.{IsReplyBehind, accepted_parts};
+ghost use Rattle.parted_input.specs.Parted.{IsReplyBehind, accepted_parts};
 
 use crate::known::{KnowingAllocator, known_of};
 use crate::rewound::rewound;
@@ -18,7 +18,8 @@ use bwe_specs::{OutOfMemory, Report};
 use demand_book::Maker;
 use document_scripts::scripts_of_document;
 use one_run::Answer;
-use opened_document::{OpenedDocument, Parted, open, read_parts};
+use opened_document::{OpenedDocument, open};
+use parted_input::{Parted, read_parts};
 use plan_doc::Document;
 use run_audit::{AuditVerdict, audit_text};
 use std::alloc::Global;

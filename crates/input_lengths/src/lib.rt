@@ -1,18 +1,17 @@
 //! Inputs that have more bytes than they may, by what stands in them as the document.
 //!
-//! A command asks one of the two calls before anything else is looked at: for an input that is one
-//! document, or for one of two parts. `solve` alone may read a document first, and ask where that is
-//! refused. The answers are exact (`specs/Lengths.antt`). An input of up to 67,108,864 bytes is not
+//! A command asks before anything else is looked at: here for an input that is one document, and
+//! `parted_input` for one of two parts. `solve` alone may read a document first, and ask where that
+//! is refused. The answer is exact (`specs/Lengths.antt`). An input of up to 67,108,864 bytes is not
 //! looked at, so its answer is what it was before version 4. Nothing is promised of time, nor that
 //! memory is there.
 #![tactic(auto)]
 
 ghost use Rattle.std.specs.Prelude.{◌≡◌, IfOk};
-ghost use Rattle.input_lengths.specs.Lengths.{document_is_too_long, parts_are_too_long};
+ghost use Rattle.input_lengths.specs.Lengths.{document_is_too_long};
 
 use bwe_specs::{MAX_INPUT, OutOfMemory};
 use std::alloc::Global;
-use two_part::find_parts;
 use version_scan::is_of_version_4;
 
 /// Whether an input that is one document is too long: it has more than 67,108,864 bytes, and is not
@@ -27,18 +26,4 @@ pub fn document_is_too_long(alloc: Global, input: &[u8]) -> Result<bool, OutOfMe
     }
     let of_version_4 = is_of_version_4(alloc, input)?;
     Ok(!of_version_4)
-}
-
-/// The same of an input of two parts, by the version of its document. One without parts is too long.
-pub fn parts_are_too_long(alloc: Global, input: &[u8]) -> Result<bool, OutOfMemory>
-    ensures { IfOk result (λ is. is ≡ parts_are_too_long input.now) }
-{
-    if input.len() as u64 <= MAX_INPUT {
-        return Ok(false);
-    }
-    let Some(parts) = find_parts(input) else {
-        return Ok(true);
-    };
-    let is_of_4 = is_of_version_4(alloc, parts.document(input))?;
-    Ok(!is_of_4)
 }

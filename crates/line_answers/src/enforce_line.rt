@@ -5,14 +5,15 @@ ghost use Rattle.enforce_run.specs.EventLines.{AreThere};
 ghost use Rattle.plan_doc.specs.Conditions.{IsUsable, reporter_count};
 ghost use Rattle.doc_names.specs.NameTexts.{texts_of};
 ghost use Rattle.line_answers.specs.EnforceReply.{enforce_accepted, enforce_reply, enforced_reply};
-ghost use Rattle.opened_document.specs.Parted.{parts_reply};
+ghost use Rattle.parted_input.specs.Parted.{parts_reply};
 ghost use Rattle.plan_doc.specs.Plans.{plan_in};
 
 use bwe_specs::OutOfMemory;
 use demand_book::Maker;
 use enforce_run::{EventError, EventLine, event_refusal_line, read_events};
 use one_run::Answer;
-use opened_document::{OpenedDocument, Parted, open, read_parts};
+use opened_document::{OpenedDocument, open};
+use parted_input::{Parted, read_parts};
 use plan_doc::Document;
 use std::alloc::Global;
 

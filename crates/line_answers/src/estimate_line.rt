@@ -12,16 +12,16 @@ ghost use Rattle.sample_lines.specs.Known.{known_by};
 ghost use Rattle.sample_lines.specs.SampleLines.{Answers};
 ghost use Rattle.sample_lines.specs.SampleReports.{reports_in};
 ghost use Rattle.line_answers.specs.EstimateReply.{estimate_accepted, estimate_reply};
-ghost use Rattle.opened_document.specs.Parted.{parts_reply};
+ghost use Rattle.parted_input.specs.Parted.{parts_reply};
 ghost use Rattle.plan_doc.specs.Plans.{plan_in};
 ghost use Rattle.solve_answer.specs.SolveReply.{table_reply};
 
+use crate::solve_line::solve_document;
 use bwe_specs::{DocumentLimits, OutOfMemory, Report};
 use one_run::Answer;
-use opened_document::{Parted, read_parts};
+use parted_input::{Parted, read_parts};
 use plan_doc::Document;
 use sample_lines::{SampleError, estimate_reports, sample_refusal_line};
-use solve_answer::solve_document;
 use std::alloc::Global;
 
 /// The answer to its input.

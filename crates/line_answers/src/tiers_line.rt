@@ -4,14 +4,13 @@ ghost use Rattle.std.specs.Prelude.{◌≡◌, IfOk, length};
 ghost use Rattle.doc_names.specs.NameTexts.{texts_of};
 ghost use Rattle.plan_doc.specs.Conditions.{IsUsable};
 ghost use Rattle.plan_doc.specs.Plans.{plan_in};
-ghost use Rattle.opened_document.specs.Parted.{parts_reply};
+ghost use Rattle.parted_input.specs.Parted.{parts_reply};
 ghost use Rattle.line_answers.specs.TiersReply.{tiered_reply, tiers_accepted, tiers_reply};
 
 use bwe_specs::OutOfMemory;
 use one_run::Answer;
-use opened_document::{
-    OpenedDocument, Parted, open_after_script, read_parts, read_parts_on_threads,
-};
+use opened_document::{OpenedDocument, open_after_script};
+use parted_input::{Parted, read_parts, read_parts_on_threads};
 use plan_doc::Document;
 use std::alloc::Global;
 use std::mem::forget;

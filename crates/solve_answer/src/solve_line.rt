@@ -1,4 +1,4 @@
-//! The command `solve`.
+//! The command `solve`, on threads.
 
 ghost use Rattle.std.specs.Prelude.{◌≡◌, List, IfOk};
 ghost use Rattle.bwe_specs.specs.declared.report.Report.{Report};
@@ -13,49 +13,11 @@ use bwe_specs::OutOfMemory;
 use demand_book::Maker;
 use one_run::Answer;
 use opened_document::{OpenedDocument, open_after_script, refused};
-use plan_doc::{Document, read_document, read_document_on_threads};
+use plan_doc::{Document, read_document_on_threads};
 use std::alloc::Global;
 use std::mem::forget;
 use std::thread::Threads;
 use table_text::table_text;
-
-/// The answer to its input.
-pub fn solve(alloc: Global, input: &[u8]) -> Result<Answer, OutOfMemory>
-    ensures { IfOk result (λ answer. answer ≡ document_reply solve_accepted input.now) }
-{
-    match read_document(alloc, input) {
-        Ok(document) => solve_document(alloc, document),
-        Err(error) => refused(alloc, &error),
-    }
-}
-
-/// The table of an accepted document's script.
-///
-/// What was made of the document is left to the end of the program, which takes its memory back at
-/// once, and not piece by piece.
-pub fn solve_document(alloc: Global, document: Document) -> Result<Answer, OutOfMemory>
-    requires { IsUsable document }
-    ensures { IfOk result (λ answer. answer
-        ≡ table_reply (texts_of document.names) (plan_in document) document.script.items) }
-{
-    let mut opened = open_after_script(alloc, document)?;
-    let answer = solve_opened(alloc, &mut opened)?;
-    forget(opened);
-    Ok(answer)
-}
-
-// The table of what a document's allocator has taken in.
-fn solve_opened(alloc: Global, opened: &mut OpenedDocument) -> Result<Answer, OutOfMemory>
-    ensures { IfOk result (λ answer. (script : List Report)
-        → ⟦<Allocator as Maker>⟧.absorbed opened.old.allocator script
-        → answer ≡ table_reply (texts_of opened.old.names)
-        (⟦<Allocator as Maker>⟧.plan opened.old.allocator) script) }
-{
-    let table = opened.allocator.table(alloc)?;
-    let text = table_text(alloc, &table, &opened.names)?;
-    forget(table);
-    Ok(Answer { status: 0, text })
-}
 
 /// The answer to its input, read and worked out on threads. The input is let go before the table is
 /// made.
@@ -76,6 +38,9 @@ pub(crate) fn solve_on_threads<R: Threads + Sync>(
 }
 
 /// The table of an accepted document's script, worked out on threads.
+///
+/// What was made of the document is left to the end of the program, which takes its memory back at
+/// once, and not piece by piece.
 pub(crate) fn solve_document_on_threads<R: Threads + Sync>(
     rt: &R,
     alloc: Global,
@@ -91,7 +56,7 @@ pub(crate) fn solve_document_on_threads<R: Threads + Sync>(
     Ok(answer)
 }
 
-// The table of what a document's allocator has taken in, worked out on threads.
+// The table of what a document's allocator has taken in.
 fn solve_opened_on_threads<R: Threads + Sync>(
     rt: &R,
     alloc: Global,

@@ -21,10 +21,10 @@ use Rattle.two_part.specs.TwoPart.{IsTwoPart, document_in, parts_behind}
 use Rattle.two_part.proofs.PartsFacts.{parts_complete}
 use Rattle.audit_answer.specs.AuditReply.{IsAuditReply, audit_status}
 use Rattle.top_call.specs.Laws.{RunsAreLegal}
-use Rattle.opened_document.specs.Parted.{IsReplyBehind, accepted_parts}
+use Rattle.parted_input.specs.Parted.{IsReplyBehind, accepted_parts}
 use Rattle.top_call.specs.RunLine.{IsRunReply}
 use Rattle.audit_answer.proofs.Audits.{legal_at-0}
-use Rattle.opened_document.proofs.Behind.{accepted_behind}
+use Rattle.parted_input.proofs.Behind.{accepted_behind}
 
 -- ---- the text of a run
 

@@ -22,7 +22,7 @@ use Rattle.audit_law.specs.DocumentRun.{script_verdict}
 use Rattle.audit_answer.specs.AuditReply.{IsAuditReply, audit_reply, audit_status}
 use Rattle.line_answers.specs.EnforceReply.{enforce_accepted, enforced_by}
 use Rattle.line_answers.specs.EstimateReply.{estimate_accepted, table_behind}
-use Rattle.opened_document.specs.Parted.{IsReplyBehind, behind_reply, no_parts_reply, parts_at, with_part}
+use Rattle.parted_input.specs.Parted.{IsReplyBehind, behind_reply, no_parts_reply, parts_at, with_part}
 use Rattle.line_answers.specs.Replies.{check_accepted, levels_accepted, verdict_status}
 use Rattle.opened_document.specs.Refused.{read_reply, refused_reply}
 use Rattle.solve_answer.specs.SolveReply.{solve_accepted}

@@ -9,8 +9,9 @@ use Rattle.solve_answer.specs.SolveReply.{solve_accepted}
 use Rattle.opened_document.specs.Refused.{document_reply}
 use Rattle.top_call.specs.RunLine.{IsRunReply}
 use Rattle.line_answers.specs.MadeLines.{bulk_reply, make_reply}
-use Rattle.input_lengths.specs.Lengths.{document_is_too_long, parts_are_too_long}
-use Rattle.opened_document.specs.Parted.{IsReplyBehind, accepted_parts, parts_reply}
+use Rattle.input_lengths.specs.Lengths.{document_is_too_long}
+use Rattle.parted_input.specs.Lengths.{parts_are_too_long}
+use Rattle.parted_input.specs.Parted.{IsReplyBehind, accepted_parts, parts_reply}
 use Rattle.audit_answer.specs.AuditReply.{IsAuditReply}
 use Rattle.line_answers.specs.EnforceReply.{enforce_accepted}
 use Rattle.line_answers.specs.EstimateReply.{estimate_accepted}

@@ -7,9 +7,8 @@ ghost use Rattle.top_call.specs.TopCall.{needs_threads, replies};
 use audit_answer::audit;
 use bwe_specs::OutOfMemory;
 use command_line::CommandLine;
-use line_answers::{bulk, check, enforce, estimate, levels, make, tiers};
+use line_answers::{bulk, check, enforce, estimate, levels, make, solve, tiers};
 use one_run::Answer;
-use solve_answer::solve;
 use std::alloc::Global;
 
 /// What a command writes for its input ("Commands", docs/FORMAT.md), for each command that needs no

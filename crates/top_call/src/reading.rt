@@ -9,8 +9,9 @@ ghost use Rattle.top_call.specs.TopCall.{is_too_long, reads};
 use bwe_io::Source;
 use bwe_specs::OutOfMemory;
 use command_line::CommandLine;
-use input_lengths::{document_is_too_long, parts_are_too_long};
+use input_lengths::document_is_too_long;
 use one_run::{InputError, read_input};
+use parted_input::parts_are_too_long;
 use std::alloc::Global;
 
 /// The whole input of a command that reads one, and nothing for another. An input is refused where

@@ -1,27 +1,15 @@
 -- Links added one by one.
-use Rattle.std.proofs.Common.{◌≡◌, ℕ, suc, ◌+◌, ◌<◌, ◌≤◌, false, List, [], ◌∷◌, ◌++◌, length, map, refl, sym, ap, ap₂, ◌∙◌, arith, cond, append_assoc, length-append, add-one, String, Global}
+use Rattle.std.proofs.Common.{◌≡◌, ℕ, suc, ◌+◌, ◌<◌, ◌≤◌, List, [], ◌∷◌, ◌++◌, length, map, refl, sym, ap, ap₂, ◌∙◌, arith, append_assoc, length-append, add-one, String, Global}
 use Rattle.std.specs.Prelude.{None}
-use Rattle.std.specs.List.{list_any}
-use Rattle.std.specs.Str.{bytes_eq}
-use Rattle.std.specs.String.{string_bytes, string_eq}
-use Rattle.std.proofs.lemmas.List.{map_push, length-map}
+use Rattle.std.specs.String.{string_bytes}
+use Rattle.std.proofs.lemmas.List.{map_push}
 use Rattle.std.proofs.lemmas.List.Elements.{All-push}
-use Rattle.indexmap.specs.IndexSet.{insert_key}
 use Rattle.wan_topology.specs.declared.topology.LinkSpec.{LinkSpec}
 use Rattle.wan_topology.specs.declared.topology.LinkSites.{LinkSites}
-use Rattle.wan_topology.specs.declared.fault.TopologyError.{TopologyError}
-use Rattle.wan_topology.specs.declared.fault.TopologyError.TheVariants.{Refused, OutOfMemory}
 use Rattle.wan_topology.specs.Network.{Link, Network, network_of, network_with, IsNetwork}
-use Rattle.wan_topology.specs.Faults.{link_fault, first_link_fault, topology_fault, TellsFault}
-use Rattle.wan_topology.specs.Held.{link_of, links_of, texts, sites_held, network_held}
-use Rattle.wan_topology.proofs.Names.{list_any-texts}
-use Rattle.wan_topology.proofs.Faults.{first_link_fault-none, first_link_fault-some, first_link_fault-end, topology_fault-few}
-
--- a name that is not there yet goes last
-pub insert_key-new : (strings : List (String Global)) (name : String Global) → list_any (bytes_eq (string_bytes name)) (texts strings) ≡ false
-    → insert_key string_eq strings name ≡ strings ++ name ∷ []
-insert_key-new strings name new =
-    ap (λ there. cond there strings (strings ++ name ∷ [])) (sym (list_any-texts (bytes_eq (string_bytes name)) strings) ∙ new)
+use Rattle.wan_topology.specs.Faults.{first_link_fault}
+use Rattle.wan_topology.specs.Held.{link_of, links_of, sites_held, network_held}
+use Rattle.wan_topology.proofs.Faults.{first_link_fault-none, none-first, none-in_range}
 
 -- what is held, with one more link
 pub network_held-with : (strings : List (String Global)) (sites : List LinkSites) (capacities : List ℕ) (network : Network) → network_held strings sites capacities ≡ network
@@ -59,43 +47,33 @@ network_then-with network link later =
     })
     (append_assoc network.capacities (link.capacity ∷ []) (map (λ other. other.capacity) later))
 
--- so many links of all are in the network, and the others are still to come
+-- so many links of all are in the network, and the others, which have no fault either, are still to
+-- come
 pub record IsUnderWay (network : Network) (later all : List Link) : Type 0 where
   pub together : network_then network later ≡ network_of all
-  pub fault : first_link_fault network.names (length network.capacities) later ≡ first_link_fault [] 0 all
+  pub sound : first_link_fault network.names (length network.capacities) later ≡ None
   pub few : length network.capacities + length later ≤ 65_536
 
-pub IsUnderWay-start : (all : List Link) → length all ≤ 65_536 → IsUnderWay (network_of []) all all
-IsUnderWay-start all few = record { together = refl; fault = refl; few = omega (arith, few) }
+pub IsUnderWay-start : (all : List Link) → length all ≤ 65_536 → first_link_fault [] 0 all ≡ None → IsUnderWay (network_of []) all all
+IsUnderWay-start all few sound = record { together = refl; sound = sound; few = omega (arith, few) }
 
-pub IsUnderWay-with : (network : Network) (link : Link) (later all : List Link) → IsUnderWay network (link ∷ later) all → link_fault network.names (length network.capacities) link ≡ None
-    → IsUnderWay (network_with network link) later all
-IsUnderWay-with network link later all under none = record {
+pub IsUnderWay-with : (network : Network) (link : Link) (later all : List Link) → IsUnderWay network (link ∷ later) all → IsUnderWay (network_with network link) later all
+IsUnderWay-with network link later all under = record {
   together = network_then-with network link later ∙ under.together;
-  fault =
+  sound =
       ap (λ n. first_link_fault (network.names ++ link.name ∷ []) n later) (length-append network.capacities (link.capacity ∷ []) ∙ add-one (length network.capacities))
-      ∙ sym (first_link_fault-none network.names (length network.capacities) link later none) ∙ under.fault;
+      ∙ sym (first_link_fault-none network.names (length network.capacities) link later (none-first network.names (length network.capacities) link later under.sound)) ∙ under.sound;
   few = omega (arith, under.few, length-append network.capacities (link.capacity ∷ []));
 }
+
+-- there is room for the next link, and its capacity is in range
+pub IsUnderWay-room : (network : Network) (link : Link) (later all : List Link) → IsUnderWay network (link ∷ later) all → length network.capacities < 65_536
+IsUnderWay-room network link later all under = omega (arith, under.few)
+
+pub IsUnderWay-in_range : (network : Network) (link : Link) (later all : List Link) → IsUnderWay network (link ∷ later) all → link.capacity ≤ 1_000_000_000_000
+IsUnderWay-in_range network link later all under =
+    none-in_range network.names (length network.capacities) link (none-first network.names (length network.capacities) link later under.sound)
 
 pub length_links : (specs : List LinkSpec) → length (links_of specs) ≡ length specs
 length_links [] = refl
 length_links (spec ∷ specs) = ap suc (length_links specs)
-
--- the links are few, and their fault is that of the first link that has one
-pub IsUnderWay-fault : (network : Network) (later all : List Link) → IsUnderWay network later all → topology_fault all ≡ first_link_fault network.names (length network.capacities) later
-IsUnderWay-fault network later all under =
-    let few : length all ≤ 65_536 =
-    omega (arith, under.few, ap (λ n. length n.capacities) under.together, length-append network.capacities (map (λ link. link.capacity) later), length-map later (λ link. link.capacity), length-map all (λ link. link.capacity)) in
-    topology_fault-few all few ∙ sym under.fault
-
--- where every link came, there is no fault
-pub IsUnderWay-end : (network : Network) (all : List Link) → IsUnderWay network [] all → topology_fault all ≡ None
-IsUnderWay-end network all under = IsUnderWay-fault network [] all under ∙ first_link_fault-end network.names (length network.capacities)
-
--- an error that tells the fault of the next link tells the fault of all
-pub TellsFault-next : (network : Network) (link : Link) (later all : List Link) → IsUnderWay network (link ∷ later) all → (error : TopologyError)
-    → TellsFault (link_fault network.names (length network.capacities) link) error → TellsFault (topology_fault all) error
-TellsFault-next network link later all under (Refused fault) told =
-    IsUnderWay-fault network (link ∷ later) all under ∙ first_link_fault-some network.names (length network.capacities) link later fault told
-TellsFault-next network link later all under OutOfMemory told = tt

@@ -1,5 +1,5 @@
 -- The fault of a link, case by case.
-use Rattle.std.proofs.Common.{◌≡◌, ℕ, suc, ◌<◌, ◌≤◌, Bool, true, false, List, [], ◌∷◌, ◌++◌, length, refl, sym, ◌∙◌, inl, inr, Some, None, lt-ltb, le-ltb}
+use Rattle.std.proofs.Common.{◌≡◌, ℕ, suc, ◌<◌, ◌≤◌, Bool, true, false, List, [], ◌∷◌, ◌++◌, length, refl, sym, ◌∙◌, inl, inr, Option, Some, None, lt-ltb, le-ltb}
 use Rattle.std.proofs.lemmas.Bool.{cases_lt}
 use Rattle.std.specs.List.{list_any}
 use Rattle.std.specs.Str.{bytes_eq}
@@ -54,6 +54,13 @@ pub first_link_fault-some : (names : List (List ℕ)) (number : ℕ) (link : Lin
     → first_link_fault names number (link ∷ later) ≡ Some fault
 unfolding first_link_fault
 first_link_fault-some names number link later fault some = rw some
+
+-- where no link has a fault, the first has none
+pub none-first : (names : List (List ℕ)) (number : ℕ) (link : Link) (later : List Link) → first_link_fault names number (link ∷ later) ≡ None → link_fault names number link ≡ None
+none-first names number link later none = go (link_fault names number link) refl where
+  go : (fault : Option TopologyFault) → link_fault names number link ≡ fault → link_fault names number link ≡ None
+  go None e = e
+  go (Some fault) e = absurd (let wrong : Some fault ≡ None = sym (first_link_fault-some names number link later fault e) ∙ none in cc)
 
 pub first_link_fault-end : (names : List (List ℕ)) (number : ℕ) → first_link_fault names number [] ≡ None
 unfolding first_link_fault

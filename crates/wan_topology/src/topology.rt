@@ -1,19 +1,18 @@
 //! A topology: links by their numbers.
 
 ghost use Rattle.std.specs.Prelude.{◌≡◌, ℕ, ◌+◌, ◌<◌, ◌≤◌, ◌↔◌, List, [], ◌∷◌, ◌++◌};
-ghost use Rattle.std.specs.Prelude.{false, length, map, slice_index, slice_set, IfOk, IfErr, OnOk, IsNone, Contains, position};
+ghost use Rattle.std.specs.Prelude.{length, map, not, slice_index, slice_set, IfOk, IfErr, OnOk};
 ghost use Rattle.std.specs.List.{list_any};
 ghost use Rattle.std.specs.Str.{bytes_eq};
 ghost use Rattle.std.specs.String.{string_bytes};
 ghost use Rattle.wan_topology.specs.Network.{network_of, network_with, sites_of, IsNetwork};
-ghost use Rattle.wan_topology.specs.declared.fault.TopologyError.TheVariants.{OutOfMemory};
-ghost use Rattle.wan_topology.specs.Faults.{link_fault, topology_fault, TellsFault};
-ghost use Rattle.wan_topology.specs.Held.{link_of, network_held, texts};
+ghost use Rattle.wan_topology.specs.Faults.{link_fault, first_link_fault, topology_fault, TellsFault};
+ghost use Rattle.wan_topology.specs.Held.{link_of, links_of, network_held, texts};
 
 use crate::fault::{TopologyError, TopologyFault};
 use bwe_specs::{MAX_AMOUNT, MAX_LINKS};
 use indexmap::IndexSet;
-use std::alloc::Global;
+use std::alloc::{AllocError, Global};
 use std::marker::Model;
 
 /// A link as it is given. The capacity is in kilobits per second.
@@ -38,7 +37,7 @@ struct LinkSites {
 /// Which links there are, with their names and sites, never changes. A capacity can.
 #[derive(Drop)]
 pub struct Topology {
-    names: IndexSet<String>,
+    names: Vec<String>,
     sites: Vec<LinkSites>,
     capacities: Vec<u64>,
 }
@@ -50,11 +49,11 @@ impl Model for Topology {
 
     ghost use Rattle.wan_topology.specs.Held.{network_held};
 
-    ghost view = { λ topology. network_held topology.names.keys topology.sites.items
+    ghost view = { λ topology. network_held topology.names.items topology.sites.items
         topology.capacities.items };
 
     ghost invariant = { λ topology. IsNetwork
-        (network_held topology.names.keys topology.sites.items topology.capacities.items) };
+        (network_held topology.names.items topology.sites.items topology.capacities.items) };
 }
 
 impl Topology {
@@ -74,6 +73,9 @@ impl Topology {
             return Err(TopologyError::Refused {
                 fault: TopologyFault::TooManyLinks { count },
             });
+        }
+        if let Some(fault) = first_fault(alloc, &links)? {
+            return Err(TopologyError::Refused { fault });
         }
         let mut topology = Topology::empty(alloc);
         for link in links {
@@ -121,14 +123,6 @@ impl Topology {
         self.sites[link as usize].to.as_str()
     }
 
-    /// The number of the link of this name, `None` where no link has it.
-    pub fn link_number(&self, name: &str) -> Option<u32>
-        ensures number { result ≡ position (bytes_eq name.now) self.now.names }
-        ensures none { IsNone result ↔ (¬ (Contains self.now.names name.now)) }
-    {
-        Some(self.names.get_index_of(name)? as u32)
-    }
-
     /// Sets what the link can carry, in kilobits per second, and changes nothing else. It takes no
     /// memory.
     pub fn set_capacity(&mut self, link: u32, capacity: u64)
@@ -145,25 +139,18 @@ impl Topology {
         ensures { result ≡ network_of [] }
     {
         Topology {
-            names: IndexSet::new(alloc),
+            names: Vec::new(alloc),
             sites: Vec::new(alloc),
             capacities: Vec::new(alloc),
         }
     }
 
     // The topology with one more link, which gets the next number.
-    fn with_link(self, link: LinkSpec) -> Result<Topology, TopologyError>
-        requires { length self.capacities < MAX_LINKS }
-        ensures built { IfOk result (λ topology. topology ≡ network_with self (link_of link)) }
-        ensures accepted { OnOk result
-            (link_fault self.names (length self.capacities) (link_of link) ≡ None) }
-        ensures refused { IfErr result
-            (TellsFault (link_fault self.names (length self.capacities) (link_of link))) }
+    fn with_link(self, link: LinkSpec) -> Result<Topology, AllocError>
+        requires room { length self.capacities < MAX_LINKS }
+        requires capacity { link.capacity ≤ MAX_AMOUNT }
+        ensures { IfOk result (λ topology. topology ≡ network_with self (link_of link)) }
     {
-        let number = self.capacities.len() as u32;
-        if let Some(fault) = self.fault_of(number, &link) {
-            return Err(TopologyError::Refused { fault });
-        }
         let Topology {
             mut names,
             mut sites,
@@ -176,43 +163,58 @@ impl Topology {
             capacities,
         })
     }
-
-    // The fault of the link of this number, after the links that are here.
-    #[tactic(auto, unfolding(crate::specs::Faults::link_fault))]
-    fn fault_of(&self, number: u32, link: &LinkSpec) -> Option<TopologyFault>
-        ensures { result ≡ link_fault self.now.names number (link_of link.now) }
-    {
-        if self.names.contains(link.name.as_str()) {
-            return Some(TopologyFault::RepeatedLink { link: number });
-        }
-        if link.from == link.to {
-            return Some(TopologyFault::SelfLink { link: number });
-        }
-        if link.capacity > MAX_AMOUNT {
-            return Some(TopologyFault::CapacityOverMax { link: number });
-        }
-        None
-    }
 }
 
-// Puts a link of a new name behind those that are held.
+// Puts a link behind those that are held.
 fn put_link(
-    names: &mut IndexSet<String>,
+    names: &mut Vec<String>,
     sites: &mut Vec<LinkSites>,
     capacities: &mut Vec<u64>,
     link: LinkSpec,
-) -> Result<(), TopologyError>
-    requires { list_any (bytes_eq (string_bytes link.name)) (texts names.old.keys) ≡ false }
-    ensures put { OnOk result (network_held names.new.keys sites.new.items capacities.new.items
-        ≡ network_with (network_held names.old.keys sites.old.items capacities.old.items)
+) -> Result<(), AllocError>
+    ensures { OnOk result (network_held names.new.items sites.new.items capacities.new.items
+        ≡ network_with (network_held names.old.items sites.old.items capacities.old.items)
         (link_of link)) }
-    ensures refused { IfErr result (λ error. error ≡ OutOfMemory) }
 {
-    names.insert(link.name)?;
+    names.push(link.name)?;
     sites.push(LinkSites {
         from: link.from,
         to: link.to,
     })?;
     capacities.push(link.capacity)?;
     Ok(())
+}
+
+// The fault of the first link that has one. The set of names goes when it is told, so that a
+// topology holds none.
+fn first_fault(alloc: Global, links: &[LinkSpec]) -> Result<Option<TopologyFault>, AllocError>
+    requires { length links.now ≤ MAX_LINKS }
+    ensures { IfOk result (λ fault. fault ≡ first_link_fault [] 0 (links_of links.now)) }
+{
+    let mut names: IndexSet<&str> = IndexSet::new(alloc);
+    for (number, link) in links.iter().enumerate() {
+        let is_new = names.insert(link.name.as_str())?;
+        if let Some(fault) = fault_of(number as u32, link, is_new) {
+            return Ok(Some(fault));
+        }
+    }
+    Ok(None)
+}
+
+// The fault of the link of this number, whose name is new among those before it, or is not.
+#[tactic(auto, unfolding(crate::specs::Faults::link_fault))]
+fn fault_of(number: u32, link: &LinkSpec, is_new: bool) -> Option<TopologyFault>
+    ensures { (names : List (List ℕ)) → is_new ≡ not (list_any (bytes_eq (string_bytes link.now.name)) names)
+        → result ≡ link_fault names number (link_of link.now) }
+{
+    if !is_new {
+        return Some(TopologyFault::RepeatedLink { link: number });
+    }
+    if link.from == link.to {
+        return Some(TopologyFault::SelfLink { link: number });
+    }
+    if link.capacity > MAX_AMOUNT {
+        return Some(TopologyFault::CapacityOverMax { link: number });
+    }
+    None
 }

@@ -2,9 +2,9 @@ use Rattle.std.proofs.Common.{◌∙◌, sym, subst}
 use Rattle.std.proofs.lemmas.Result.{IfOk-weaker}
 use Rattle.audit_law.specs.DocumentLaws.{IsRead}
 use Rattle.audit_law.proofs.DocumentLaw.{document-run-legal, legal-document-run}
-use Rattle.opened_document.specs.declared.parted.Parted.TheVariants.{Read}
+use Rattle.parted_input.specs.declared.parted.Parted.TheVariants.{Read}
 use Rattle.audit_answer.specs.AuditReply.{IsAuditReply}
-use Rattle.opened_document.specs.Parted.{AreRead, IsReplyBehind, accepted_parts}
+use Rattle.parted_input.specs.Parted.{AreRead, IsReplyBehind, accepted_parts}
 use Rattle.audit_answer.proofs.Audits.{audit-says, reply-parts, tasks-are}
 use Rattle.audit_answer.proofs.audit_line.audit.Goals as goal
 

@@ -2,7 +2,7 @@ use Rattle.std.proofs.Common.{ℕ, List, ap, ◌∙◌}
 use Rattle.one_run.specs.Endings.{Reply}
 use Rattle.doc_names.specs.NameTexts.{texts_of}
 use Rattle.table_text.specs.TableText.{text_of}
-use Rattle.solve_answer.proofs.solve_line.solve_opened.Goals as goal
+use Rattle.line_answers.proofs.solve_line.solve_opened.Goals as goal
 
 abbrev reply_of : List ℕ → Reply
 reply_of text = record { status = 0; text = text }

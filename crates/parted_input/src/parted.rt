@@ -2,11 +2,11 @@
 
 ghost use Rattle.std.specs.Prelude.{◌≡◌, IfOk};
 ghost use Rattle.plan_doc.specs.RefusalLines.{error_line};
-ghost use Rattle.opened_document.specs.Parted.{AreRead, accepted_parts, no_parts_reply};
+ghost use Rattle.parted_input.specs.Parted.{AreRead, accepted_parts, no_parts_reply};
 
-use crate::refusal::refused;
 use bwe_specs::OutOfMemory;
 use one_run::Answer;
+use opened_document::refused;
 use plan_doc::{Document, read_document, read_document_on_threads};
 use std::alloc::Global;
 use std::thread::Threads;

@@ -7,8 +7,8 @@ use Rattle.plan_doc.specs.Document.{Accepted, document}
 use Rattle.plan_doc.specs.Refusals.{Refusal}
 use Rattle.two_part.specs.declared.Parts.{Parts}
 use Rattle.two_part.specs.TwoPart.{document_in, no_parts_line, parts_of}
-use Rattle.opened_document.specs.declared.parted.Parted as read
-use Rattle.opened_document.specs.declared.parted.Parted.TheVariants.{Read, Refused}
+use Rattle.parted_input.specs.declared.parted.Parted as read
+use Rattle.parted_input.specs.declared.parted.Parted.TheVariants.{Read, Refused}
 use Rattle.opened_document.specs.Refused.{refused_reply}
 
 -- an accepted document, and the second part behind it

@@ -1,5 +1,5 @@
-use Rattle.opened_document.proofs.Behind.{accepted_behind}
-use Rattle.opened_document.proofs.parted.read_parts.Goals as goal
+use Rattle.parted_input.proofs.Behind.{accepted_behind}
+use Rattle.parted_input.proofs.parted.read_parts.Goals as goal
 
 pub returns-in-Ok : goal.returns-in-Ok
 returns-in-Ok c =

@@ -4,7 +4,7 @@ use Rattle.std.specs.Prelude.{drop}
 use Rattle.plan_doc.specs.Document.{Accepted, document}
 use Rattle.two_part.specs.declared.Parts.{Parts}
 use Rattle.two_part.specs.TwoPart.{document_in, parts_of}
-use Rattle.opened_document.specs.Parted.{accepted_parts, parts_at, with_part}
+use Rattle.parted_input.specs.Parted.{accepted_parts, parts_at, with_part}
 
 -- the parts that were found, of which the first is accepted
 pub accepted_behind : (input : List ℕ) (parts : Parts) (bytes part : List ℕ) (accepted : Accepted) → Some parts ≡ parts_of input → document bytes ≡ Ok accepted
