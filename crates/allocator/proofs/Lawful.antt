@@ -19,13 +19,12 @@ use Rattle.table_laws.proofs.Shared.{shared-alike}
 use Rattle.table_laws.proofs.Walks.{numbered}
 use Rattle.table_laws.proofs.Wasted.{without-waste}
 use Rattle.max_min.proofs.MaxMin.{max-min}
-use Rattle.allocator.specs.FrameLaws.{length-cluster_limits}
-use Rattle.allocator.specs.Reported.{Reported}
-use Rattle.allocator.specs.Allocators.{IsFitted, plan_by, table_by}
+use Rattle.plain_table.specs.Reported.{Reported}
+use Rattle.plain_table.specs.Tables.{IsFitted, plan_by, table_by, wan_by}
+use Rattle.plain_table.proofs.Filled.{amount-at_most, amounts-of_lines}
+use Rattle.plain_table.proofs.Lengths.{length-cluster_limits}
+use Rattle.plain_table.proofs.Made.{never, bound}
 use Rattle.allocator.specs.Laws.{IsNoMoreThanAsked, IsConserved, IsShared, IsFeasible, IsHeldBack, IsUnwasted, IsFair, amount_in}
-use Rattle.allocator.specs.Tables.{wan_by}
-use Rattle.allocator.proofs.Filled.{amount-at_most, amounts-of_lines}
-use Rattle.allocator.proofs.Made.{never, bound}
 use Rattle.allocator.proofs.Pieces.{piece-at}
 
 -- what holds of a table holds of an answer that is that table

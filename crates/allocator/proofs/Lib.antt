@@ -1,10 +1,4 @@
-pub mod First
-pub mod FirstOfLinks
 pub mod After
-pub mod Rows
-pub mod Filled
-pub mod Fitted
-pub mod Made
 pub mod Pieces
 pub mod Lawful
 pub mod Told

@@ -13,13 +13,12 @@ use Rattle.table_laws.specs.Tasks.{AreNumbered, JobTask, tasks_of}
 use Rattle.table_laws.proofs.Alike.{alike}
 use Rattle.table_laws.proofs.Named.{IsSmall, told-by_text}
 use Rattle.table_laws.proofs.Walks.{number_of, numbered, walk-numbers}
-use Rattle.allocator.specs.FrameLaws.{length-limits_of}
-use Rattle.allocator.specs.Reported.{Reported}
-use Rattle.allocator.specs.Allocators.{IsFitted, plan_by, table_by}
+use Rattle.plain_table.specs.Reported.{Reported}
+use Rattle.plain_table.specs.Tables.{IsFitted, plan_by, table_by, wan_by}
+use Rattle.plain_table.proofs.Lengths.{length-limits_of}
+use Rattle.plain_table.proofs.Made.{never, bound}
 use Rattle.allocator.specs.Laws.{IsTold, IsTheSameInAnyOrder}
-use Rattle.allocator.specs.Tables.{wan_by}
 use Rattle.allocator.proofs.Lawful.{table-asked}
-use Rattle.allocator.proofs.Made.{never, bound}
 
 no_task : JobTask
 no_task = record { function = []; task = record { number = 0; weight = 0 } }

@@ -12,8 +12,8 @@ use Rattle.table_laws.specs.Tables.{IsSharedAlike, IsWithoutWaste}
 use Rattle.table_laws.specs.Order.{IsInAnyOrder}
 use Rattle.table_laws.specs.Printing.{IsToldByItsText}
 use Rattle.max_min.specs.MaxMin.{HasOnePathGroupEach, IsMaxMin}
-use Rattle.allocator.specs.Reported.{Reported}
-use Rattle.allocator.specs.Allocators.{plan_by}
+use Rattle.plain_table.specs.Reported.{Reported}
+use Rattle.plain_table.specs.Tables.{plan_by}
 
 -- what a group gets
 abbrev pub amount_in : Table → ℕ → ℕ

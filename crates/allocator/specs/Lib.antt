@@ -1,9 +1,4 @@
-pub mod Lines
-pub mod FirstOfLinks
-pub mod Reported
-pub mod Values
 pub mod Frames
 pub mod Allocators
-pub mod Tables
 pub mod FrameLaws
 pub mod Laws

@@ -8,11 +8,11 @@ ghost use Rattle.policy_tree.specs.Trees.{task_numbers};
 
 use crate::reported::Reported;
 use crate::table::{present_table, present_table_on_threads};
-use crate::values::TreeValues;
 use bwe_specs::{OutOfMemory, Report};
 use demand_book::Maker;
 use limit_table::LimitTable;
 use path_groups::PathPlan;
+use plain_table::TreeValues;
 use policy_tree::PolicyTree;
 use std::alloc::Global;
 use std::marker::Model;
@@ -30,7 +30,8 @@ pub struct Allocator {
 }
 
 impl Model for Allocator {
-    ghost use Rattle.allocator.specs.Allocators.{Allocating, IsFitted};
+    ghost use Rattle.plain_table.specs.Tables.{IsFitted};
+    ghost use Rattle.allocator.specs.Allocators.{Allocating};
 
     ghost Value = { Allocating };
 
@@ -179,10 +180,10 @@ impl Allocator {
 impl Maker for Allocator {
     ghost use Rattle.std.specs.Prelude.{length};
     ghost use Rattle.bwe_specs.specs.Allocation.{allocation};
+    ghost use Rattle.plain_table.specs.Reported.{IsAfter};
     ghost use Rattle.allocator.specs.Allocators.{plan_in};
     ghost use Rattle.allocator.specs.Frames.{task_count};
     ghost use Rattle.allocator.specs.FrameLaws.{covers-allocation, one_frame-allocation, same_tasks-allocation};
-    ghost use Rattle.allocator.specs.Reported.{IsAfter};
 
     type Table = LimitTable;
 

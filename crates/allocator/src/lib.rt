@@ -9,28 +9,22 @@
 //! groups in another order get the same; and two tables with one text are equal.
 //!
 //! `make_table_by_looks` has clauses on how many load probes, turns, plays and moves a table takes.
-//! `Reported` keeps a tree and a network as they stand after reports; `TreeValues` lends a tree's
-//! groups to the filling. After `keep` the tree of an allocator keeps values and limits from one
-//! table to the next (`kept_tree`), so that a table after few reports costs what has changed. It is
-//! the same table, by the clause of `table`; so is that of `table_on_threads`, whose values and
-//! limits are worked out on threads. Nothing is promised of time.
+//! `Reported` keeps a tree and a network as they stand after reports. What makes a table of a filling
+//! stands below, in `plain_table`. After `keep` the tree of an allocator keeps values and limits
+//! from one table to the next (`kept_tree`), so that a table after few reports costs what has
+//! changed. It is the same table, by the clause of `table`; so is that of `table_on_threads`, whose
+//! values and limits are worked out on threads. Nothing is promised of time.
 #![tactic(auto)]
 
 mod allocator;
-mod firsts;
 mod history;
 mod kept;
-mod line;
 mod reported;
 mod table;
 mod tops;
-mod values;
 
 pub use allocator::{Allocator, AllocatorPlan};
-pub use firsts::FirstClosings;
 pub use history::after_script;
 pub use kept::fill_kept;
-pub use line::{group_line, group_lines};
 pub use reported::{Reported, capacities_of};
-pub use table::{limits_of, make_table, make_table_by_looks};
-pub use values::TreeValues;
+pub use table::{make_table, make_table_by_looks};

@@ -8,9 +8,9 @@ ghost use Rattle.mpfa_fill.specs.Filling.{IsFilling};
 ghost use Rattle.policy_tree.specs.Trees.{asking, demand_in, value_in, IsTree};
 ghost use Rattle.bwe_specs.specs.Values.{AreValues};
 ghost use Rattle.wan_topology.specs.Network.{IsNetwork};
-ghost use Rattle.allocator.specs.Allocators.{IsFitted};
-ghost use Rattle.allocator.specs.Tables.{wan_by};
-ghost use Rattle.allocator.specs.Reported.{Reported as ReportedView, IsAfter, kept, with_capacity, with_report};
+ghost use Rattle.plain_table.specs.Reported.{Reported as ReportedView, IsAfter, with_capacity, with_report};
+ghost use Rattle.plain_table.specs.Tables.{IsFitted, wan_by};
+ghost use Rattle.allocator.specs.Allocators.{kept};
 
 use bwe_specs::{MAX_AMOUNT, OutOfMemory, Report, Target};
 use kept_tree::KeptTree;
@@ -36,9 +36,8 @@ pub struct Reported {
 
 impl Model for Reported {
     ghost use Rattle.std.specs.Prelude.{unwrap_or};
-    ghost use Rattle.allocator.specs.Allocators.{IsFitted};
-    ghost use Rattle.allocator.specs.Tables.{wan_by};
-    ghost use Rattle.allocator.specs.Reported.{Reported as ReportedView, kept};
+    ghost use Rattle.plain_table.specs.Reported.{Reported as ReportedView};
+    ghost use Rattle.allocator.specs.Allocators.{kept};
 
     ghost Value = { ReportedView };
 

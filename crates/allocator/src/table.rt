@@ -8,13 +8,11 @@ ghost use Rattle.parallel_values.specs.Levels.{levels_in};
 ghost use Rattle.mpfa_fill.specs.Filling.{IsFilling};
 ghost use Rattle.link_front.specs.Moves.{links_over_all};
 ghost use Rattle.link_solver.specs.Counts.{path_groups_in};
-ghost use Rattle.allocator.specs.Allocators.{IsFitted, table_by};
+ghost use Rattle.plain_table.specs.Lines.{line_in};
+ghost use Rattle.plain_table.specs.Tables.{IsFitted, table_by, wan_by};
 ghost use Rattle.allocator.specs.Laws.{IsNoMoreThanAsked, IsConserved, IsShared, IsFeasible, IsHeldBack, IsTold, IsUnwasted, IsFair, IsTheSameInAnyOrder};
-ghost use Rattle.allocator.specs.Lines.{line_in};
-ghost use Rattle.allocator.specs.Tables.{wan_by};
 
 use crate::kept::fill_kept_by_looks;
-use crate::line::group_lines;
 use crate::reported::Reported;
 use crate::tops::ToppedValues;
 use bwe_specs::OutOfMemory;
@@ -24,8 +22,8 @@ use mono_search::Steps;
 use mpfa_fill::Filling;
 use parallel_values::{values_at, values_in_turn};
 use path_groups::PathPlan;
-use policy_tree::PolicyTree;
-use push_down::{all_limits, all_limits_on_threads};
+use plain_table::{amounts_of, group_lines};
+use push_down::all_limits_on_threads;
 use std::alloc::Global;
 use std::marker::Brand;
 use std::sync::ledger::{Blank, Ledger};
@@ -121,10 +119,8 @@ fn table_of_filling(
     requires filling { IsFilling (wan_by reported.now plan.now) filling }
     ensures { IfOk result (λ table. table ≡ table_by reported.now plan.now) }
 {
-    let tree = reported.tree();
-    let groups = group_lines(alloc, plan, &filling)?;
-    let limits = limits_of(alloc, tree, &groups)?;
-    Ok(table_of_limits(reported, plan, filling, groups, limits))
+    let (tree, topology) = (reported.tree(), reported.topology());
+    plain_table::table_of_filling(alloc, tree, topology, plan, reported.prefix(), filling)
 }
 
 // The same table, whose limits are worked out on threads.
@@ -163,14 +159,9 @@ fn table_of_limits(
         (zip reported.now.tree.clusters (map (λ line. line.amount) groups.items)) }
     ensures { result ≡ table_by reported.now plan.now }
 {
-    let (_tree, _topology) = (reported.tree(), reported.topology());
-    LimitTable {
-        prefix: reported.prefix(),
-        limits,
-        groups,
-        loads: filling.loads,
-        closings: filling.closings,
-    }
+    let (tree, topology) = (reported.tree(), reported.topology());
+    let prefix = reported.prefix();
+    plain_table::table_of_limits(tree, topology, plan, prefix, filling, groups, limits)
 }
 
 /// The same table. Where the tree keeps values and limits, groups of which no demand has changed
@@ -321,33 +312,4 @@ fn filling_of<L: Ledger, T: Ledger, P: Ledger, M: Ledger>(
         steps,
         work,
     )
-}
-
-/// Each task's limit, where the groups have the amounts of these rows. All are kilobits per second.
-pub fn limits_of(
-    alloc: Global,
-    tree: &PolicyTree,
-    groups: &[GroupLine],
-) -> Result<Vec<u64>, OutOfMemory>
-    requires groups { length groups.now ≡ length tree.now.clusters }
-    requires within { (group : ℕ) → group < length tree.now.clusters
-        → slice_index (map (λ line. line.amount) groups.now) group
-        ≤ value_in tree.now group tree.now.top }
-    ensures { IfOk result (λ limits. limits.items
-        ≡ flat_map (λ given. cluster_limits tree.now.top (demand_in tree.now) given.0 given.1)
-        (zip tree.now.clusters (map (λ line. line.amount) groups.now))) }
-{
-    let amounts = amounts_of(alloc, groups)?;
-    all_limits(alloc, tree, &amounts)
-}
-
-// The amounts of these rows, in kilobits per second.
-fn amounts_of(alloc: Global, groups: &[GroupLine]) -> Result<Vec<u64>, OutOfMemory>
-    ensures { IfOk result (λ amounts. amounts.items ≡ map (λ line. line.amount) groups.now) }
-{
-    let mut amounts = Vec::with_capacity(alloc, groups.len())?;
-    for line in groups {
-        amounts.push(line.amount)?;
-    }
-    Ok(amounts)
 }

@@ -17,7 +17,7 @@ pub(crate) struct ToppedValues<'a> {
 }
 
 impl GroupValues for ToppedValues<'_> {
-    ghost use Rattle.allocator.specs.Values.{values_of};
+    ghost use Rattle.plain_table.specs.Values.{values_of};
 
     ghost meaning = { λ values. values_of values.tree.now };
 

@@ -4,9 +4,9 @@ use Rattle.std.specs.Prelude.{slice_index}
 use Rattle.bwe_specs.specs.declared.report.Report.{Report}
 use Rattle.bwe_specs.specs.Paths.{PathGroups}
 use Rattle.bwe_specs.specs.Allocation.{Plan, Table, allocation, table_under}
-use Rattle.allocator.specs.Allocators.{plan_by, table_by}
-use Rattle.allocator.specs.Reported.{IsAfter, Reported}
-use Rattle.allocator.proofs.Fitted.{table-after}
+use Rattle.plain_table.specs.Tables.{plan_by, table_by}
+use Rattle.plain_table.specs.Reported.{IsAfter, Reported}
+use Rattle.plain_table.proofs.Fitted.{table-after}
 
 -- the table under demands and capacities in lists
 abbrev pub listed : Plan → ℕ → List ℕ → List ℕ → Table

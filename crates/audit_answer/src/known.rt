@@ -3,7 +3,7 @@
 ghost use Rattle.std.specs.Prelude.{◌≡◌, true, List, IfOk};
 ghost use Rattle.bwe_specs.specs.declared.report.Report.{Report};
 ghost use Rattle.allocator.specs.Allocators.{plan_in};
-ghost use Rattle.allocator.specs.Reported.{IsAfter};
+ghost use Rattle.plain_table.specs.Reported.{IsAfter};
 ghost use Rattle.audit_answer.specs.Known.{IsKnown};
 
 use allocator::{Allocator, AllocatorPlan, capacities_of};
@@ -55,7 +55,7 @@ impl Maker for KnowingAllocator {
     ghost use Rattle.allocator.specs.Allocators.{plan_in};
     ghost use Rattle.allocator.specs.Frames.{task_count};
     ghost use Rattle.allocator.specs.FrameLaws.{covers-allocation, one_frame-allocation, same_tasks-allocation};
-    ghost use Rattle.allocator.specs.Reported.{IsAfter};
+    ghost use Rattle.plain_table.specs.Reported.{IsAfter};
 
     type Table = LimitTable;
 

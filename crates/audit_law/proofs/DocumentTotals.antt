@@ -17,7 +17,7 @@ use Rattle.bwe_specs.specs.TreeFunctions.{AreClusters}
 use Rattle.bwe_specs.specs.Allocation.{Plan, allocation, group_line, wan_after}
 use Rattle.bwe_specs.proofs.Plans.{plan-never_falls}
 use Rattle.bwe_specs.proofs.Sums.{sum_below-list, sum_by-numbers}
-use Rattle.allocator.proofs.Filled.{amounts-total}
+use Rattle.plain_table.proofs.Filled.{amounts-total}
 use Rattle.limit_table.specs.Tables.{total_of}
 use Rattle.policy_tree.specs.Trees.{cluster_numbers, job_numbers, task_numbers, user_numbers}
 

@@ -1,3 +1,3 @@
 pub mod Faults
 pub mod Bytes
-pub mod Memory
+pub mod Streams

@@ -1,7 +1,7 @@
 //! The readers and writers of std as a source and a sink: the trusted edge.
 
 ghost use Rattle.std.specs.Prelude.{◌≡◌};
-ghost use Rattle.bwe_io.specs.Memory.{CountedStream};
+ghost use Rattle.bwe_io.specs.Streams.{CountedStream};
 
 use crate::{Failed, Sink, Source};
 use std::io::{Read, Write};
@@ -17,7 +17,7 @@ pub struct StdSource<R: Read> {
 }
 
 impl<R: Read> Model for StdSource<R> {
-    ghost use Rattle.bwe_io.specs.Memory.{CountedStream};
+    ghost use Rattle.bwe_io.specs.Streams.{CountedStream};
 
     ghost Value = { CountedStream };
 
@@ -60,7 +60,7 @@ pub struct StdSink<W: Write> {
 }
 
 impl<W: Write> Model for StdSink<W> {
-    ghost use Rattle.bwe_io.specs.Memory.{CountedStream};
+    ghost use Rattle.bwe_io.specs.Streams.{CountedStream};
 
     ghost Value = { CountedStream };
 

@@ -2,7 +2,7 @@
 use Rattle.std.specs.Prelude.{ℕ, ◌≡◌, List, [], length, map}
 use Rattle.bwe_specs.specs.declared.report.Report.{Report}
 use Rattle.bwe_specs.specs.Reports.{demand_after, numbers}
-use Rattle.demand_book.specs.Book.{Book}
+use Rattle.report_book.specs.Book.{Book}
 
 pub record Echo : Type 0 where
   pub prefix : ℕ

@@ -5,7 +5,8 @@ ghost use Rattle.bwe_specs.specs.Reports.{demand_after, numbers};
 ghost use Rattle.bwe_protocol.specs.Echo.{Holds, echo_of};
 
 use bwe_specs::{OutOfMemory, Report};
-use demand_book::{DemandBook, Maker, Posted};
+use demand_book::{Maker, Posted};
+use report_book::DemandBook;
 use std::alloc::Global;
 use std::marker::Model;
 

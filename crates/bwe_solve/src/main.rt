@@ -5,11 +5,11 @@
 #![tactic(auto)]
 
 use bwe_io::{StdSink, StdSource};
-use solve_answer::solve_once;
+use plain_solve::solve_once;
 use std::process::ExitCode;
 
 fn main(rt: HostRuntime) -> ExitCode {
     let mut source = StdSource::new(rt.stdin());
     let mut sink = StdSink::new(rt.stdout());
-    ExitCode::from(solve_once(&rt, rt.alloc(), &mut source, &mut sink))
+    ExitCode::from(solve_once(rt.alloc(), &mut source, &mut sink))
 }

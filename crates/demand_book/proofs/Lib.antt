@@ -1,4 +1,1 @@
-pub mod Amounts
 pub mod LastReports
-pub mod Keeping
-pub mod Rows

@@ -1,4 +1,1 @@
 pub mod Fit
-pub mod Told
-pub mod Book
-pub mod Small

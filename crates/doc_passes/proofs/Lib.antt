@@ -7,6 +7,4 @@ pub mod RangeFacts
 pub mod NameFacts
 pub mod NumberFacts
 pub mod LimitFacts
-pub mod GroupHalves
 pub mod EachFrom
-pub mod ScriptHalves

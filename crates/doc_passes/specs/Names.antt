@@ -29,11 +29,6 @@ abbrev pub fold_member : {S A : Type 0} → DocKey → (S → A → Result S (Li
     → Result S (List PathStep)
 fold_member key step state items = under (Key key) (fold_each step 0 state items)
 
--- of the items of such a list from a place on
-abbrev pub fold_member_from : {S A : Type 0} → DocKey → (S → A → Result S (List PathStep)) → ℕ → S
-    → List A → Result S (List PathStep)
-fold_member_from key step from state items = under (Key key) (fold_each step from state items)
-
 abbrev pub add_link : List (List ℕ) → Link → Result (List (List ℕ)) (List PathStep)
 add_link before link = fresh_name before link.name
 

@@ -2,7 +2,7 @@
 use Rattle.std.specs.Prelude.{ℕ, List}
 use Rattle.raw_document.specs.Reading.{each_view}
 use Rattle.doc_passes.specs.declared.numbers.DocumentNumbers.{DocumentNumbers}
-use Rattle.doc_passes.specs.declared.group_numbers.GroupNumbers.{GroupNumbers}
+use Rattle.doc_passes.specs.declared.groups.GroupNumbers.{GroupNumbers}
 use Rattle.path_groups.specs.Given.{Group, group_of}
 use Rattle.doc_passes.specs.Numbers.{Numbers}
 

@@ -1,26 +1,23 @@
 //! The document with numbers in place of the names that refer to others.
 
-ghost use Rattle.std.specs.Prelude.{◌≡◌, [], map};
-ghost use Rattle.std.specs.Thread.{IsSync};
+ghost use Rattle.std.specs.Prelude.{map};
 ghost use Rattle.raw_document.specs.Reading.{Gives, under, each};
 ghost use Rattle.raw_document.specs.Raw as raw;
 ghost use Rattle.bwe_specs.specs.declared.network.Closing.{Closing};
 ghost use Rattle.raw_document.specs.Raw.{link_view, closing_view, raw_view};
 ghost use Rattle.raw_document.specs.declared.key.DocKey.TheVariants as keys;
 ghost use Rattle.raw_document.specs.declared.doc_path.PathStep.TheVariants.{Key};
-ghost use Rattle.doc_passes.specs.Names.{fold_member};
 ghost use Rattle.doc_passes.specs.Numbers as spec;
-ghost use Rattle.doc_passes.specs.NumbersView.{numbers_view, group_numbers_view};
+ghost use Rattle.doc_passes.specs.NumbersView.{numbers_view};
 
-use crate::group_numbers::{GroupNumbers, group_numbers, group_numbers_on_threads};
+use crate::groups::{GroupNumbers, group_numbers};
 use crate::name_table::NameTable;
 use crate::numbered::{Numbered, each_numbers, number_in_member};
-use crate::script_numbers::{script_numbers, script_numbers_on_threads};
+use crate::script::script_numbers;
 use bwe_specs::{Closing, Report};
 use path_groups::GroupSpec;
 use raw_document::{DocKey, Fault, PathStep, RawClosing, RawDocument, RawLink, under};
 use std::alloc::Global;
-use std::thread::{Threads, join};
 
 /// What the document says of numbers: the groups over the links, the script, the closings, and who
 /// owns what.
@@ -83,7 +80,8 @@ impl<'a> Numbered for RawClosing<'a> {
     }
 }
 
-fn link_owners(
+/// The owner of each link, where it has one, or the first unknown name.
+pub fn link_owners(
     alloc: Global,
     links: &[RawLink],
     reporters: &NameTable,
@@ -100,7 +98,8 @@ fn link_owners(
     )
 }
 
-fn closings_numbers(
+/// The closings by the numbers of their links, or the first unknown name.
+pub fn closings_numbers(
     alloc: Global,
     closings: &[RawClosing],
     links: &NameTable,
@@ -139,66 +138,6 @@ pub fn document_numbers(
         reporters,
     )?;
     let script = script_numbers(alloc, &raw.script, links, tasks, reporters, &owners)?;
-    let closings = closings_numbers(alloc, &raw.closings, links)?;
-    Ok(DocumentNumbers {
-        link_owners,
-        groups: specs,
-        task_owners: owners,
-        script,
-        closings,
-    })
-}
-
-// The numbers of groups and script, each by halves in a thread of its own. Both end before it
-// answers.
-fn groups_beside_script<R: Threads + Sync>(
-    rt: &R,
-    alloc: Global,
-    raw: &RawDocument,
-    links: &NameTable,
-    tasks: &NameTable,
-    reporters: &NameTable,
-) -> (Result<GroupNumbers, Fault>, Result<Vec<Report>, Fault>)
-    ensures groups { Gives group_numbers_view result.0 (fold_member keys.Groups
-        (spec.add_group_numbers links.now reporters.now) ([], []) (raw_view raw.now).groups) }
-    ensures script { Gives (λ script. script.items) result.1 (under (Key keys.Script)
-        (each (spec.report_numbers links.now tasks.now reporters.now) 0 (raw_view raw.now).script)) }
-{
-    // a copy for each closure
-    let theirs = alloc;
-    let script = move || -> Result<Vec<Report>, Fault>
-        requires { IsSync R.row }
-        ensures { Gives (λ script. script.items) result (under (Key keys.Script)
-            (each (spec.report_numbers links.entry.now tasks.entry.now reporters.entry.now) 0
-            (raw_view raw.entry.now).script)) }
-    { script_numbers_on_threads(rt, theirs, &raw.script, links, tasks, reporters) };
-    let groups = move || -> Result<GroupNumbers, Fault>
-        requires { IsSync R.row }
-        ensures { Gives group_numbers_view result (fold_member keys.Groups
-            (spec.add_group_numbers links.entry.now reporters.entry.now) ([], [])
-            (raw_view raw.entry.now).groups) }
-    { group_numbers_on_threads(rt, alloc, &raw.groups, tasks.len(), links, reporters) };
-    join(rt, groups, script)
-}
-
-/// The same by four threads: two take the script, where it is long, and two the groups, each by
-/// halves.
-#[tactic(auto, unfolding(crate::specs::Numbers::numbers))]
-pub fn document_numbers_on_threads<R: Threads + Sync>(
-    rt: &R,
-    alloc: Global,
-    raw: &RawDocument,
-    links: &NameTable,
-    tasks: &NameTable,
-    reporters: &NameTable,
-) -> Result<DocumentNumbers, Fault>
-    ensures { Gives numbers_view result
-        (spec.numbers links.now tasks.now reporters.now (raw_view raw.now)) }
-{
-    let link_owners = link_owners(alloc, &raw.links, reporters)?;
-    let (groups, script) = groups_beside_script(rt, alloc, raw, links, tasks, reporters);
-    let GroupNumbers { specs, owners } = groups?;
-    let script = script?;
     let closings = closings_numbers(alloc, &raw.closings, links)?;
     Ok(DocumentNumbers {
         link_owners,

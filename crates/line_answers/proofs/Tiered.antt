@@ -5,8 +5,8 @@ use Rattle.bwe_specs.specs.declared.report.Report.{Report}
 use Rattle.bwe_specs.specs.Allocation.{Plan}
 use Rattle.bwe_specs.specs.Paths.{PathGroups}
 use Rattle.policy_tree.specs.Trees.{demand_in}
-use Rattle.allocator.specs.Allocators.{plan_by}
-use Rattle.allocator.specs.Reported.{Reported, IsAfter}
+use Rattle.plain_table.specs.Tables.{plan_by}
+use Rattle.plain_table.specs.Reported.{Reported, IsAfter}
 use Rattle.tiers.specs.Tables.{plan_of}
 use Rattle.tiers.specs.Tiered.{tiered_under}
 use Rattle.line_answers.specs.TiersReply.{tiered_after}

@@ -10,9 +10,9 @@ use Rattle.bwe_specs.specs.Reports.{demand_after}
 use Rattle.bwe_specs.specs.Values.{AreValues}
 use Rattle.bwe_specs.proofs.Bounds.{sum_below-mono}
 use Rattle.bwe_specs.proofs.ShareFunctions.{share-mono}
-use Rattle.allocator.proofs.Filled.{sum-numbers}
-use Rattle.allocator.specs.Allocators.{plan_by}
-use Rattle.allocator.specs.Reported.{IsAfter, Reported}
+use Rattle.plain_table.proofs.Filled.{sum-numbers}
+use Rattle.plain_table.specs.Tables.{plan_by}
+use Rattle.plain_table.specs.Reported.{IsAfter, Reported}
 use Rattle.policy_tree.specs.Trees.{Tree, demand_in, value_in}
 use Rattle.parallel_values.specs.Levels.{levels_in}
 use Rattle.doc_names.specs.NameTexts.{NameTexts}

@@ -7,9 +7,9 @@ use Rattle.doc_maker.specs.Made.{Size, made_document}
 use Rattle.one_run.specs.Endings.{Reply}
 use Rattle.plan_doc.specs.Document.{Accepted}
 use Rattle.plan_doc.specs.Refusals.{Refusal}
-use Rattle.table_text.specs.BulkText.{bulk_text_of}
+use Rattle.reply_text.specs.BulkText.{bulk_text_of}
 use Rattle.plan_doc.specs.Plans.{plan_of}
-use Rattle.opened_document.specs.Refused.{refused_reply}
+use Rattle.plain_solve.specs.Refused.{refused_reply}
 
 -- the summary of the table of the allocation of a script
 abbrev pub summary_reply : ℕ → ℕ → Plan → List Report → Reply

@@ -10,8 +10,8 @@ use Rattle.bwe_specs.specs.RightClosings.{verdict}
 use Rattle.bwe_specs.specs.Tree.{Cluster}
 use Rattle.one_run.specs.Endings.{Reply}
 use Rattle.doc_names.specs.NameTexts.{NameTexts}
-use Rattle.table_text.specs.CheckText.{verdict_line}
-use Rattle.table_text.specs.LevelsText.{levels_text_of}
+use Rattle.reply_text.specs.CheckText.{verdict_line}
+use Rattle.reply_text.specs.LevelsText.{levels_text_of}
 use Rattle.parallel_values.specs.Levels.{levels}
 use Rattle.plan_doc.specs.Document.{Accepted}
 use Rattle.plan_doc.specs.Plans.{plan_of}

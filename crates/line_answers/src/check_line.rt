@@ -7,20 +7,23 @@ ghost use Rattle.bwe_specs.specs.RightClosings.{verdict as verdict_of};
 ghost use Rattle.doc_names.specs.NameTexts.{texts_of};
 ghost use Rattle.plan_doc.specs.Conditions.{IsUsable};
 ghost use Rattle.plan_doc.specs.Plans.{plan_in};
-ghost use Rattle.opened_document.specs.Refused.{document_reply};
+ghost use Rattle.plain_solve.specs.Refused.{document_reply};
 ghost use Rattle.line_answers.specs.Replies.{check_accepted, check_reply, verdict_status};
 
-use allocator::{Allocator, TreeValues};
+use allocator::Allocator;
 use bottleneck_cert::Verdict;
 use bwe_specs::{Closing, OutOfMemory};
 use demand_book::Maker;
+use document_reader::{read_document, read_document_on_threads};
 use one_run::Answer;
-use opened_document::{OpenedDocument, open_after_script, refused};
-use plan_doc::{Document, read_document, read_document_on_threads};
+use opened_document::{OpenedDocument, open_after_script};
+use plain_solve::refused;
+use plain_table::TreeValues;
+use plan_doc::Document;
+use reply_text::check_text;
 use std::alloc::Global;
 use std::mem::forget;
 use std::thread::Threads;
-use table_text::check_text;
 
 /// The answer to its input.
 pub fn check(alloc: Global, input: &[u8]) -> Result<Answer, OutOfMemory>

@@ -6,20 +6,22 @@ ghost use Rattle.parallel_values.specs.Levels.{levels_in};
 ghost use Rattle.plan_doc.specs.Conditions.{IsUsable};
 ghost use Rattle.policy_tree.specs.Trees.{demand_in};
 ghost use Rattle.doc_names.specs.NameTexts.{texts_of};
-ghost use Rattle.opened_document.specs.Refused.{document_reply};
+ghost use Rattle.plain_solve.specs.Refused.{document_reply};
 ghost use Rattle.line_answers.specs.Replies.{levels_accepted, levels_reply, values_reply};
 
 use bwe_specs::OutOfMemory;
 use doc_names::Names;
+use document_reader::{read_document, read_document_on_threads};
 use one_run::Answer;
-use opened_document::{OpenedDocument, open_after_script, refused};
+use opened_document::{OpenedDocument, open_after_script};
 use parallel_values::{values_at, values_in_turn};
-use plan_doc::{Document, read_document, read_document_on_threads};
+use plain_solve::refused;
+use plan_doc::Document;
 use policy_tree::PolicyTree;
+use reply_text::levels_text;
 use std::alloc::Global;
 use std::mem::forget;
 use std::thread::Threads;
-use table_text::levels_text;
 
 /// The answer to its input, of values that are asked of one group after the other.
 pub fn levels(alloc: Global, share: u64, input: &[u8]) -> Result<Answer, OutOfMemory>

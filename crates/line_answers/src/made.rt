@@ -12,12 +12,14 @@ use allocator::Allocator;
 use bwe_specs::OutOfMemory;
 use demand_book::Maker;
 use doc_maker::make_document;
+use document_reader::{read_document, read_document_on_threads};
 use one_run::Answer;
-use opened_document::{OpenedDocument, open_after_script, refused};
-use plan_doc::{Document, read_document, read_document_on_threads};
+use opened_document::{OpenedDocument, open_after_script};
+use plain_solve::refused;
+use plan_doc::Document;
+use reply_text::bulk_text;
 use std::alloc::Global;
 use std::thread::Threads;
-use table_text::bulk_text;
 
 /// The made document.
 pub fn make(alloc: Global, seed: u64, groups: u32, tasks: u32) -> Result<Answer, OutOfMemory>

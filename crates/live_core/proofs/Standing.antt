@@ -8,7 +8,7 @@ use Rattle.last_reports.specs.Snapshot.{Told, told_after, snapshot}
 use Rattle.last_reports.proofs.Snapshots.{snapshot-same}
 use Rattle.allocator.specs.Allocators.{Allocating, plan_in}
 use Rattle.allocator.specs.Frames.{task_count}
-use Rattle.allocator.specs.Reported.{IsAfter}
+use Rattle.plain_table.specs.Reported.{IsAfter}
 use Rattle.live_core.specs.Live.{Live, IsLive, plan_of, tasks_of, links_of}
 
 abbrev pub parts : Allocating → Told → Table → Live

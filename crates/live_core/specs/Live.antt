@@ -6,7 +6,7 @@ use Rattle.demand_book.specs.Fit.{IsFit}
 use Rattle.last_reports.specs.Snapshot.{Told, told_after}
 use Rattle.allocator.specs.Allocators.{Allocating, plan_in}
 use Rattle.allocator.specs.Frames.{task_count}
-use Rattle.allocator.specs.Reported.{IsAfter}
+use Rattle.plain_table.specs.Reported.{IsAfter}
 
 -- the demands and capacities after all reports, the last report of each task and link, and the
 -- table that was written last

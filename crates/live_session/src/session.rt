@@ -10,10 +10,11 @@ ghost use Rattle.live_session.specs.Following.{HasFollowed, IsSession};
 
 use crate::answer::answer_meaning;
 use bwe_specs::OutOfMemory;
+use document_reader::read_document;
 use live_core::LiveCore;
 use live_lines::Known;
 use opened_document::{OpenedDocument, open};
-use plan_doc::{Document, read_document, refusal_line};
+use plan_doc::{Document, refusal_line};
 use std::alloc::Global;
 use std::marker::Model;
 use table_text::table_text;

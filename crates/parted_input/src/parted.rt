@@ -5,9 +5,10 @@ ghost use Rattle.plan_doc.specs.RefusalLines.{error_line};
 ghost use Rattle.parted_input.specs.Parted.{AreRead, accepted_parts, no_parts_reply};
 
 use bwe_specs::OutOfMemory;
+use document_reader::{read_document, read_document_on_threads};
 use one_run::Answer;
-use opened_document::refused;
-use plan_doc::{Document, read_document, read_document_on_threads};
+use plain_solve::refused;
+use plan_doc::Document;
 use std::alloc::Global;
 use std::thread::Threads;
 use two_part::{NO_PARTS, find_parts};

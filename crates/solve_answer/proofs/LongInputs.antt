@@ -13,9 +13,9 @@ use Rattle.plan_doc.specs.Accepted.{IsAccepted}
 use Rattle.plan_doc.specs.Document.{document}
 use Rattle.plan_doc.specs.Plans.{plan_in, plan_of}
 use Rattle.plan_doc.proofs.PlanFacts.{plan-is}
-use Rattle.opened_document.specs.Refused.{document_reply, read_reply}
-use Rattle.solve_answer.specs.SolveCall.{IsForInput}
-use Rattle.solve_answer.specs.SolveReply.{solve_accepted, table_reply}
+use Rattle.plain_solve.specs.Refused.{document_reply, read_reply}
+use Rattle.plain_solve.specs.SolveCall.{IsForInput}
+use Rattle.plain_solve.specs.SolveReply.{solve_accepted, table_reply}
 use Rattle.solve_answer.proofs.Versions.{of-version-4}
 
 -- a long input is too long unless it is of version 4

@@ -6,16 +6,17 @@ ghost use Rattle.plan_doc.specs.Accepted.{NamesRefusal};
 ghost use Rattle.plan_doc.specs.Conditions.{IsUsable};
 ghost use Rattle.plan_doc.specs.Document.{document};
 ghost use Rattle.plan_doc.specs.Plans.{plan_in};
-ghost use Rattle.solve_answer.specs.SolveCall.{IsForInput};
-ghost use Rattle.solve_answer.specs.SolveReply.{table_reply};
+ghost use Rattle.plain_solve.specs.SolveCall.{IsForInput};
+ghost use Rattle.plain_solve.specs.SolveReply.{table_reply};
 
 use crate::solve_line::{solve_document_on_threads, solve_on_threads};
 use bwe_specs::{MAX_INPUT, OutOfMemory};
+use document_reader::read_document_on_threads;
 use input_lengths::document_is_too_long;
 use memchr::memmem;
 use one_run::Answer;
-use opened_document::refused;
-use plan_doc::{DocError, Document, read_document_on_threads};
+use plain_solve::refused;
+use plan_doc::{DocError, Document};
 use std::alloc::Global;
 use std::thread::Threads;
 

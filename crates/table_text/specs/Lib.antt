@@ -1,4 +1,1 @@
 pub mod TableText
-pub mod CheckText
-pub mod BulkText
-pub mod LevelsText

@@ -11,7 +11,7 @@ use Rattle.bwe_specs.specs.Allocation.{GroupLine, limits_of}
 use Rattle.policy_tree.specs.Trees.{Tree, IsTree, demand_in, value_in}
 use Rattle.path_groups.specs.Plan.{IsPlan}
 use Rattle.wan_topology.specs.Network.{Network, IsNetwork}
-use Rattle.allocator.specs.FrameLaws.{length-limits_of}
+use Rattle.plain_table.proofs.Lengths.{length-limits_of}
 use Rattle.table_laws.specs.Tasks.{AreAskedFor}
 use Rattle.table_laws.specs.Order.{reordered}
 use Rattle.table_laws.proofs.Walks.{numbered}

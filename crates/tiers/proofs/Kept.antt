@@ -10,7 +10,7 @@ use Rattle.bwe_specs.specs.Reports.{numbers}
 use Rattle.bwe_specs.specs.Values.{NeverFalls}
 use Rattle.mpfa_fill.specs.declared.steps.Filling.{Filling}
 use Rattle.mpfa_fill.specs.Filling.{IsFilling}
-use Rattle.allocator.proofs.Filled.{map-numbers}
+use Rattle.plain_table.proofs.Filled.{map-numbers}
 use Rattle.tiers.specs.Tiered.{free_under, amounts_below, wan_of_tier, filling_of_tier, tier_closings}
 use Rattle.tiers.specs.Fillings.{Fillings, AreFilled, rows_by, stops_by, with_filling}
 use Rattle.tiers.proofs.Tiers.{tier-fits, load-none, load-more, below-fits, free-at, length-free}

@@ -10,7 +10,7 @@ use Rattle.bwe_specs.specs.Values.{NeverFalls}
 use Rattle.bwe_specs.proofs.Bounds.{sum_below-mono, sum_below-same, sum_below-add, sum_below-term}
 use Rattle.bwe_specs.proofs.Loads.{load_on-zero, link_load-zero, fits-each}
 use Rattle.bwe_specs.proofs.Steps.{filling-sound}
-use Rattle.allocator.proofs.Filled.{amount-at_most}
+use Rattle.plain_table.proofs.Filled.{amount-at_most}
 use Rattle.tiers.specs.Tiered.{is_in_tier, value_in_tier, free_under, wan_over, amounts_below, wan_of_tier, filling_of_tier, tier_count, tiered_amounts}
 
 -- a fold that takes the greatest is not below where it began ..

@@ -11,8 +11,8 @@ use Rattle.mpfa_fill.specs.declared.steps.Filling.{Filling}
 use Rattle.mpfa_fill.specs.GroupValues.{Values, wan_of}
 use Rattle.policy_tree.specs.Trees.{Tree, value_in}
 use Rattle.wan_topology.specs.Network.{Network, IsNetwork}
-use Rattle.allocator.specs.Lines.{line_of_group}
-use Rattle.allocator.specs.Values.{values_of}
+use Rattle.plain_table.specs.Lines.{line_of_group}
+use Rattle.plain_table.specs.Values.{values_of}
 use Rattle.tiers.specs.Tiered.{free_under, value_in_tier, amounts_below, wan_of_tier}
 use Rattle.tiers.specs.Tiered.{filling_of_tier, tier_closings}
 

@@ -12,10 +12,10 @@ ghost use Rattle.tiers.specs.Fillings.{HasLine, line_in_tier, wan_by};
 
 use crate::fillings::{Fillings, fill_each};
 use crate::table::TierTable;
-use allocator::limits_of;
 use bwe_specs::OutOfMemory;
 use limit_table::GroupLine;
 use path_groups::PathPlan;
+use plain_table::limits_of;
 use policy_tree::PolicyTree;
 use std::alloc::Global;
 use wan_topology::Topology;

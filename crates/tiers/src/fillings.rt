@@ -13,11 +13,12 @@ ghost use Rattle.tiers.specs.Fillings.{AreFilled, HasLine, IsFilledSome, IsFille
 ghost use Rattle.tiers.specs.Fillings.{values_of_tier, wan_by, with_filling};
 
 use crate::values::TierValues;
-use allocator::{FirstClosings, fill_kept, group_line};
+use allocator::fill_kept;
 use bwe_specs::{Closing, OutOfMemory};
 use limit_table::GroupLine;
 use mpfa_fill::Filling;
 use path_groups::PathPlan;
+use plain_table::{FirstClosings, group_line};
 use policy_tree::PolicyTree;
 use std::alloc::Global;
 use std::marker::{Brand, Model};

@@ -24,8 +24,8 @@ use Rattle.line_answers.specs.EnforceReply.{enforce_accepted, enforced_by}
 use Rattle.line_answers.specs.EstimateReply.{estimate_accepted, table_behind}
 use Rattle.parted_input.specs.Parted.{IsReplyBehind, behind_reply, no_parts_reply, parts_at, with_part}
 use Rattle.line_answers.specs.Replies.{check_accepted, levels_accepted, verdict_status}
-use Rattle.opened_document.specs.Refused.{read_reply, refused_reply}
-use Rattle.solve_answer.specs.SolveReply.{solve_accepted}
+use Rattle.plain_solve.specs.Refused.{read_reply, refused_reply}
+use Rattle.plain_solve.specs.SolveReply.{solve_accepted}
 use Rattle.top_call.specs.RunLine.{IsRunReply}
 use Rattle.top_call.specs.Statuses.{AcceptedIsAnswered, AnAnswerIsWhole, IsAnswered, IsOfAnswer, IsSilent, IsTakenIn, IsWithoutFault, NothingIsWritten}
 use Rattle.line_answers.specs.TiersReply.{tiers_accepted, unless_refused}

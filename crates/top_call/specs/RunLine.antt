@@ -9,7 +9,7 @@ use Rattle.plan_doc.specs.Refusals.{Refusal}
 use Rattle.run_text.specs.RunText.{run_text_of}
 use Rattle.top_call.specs.Runs.{IsRunOf}
 use Rattle.plan_doc.specs.Plans.{plan_of}
-use Rattle.opened_document.specs.Refused.{refused_reply}
+use Rattle.plain_solve.specs.Refused.{refused_reply}
 
 -- `run`: the text of a closed run of the script, whose table is that of `solve`; or the row of the
 -- refusal

@@ -2,7 +2,8 @@
 ghost use Rattle.std.specs.Prelude.{◌≡◌, refl};
 
 use bwe_specs::OutOfMemory;
-use demand_book::{Maker, Report, SmallMaker, SmallTable};
+use demand_book::{Maker, Report};
+use report_book::{SmallMaker, SmallTable};
 use std::alloc::Global;
 
 #[derive(Drop)]

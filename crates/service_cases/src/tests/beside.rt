@@ -2,14 +2,15 @@
 ghost use Rattle.std.specs.Prelude.{◌≡◌, [], length, IfSome};
 ghost use Rattle.board.specs.Plan.{NamesTables};
 ghost use Rattle.board.specs.Reporting.{AreFresh};
-ghost use Rattle.demand_book.specs.Small.{HasSummed, small_table};
+ghost use Rattle.report_book.specs.Small.{HasSummed, small_table};
 
 use crate::tests::demand_by;
 use crate::tests::maker::{Meeting, TestMaker};
 use crate::tests::memory::settled_prefix;
 use board::{Bases, Board, Opened, Profile, ReaderPass, ReporterPass};
 use bwe_specs::OutOfMemory;
-use demand_book::{Maker, SmallMaker, SmallTable};
+use demand_book::Maker;
+use report_book::{SmallMaker, SmallTable};
 use std::alloc::Global;
 use std::marker::Brand;
 use std::sync::Wait;

@@ -5,7 +5,8 @@ ghost use Rattle.bwe_specs.specs.declared.report.Report.{Report};
 ghost use Rattle.demand_book.specs.Fit.{IsFit};
 
 use bwe_specs::{MAX_AMOUNT, MAX_REPORTS, OutOfMemory};
-use demand_book::{BookError, DemandBook, Maker, Posted, Report, SmallMaker, Target};
+use demand_book::{Maker, Posted, Report, Target};
+use report_book::{BookError, DemandBook, SmallMaker};
 use std::alloc::Global;
 use std::test::Fail;
 

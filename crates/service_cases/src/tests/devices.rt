@@ -2,7 +2,8 @@
 
 use crate::tests::documents::{EMPTY, EMPTY_IN_TWO_PARTS};
 use crate::tests::words_of;
-use bwe_io::{MemorySink, MemorySource, Sink, Source, SureSink, SureSource, read_all};
+use bwe_io::{Sink, Source, read_all};
+use memory_io::{MemorySink, MemorySource, SureSink, SureSource};
 use one_run::USAGE;
 use std::alloc::{AllocError, Global};
 use std::test::Fail;

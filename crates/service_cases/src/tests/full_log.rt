@@ -7,7 +7,7 @@ use crate::tests::maker::TestMaker;
 use crate::tests::played::{Case, End, played};
 use board::{Bases, Board, Profile, ReportError, ReporterPass};
 use bwe_specs::Report;
-use demand_book::SmallTable;
+use report_book::SmallTable;
 use std::alloc::{AllocError, Global};
 use std::process::Abort;
 use std::sync::Wait;

@@ -1,10 +1,11 @@
 //! A small maker whose calls a test can refuse or hold up.
 ghost use Rattle.std.specs.Prelude.{◌≡◌, [], List, refl};
 ghost use Rattle.bwe_specs.specs.declared.report.Report.{Report};
-ghost use Rattle.demand_book.specs.Small.{HasSummed, small_table};
+ghost use Rattle.report_book.specs.Small.{HasSummed, small_table};
 
 use bwe_specs::{OutOfMemory, Report};
-use demand_book::{Maker, SmallMaker, SmallTable};
+use demand_book::Maker;
+use report_book::{SmallMaker, SmallTable};
 use std::alloc::Global;
 use std::sync::atomic::{AtomicU64, Ordering};
 use std::thread::yield_now;

@@ -5,7 +5,7 @@ use crate::tests::demand_by;
 use crate::tests::maker::TestMaker;
 use crate::tests::played::{Case, End, played};
 use board::{Bases, Board, Profile, ReaderPass, ReporterPass};
-use demand_book::SmallTable;
+use report_book::SmallTable;
 use std::alloc::Global;
 use std::process::Abort;
 use std::sync::Wait;

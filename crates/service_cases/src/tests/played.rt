@@ -2,7 +2,7 @@
 ghost use Rattle.std.specs.Prelude.{◌≡◌, [], length};
 ghost use Rattle.board.specs.Plan.{NamesTables};
 ghost use Rattle.board.specs.Reporting.{AreFresh, AreInOrder};
-ghost use Rattle.demand_book.specs.Small.{HasSummed, small_table};
+ghost use Rattle.report_book.specs.Small.{HasSummed, small_table};
 
 use crate::tests::full_log::fill_log;
 use crate::tests::maker::TestMaker;
@@ -11,7 +11,8 @@ use crate::tests::rounds::round_often;
 use crate::tests::told::tell;
 use board::{AllocatorPass, Bases, Board, Ended, Opened, Profile, ReaderPass, ReporterPass};
 use bwe_specs::OutOfMemory;
-use demand_book::{Maker, SmallMaker, SmallTable};
+use demand_book::Maker;
+use report_book::{SmallMaker, SmallTable};
 use std::alloc::Global;
 use std::marker::Brand;
 use std::process::Abort;

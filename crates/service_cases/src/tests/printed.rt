@@ -8,9 +8,9 @@ use bwe_specs::{Cause, OutOfMemory, Report, Target, Verdict};
 use crew_log::{CrewLog, ReadLine, ReaderLog};
 use doc_names::{NameList, Names};
 use limit_table::LimitTable;
+use reply_text::check_text;
 use run_text::run_text;
 use std::alloc::Global;
-use table_text::check_text;
 
 fn named(alloc: Global, name: &str) -> Result<NameList, OutOfMemory> {
     let mut names = NameList::new(alloc);

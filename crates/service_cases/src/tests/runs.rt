@@ -5,7 +5,7 @@ use crate::tests::held_gate::{ToldGate, TurnsGate};
 use crew::run_crew;
 use crew_actors::OpenGate;
 use crew_log::{CrewLog, ReadLine};
-use demand_book::{SmallMaker, SmallTable};
+use report_book::{SmallMaker, SmallTable};
 use std::test::*;
 
 // How often each run is made.

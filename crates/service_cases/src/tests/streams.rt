@@ -1,8 +1,7 @@
 //! Reading and writing by devices in memory that fail.
 
-use bwe_io::{
-    MemorySink, MemorySource, ReadError, Sink, SureSink, SureSource, read_all, write_all,
-};
+use bwe_io::{ReadError, Sink, read_all, write_all};
+use memory_io::{MemorySink, MemorySource, SureSink, SureSource};
 use std::test::Fail;
 
 // The case "Short reads and failing devices": reading with the limit 4.

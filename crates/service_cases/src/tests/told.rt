@@ -6,7 +6,7 @@ use crate::tests::maker::TestMaker;
 use crate::tests::played::{Case, End, played};
 use board::{AllocatorPass, Bases, Board, Profile, ReaderPass, ReporterPass, View};
 use bwe_specs::Report;
-use demand_book::SmallTable;
+use report_book::SmallTable;
 use std::alloc::Global;
 use std::process::Abort;
 use std::sync::Wait;

@@ -1,9 +1,8 @@
 use Rattle.std.proofs.Common.{arith, length, subst}
 use Rattle.bwe_specs.specs.Values.{AreValues}
 use Rattle.policy_tree.specs.Trees.{Tree, IsTree, value_in}
-use Rattle.allocator.specs.Allocators.{table_by}
+use Rattle.plain_table.specs.Tables.{table_by, wan_by}
 use Rattle.allocator.specs.Laws.{IsNoMoreThanAsked, IsConserved, IsShared, IsFeasible, IsHeldBack, IsTold, IsUnwasted, IsFair, IsTheSameInAnyOrder}
-use Rattle.allocator.specs.Tables.{wan_by}
 use Rattle.allocator.proofs.Lawful.{table-asked, table-conserved, table-feasible, table-held_back, table-shared, table-unwasted, table-fair, ok-where}
 use Rattle.allocator.proofs.Told.{table-told, table-in_any_order}
 use Rattle.allocator.proofs.table.make_table.Goals as goal

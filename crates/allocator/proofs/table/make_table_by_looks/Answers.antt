@@ -1,6 +1,6 @@
 use Rattle.std.proofs.Common.{◌+◌, ◌≤◌, List, length, ap, arith}
 use Rattle.bwe_specs.specs.declared.network.Closing.{Closing}
-use Rattle.allocator.specs.Allocators.{table_by}
+use Rattle.plain_table.specs.Tables.{table_by}
 use Rattle.allocator.proofs.Lawful.{ok-where}
 use Rattle.allocator.proofs.table.make_table_by_looks.Goals as goal
 

@@ -1,8 +1,8 @@
 use Rattle.std.proofs.Common.{◌≡◌, ◌∙◌, map, length, ap, sym, subst}
 use Rattle.std.proofs.lemmas.List.{length-map}
-use Rattle.allocator.specs.Allocators.{table_by}
-use Rattle.allocator.specs.Reported.{Reported}
-use Rattle.allocator.proofs.Made.{made-rows, made-count, made-within}
+use Rattle.plain_table.specs.Reported.{Reported}
+use Rattle.plain_table.specs.Tables.{table_by}
+use Rattle.plain_table.proofs.Made.{made-rows, made-count, made-within}
 use Rattle.allocator.proofs.table.remade_table.Goals as goal
 
 pub group_lines-requires : goal.group_lines-requires

@@ -1,6 +1,6 @@
 use Rattle.std.proofs.Common.{◌∙◌, map, length, ap}
 use Rattle.std.proofs.lemmas.List.{length-map}
-use Rattle.allocator.proofs.Made.{made-rows, made-count, made-within}
+use Rattle.plain_table.proofs.Made.{made-rows, made-count, made-within}
 use Rattle.allocator.proofs.table.table_of_filling_on_threads.Goals as goal
 
 pub group_lines-requires : goal.group_lines-requires

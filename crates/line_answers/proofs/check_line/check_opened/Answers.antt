@@ -1,7 +1,7 @@
 use Rattle.std.proofs.Common.{ℕ, List, ap, ap₂, ◌∙◌}
 use Rattle.one_run.specs.Endings.{Reply}
 use Rattle.doc_names.specs.NameTexts.{texts_of}
-use Rattle.table_text.specs.CheckText.{verdict_line}
+use Rattle.reply_text.specs.CheckText.{verdict_line}
 use Rattle.line_answers.specs.Replies.{verdict_status}
 use Rattle.line_answers.proofs.check_line.check_opened.Goals as goal
 

@@ -1,7 +1,7 @@
 use Rattle.std.proofs.Common.{ap, ◌∙◌}
 use Rattle.std.proofs.lemmas.Result.{IfOk-weaker}
 use Rattle.bwe_specs.specs.RightClosings.{verdict}
-use Rattle.allocator.proofs.Fitted.{wan-after}
+use Rattle.plain_table.proofs.Fitted.{wan-after}
 use Rattle.line_answers.proofs.check_line.verdict_after.Goals as goal
 
 pub returns : goal.returns

@@ -1,6 +1,6 @@
 use Rattle.std.proofs.Common.{ℕ, List, ap, ◌∙◌}
 use Rattle.one_run.specs.Endings.{Reply}
-use Rattle.table_text.specs.BulkText.{bulk_text_of}
+use Rattle.reply_text.specs.BulkText.{bulk_text_of}
 use Rattle.line_answers.proofs.made.summary_opened_on_threads.Goals as goal
 
 abbrev reply_of : List ℕ → Reply

@@ -1,9 +1,9 @@
 use Rattle.std.proofs.Common.{◌≡◌, ◌∙◌, subst, sym}
 use Rattle.std.proofs.lemmas.Result.{IfOk-weaker}
 use Rattle.bwe_specs.specs.Allocation.{allocation}
+use Rattle.plain_table.specs.Reported.{IsAfter}
+use Rattle.plain_table.proofs.Fitted.{table-after}
 use Rattle.allocator.specs.Allocators.{plan_in}
-use Rattle.allocator.specs.Reported.{IsAfter}
-use Rattle.allocator.proofs.Fitted.{table-after}
 use Rattle.allocator.proofs.allocator.Allocator.table_on_threads.Goals as goal
 
 pub returns-clause-table : goal.returns-clause-table

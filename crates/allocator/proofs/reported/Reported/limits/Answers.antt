@@ -1,6 +1,6 @@
 use Rattle.std.proofs.Common.{ℕ, ◌<◌, ◌≤◌, length, slice_index, subst, sym}
 use Rattle.policy_tree.specs.Trees.{value_in}
-use Rattle.allocator.specs.Reported.{Reported}
+use Rattle.plain_table.specs.Reported.{Reported}
 use Rattle.allocator.proofs.reported.Reported.limits.Goals as goal
 
 pub limits-requires-clause-within : goal.limits-requires-clause-within

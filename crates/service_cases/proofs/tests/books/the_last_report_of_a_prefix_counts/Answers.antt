@@ -1,5 +1,5 @@
 use Rattle.std.proofs.Common.{length, arith, ap}
-use Rattle.demand_book.specs.Book.{Book}
+use Rattle.report_book.specs.Book.{Book}
 use Rattle.service_cases.proofs.tests.books.the_last_report_of_a_prefix_counts.Goals as goal
 
 pub push-requires-2 : goal.push-requires-2

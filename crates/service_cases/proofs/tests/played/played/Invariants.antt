@@ -1,5 +1,5 @@
 use Rattle.std.proofs.Common.{◌≡◌}
-use Rattle.demand_book.specs.Small.{small_table}
+use Rattle.report_book.specs.Small.{small_table}
 use Rattle.service_cases.proofs.tests.played.played.Given as goal
 
 -- the tables of two tasks, for one reporter and one link

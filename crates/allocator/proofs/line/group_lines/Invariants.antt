@@ -1,7 +1,0 @@
-use Rattle.std.proofs.Common.{◌≡◌, map}
-use Rattle.bwe_specs.specs.Reports.{numbers}
-use Rattle.allocator.specs.Lines.{line_in}
-use Rattle.allocator.proofs.line.group_lines.Given as goal
-
-abbrev pub invariant-loop-group : goal.invariant-loop-group
-invariant-loop-group l = l.lines.items ≡ map (line_in l.plan l.filling) (numbers l.group)

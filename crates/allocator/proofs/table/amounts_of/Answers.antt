@@ -1,7 +1,0 @@
-use Rattle.std.proofs.Common.{map, ap, ◌∙◌, arith}
-use Rattle.std.proofs.lemmas.List.{take_all}
-use Rattle.allocator.proofs.table.amounts_of.Goals as goal
-
-pub returns : goal.returns
-returns c =
-    c.loop-line.invariant ∙ ap (map (λ line. line.amount)) (take_all c.loop-line.line-index c.args.groups.now (omega arith))

@@ -1,0 +1,3 @@
+pub mod Refused
+pub mod SolveReply
+pub mod SolveCall

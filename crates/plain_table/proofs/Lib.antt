@@ -1,0 +1,9 @@
+pub mod First
+pub mod FirstOfLinks
+pub mod After
+pub mod Rows
+pub mod Filled
+pub mod Fitted
+pub mod Lengths
+pub mod Made
+pub mod Scripts

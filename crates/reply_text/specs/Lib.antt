@@ -1,0 +1,3 @@
+pub mod CheckText
+pub mod BulkText
+pub mod LevelsText

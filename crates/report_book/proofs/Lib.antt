@@ -1,0 +1,3 @@
+mod Amounts
+mod Keeping
+mod Rows

@@ -1,2 +1,0 @@
-pub mod SolveReply
-pub mod SolveCall

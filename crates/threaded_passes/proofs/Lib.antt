@@ -1,0 +1,2 @@
+mod GroupHalves
+mod ScriptHalves

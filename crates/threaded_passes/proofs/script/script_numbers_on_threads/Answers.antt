@@ -1,0 +1,11 @@
+use Rattle.std.proofs.Common.{map}
+use Rattle.raw_document.specs.declared.key.DocKey.TheVariants as keys
+use Rattle.raw_document.specs.declared.doc_path.PathStep.TheVariants.{Key}
+use Rattle.raw_document.specs.Reading.{each}
+use Rattle.raw_document.specs.Raw.{report_view}
+use Rattle.doc_passes.specs.Numbers.{report_numbers}
+use Rattle.raw_document.proofs.Lists.{under_gives}
+use Rattle.threaded_passes.proofs.script.script_numbers_on_threads.Goals as goal
+
+pub returns : goal.returns
+returns g c = under_gives (λ found. found.items) (Key keys.Script) (each (report_numbers c.args.links.now c.args.tasks.now c.args.reporters.now) 0 (map report_view c.args.script.now)) c.each_report_on_threads.result c.under.result c.each_report_on_threads.ensures c.under.ensures
