@@ -12,6 +12,8 @@ Markdown, to standard output. The exit status is the command's.
     minutes.py --process 4711    a command that runs already, by its number, till it ends
     minutes.py --made            what the last proof of each crate by `make` took, by the crates'
                                  prove.log: after one `make` from nothing, all of it
+    minutes.py --seconds         the same in seconds of a processor, as tools/build/seconds has them
+                                 for the order in which `make` proves
 """
 
 import datetime
@@ -88,23 +90,34 @@ def row(name, numbers):
     )
 
 
-def made(crates):
-    """A row for each crate that make has proved, the dearest first, and one for all."""
-    rows = []
+def proofs(crates):
+    """Each crate that make has proved, with its functions, and its seconds by the clock and of
+    processors, by name."""
+    found = []
     for log in sorted(Path(crates).glob("*/out/prove.log")):
         text = log.read_text(errors="replace")
         took = re.search(r"^bwe: ([0-9]+) s, ([0-9]+) s of processors$", text, re.MULTILINE)
         proved = re.search(r"^logic=proved functions=([0-9]+)", text, re.MULTILINE)
         if took and proved:
             seconds = [int(number) for number in took.groups()]
-            rows.append((log.parent.parent.name, int(proved[1]), *seconds))
-    rows.sort(key=lambda row: -row[3])
+            found.append((log.parent.parent.name, int(proved[1]), *seconds))
+    return found
+
+
+def made(crates):
+    """A row for each crate that make has proved, the dearest first, and one for all."""
+    rows = sorted(proofs(crates), key=lambda row: -row[3])
     rows.append(("all", *(sum(row[at] for row in rows) for at in (1, 2, 3))))
     lines = ["| crate | functions | minutes | of processors |", "|---|---:|---:|---:|"]
     for name, functions, clock, spent in rows:
         shown = name if name == "all" else f"`{name}`"
         lines.append(f"| {shown} | {functions} | {clock / 60:.1f} | {spent / 60:.1f} |")
     return lines
+
+
+def seconds(crates):
+    """A line for each crate that make has proved: its name and its seconds of processors."""
+    return [f"{name} {spent}" for name, _, _, spent in proofs(crates)]
 
 
 def processor():
@@ -127,8 +140,9 @@ def watched(number, ends):
 
 
 def main(words):
-    if words[:1] == ["--made"]:
-        print("\n".join(made(words[1] if len(words) > 1 else TOP / "crates")))
+    if words[:1] in (["--made"], ["--seconds"]):
+        lines = made if words[0] == "--made" else seconds
+        print("\n".join(lines(words[1] if len(words) > 1 else TOP / "crates")))
         return 0
     if not words or words[0].startswith("-") and words[0] != "--process":
         print(__doc__)

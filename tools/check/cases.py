@@ -26,7 +26,8 @@ for `bwe_solve` the examples of that command, and for `bwe_live`:
 
 A case with a file `long`, which says in a sentence why, is left out unless it is named; `--long`
 runs these alone, one after the other. One with a file `bounded` is run in an address space of three
-times the bytes of its input and 64 MB, which is what a refusal may take.
+times the bytes of its input and 64 MB, which is what a refusal may take; but `bwe_solve`, which
+makes a tree of the text, in all there is.
 
 A line for each kind says how many passed, and the last line how many in all; the status is 0
 where all did.
@@ -100,7 +101,8 @@ def fault_of_folder(program, folder):
 
 def fault_of_case(program, folder):
     words = (folder / "args").read_bytes().splitlines()
-    with input_of(folder) as (source, bound):
+    bounded = (folder / "bounded").exists() and kind_of(program) != "solve"
+    with input_of(folder, bounded) as (source, bound):
         ran = subprocess.run(
             [*bound, program, *words_for(program, words)],
             stdin=source,
@@ -116,12 +118,12 @@ def fault_of_case(program, folder):
 
 
 @contextmanager
-def input_of(folder):
+def input_of(folder, bounded):
     """The input of a case, and the words in front of the program that bound its address space. They
     need the length of the input, so that of a bounded case goes into a file first.
     """
     with opened(folder, "stdin") as source:
-        if not (folder / "bounded").exists():
+        if not bounded:
             yield source, []
             return
         with tempfile.TemporaryFile() as whole:

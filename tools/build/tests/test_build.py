@@ -134,6 +134,15 @@ def test_the_longest_chain_of_crates_is_begun_first(project):
     assert found == ["words", "aside", *[*CRATES][1:3], "bwe"]
 
 
+def test_what_a_crate_took_counts_for_more_than_its_lines(project):
+    (project / "crates/aside/src/lib.rt").write_text("right\n" * 300)
+    (project / "tools/build/seconds").write_text("numbers 300\nanother 900\n")
+    found = run(project, "tools/build/chains", "--seconds").stdout.splitlines()
+    assert [line.split()[2] for line in found] == ["words", "numbers", "aside", "tables", "bwe"]
+    assert found[1].split()[1] == "300"
+    assert "0 proved, 4 left, some " in run(project, "tools/build/left").stdout
+
+
 def test_one_processor_takes_the_longest_chain_first(project):
     lines = (project / "crates.txt").read_text().replace("bwe: tables", "bwe: tables aside")
     (project / "crates.txt").write_text(lines)
@@ -351,6 +360,16 @@ def test_solve_is_served_by_its_own_program_until_all_is_built(project, words):
     run(first_table, "make")
     told = launch(first_table, "./bwe", *words, given="a document")
     assert (told.stdout, told.stderr) == ("words: solve\na document", "")
+
+
+@pytest.mark.parametrize(
+    "size, built", [(2_097_152, ["bwe_solve"]), (2_097_153, ["numbers", "tables", "bwe"])]
+)
+def test_a_long_document_waits_for_the_program_of_all_commands(project, size, built):
+    first_table = with_program(project, "bwe_solve")
+    (first_table / "a document").write_text(" " * size)
+    assert launch(first_table, "./bwe", "solve", "a document").returncode == 3
+    assert proved(first_table) == ["words", *built]
 
 
 @pytest.mark.parametrize("words", [["slove"], ["solve", "absent"], ["levels"]])

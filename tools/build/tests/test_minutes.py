@@ -18,3 +18,4 @@ def test_the_logs_of_make_give_a_row_a_crate_the_dearest_first(tmp_path):
         "| `low` | 2 | 0.5 | 1.0 |",
         "| all | 5 | 2.0 | 3.0 |",
     ]
+    assert minutes.seconds(tmp_path) == ["high 120", "low 60"]
