@@ -372,6 +372,21 @@ def test_a_long_document_waits_for_the_program_of_all_commands(project, size, bu
     assert proved(first_table) == ["words", *built]
 
 
+def test_where_nothing_can_be_built_solve_is_served_by_what_stands(project):
+    without_make = {"PATH": f"{project.parent}/bin:{commands(project.parent, leave_out='make')}"}
+    first_table = with_program(project, "bwe_solve")
+    (first_table / "a document").write_text(" " * 2_097_153)
+    run(first_table, "make", "bwe_solve")
+    told = launch(first_table, "./bwe", "solve", "a document", **without_make)
+    assert (told.returncode, told.stdout) == (3, "words: \n" + " " * 2_097_153)
+    run(first_table, "make")
+    (first_table / "crates/bwe_solve/out/bwe_solve").unlink()
+    (first_table / "crates/words/src/lib.rt").write_text("another\n")
+    told = launch(first_table, "./bwe", "solve", given="a document", **without_make)
+    assert (told.returncode, told.stdout) == (3, "words: solve\na document")
+    assert "which runs as it stands: there is no command make" in told.stderr
+
+
 @pytest.mark.parametrize("words", [["slove"], ["solve", "absent"], ["levels"]])
 def test_nothing_is_proved_for_arguments_that_are_no_command(project, words):
     told = launch(project, "./bwe", *words)
