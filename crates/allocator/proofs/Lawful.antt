@@ -11,7 +11,7 @@ use Rattle.bwe_specs.specs.Allocation.{Table}
 use Rattle.bwe_specs.proofs.HandedOut.{cluster-at, sum-cluster_limits}
 use Rattle.bwe_specs.proofs.Loads.{fits-each}
 use Rattle.bwe_specs.proofs.Steps.{filling-sound}
-use Rattle.bwe_specs.proofs.StopShares.{held_back}
+use Rattle.allocation_laws.proofs.HeldBack.{held_back}
 use Rattle.policy_tree.specs.Trees.{IsTree, cluster_numbers, demand_in, value_in}
 use Rattle.policy_tree.specs.Nodes.{cluster_in}
 use Rattle.table_laws.proofs.Asked.{no-more-than-asked}

@@ -3,7 +3,7 @@ use Rattle.std.specs.Prelude.{◌≡◌, ℕ, ◌<◌, ◌≤◌, List, length, 
 use Rattle.bwe_specs.specs.declared.network.Closing.{Closing}
 use Rattle.bwe_specs.specs.Paths.{PathGroups, path_group_count}
 use Rattle.bwe_specs.specs.Filling.{Wan}
-use Rattle.bwe_specs.specs.Laws.{IsHeldBy}
+use Rattle.allocation_laws.specs.Laws.{IsHeldBy}
 use Rattle.bwe_specs.specs.Allocation.{Table}
 use Rattle.policy_tree.specs.Trees.{Tree, cluster_numbers, demand_in}
 use Rattle.policy_tree.specs.Nodes.{cluster_in}

@@ -12,11 +12,11 @@ use bwe_specs::{OutOfMemory, Report};
 use demand_book::Maker;
 use limit_table::LimitTable;
 use path_groups::PathPlan;
-use plain_table::TreeValues;
 use policy_tree::PolicyTree;
 use std::alloc::Global;
 use std::marker::Model;
 use std::thread::Threads;
+use tree_values::TreeValues;
 use wan_topology::Topology;
 
 /// Makes tables of limits from reports.

@@ -5,6 +5,7 @@ ghost use Rattle.parallel_values.specs.Levels.{levels_in};
 
 use mpfa_fill::GroupValues;
 use policy_tree::PolicyTree;
+use tree_bounds::{group_ceiling, group_floor, is_full};
 
 /// What each group of a tree may have at a share, where that at the greatest share, in kilobits per
 /// second, is known. A filling asks for it at its begin, at its end, and where it looks at a link
@@ -38,14 +39,14 @@ impl GroupValues for ToppedValues<'_> {
     }
 
     fn ceiling(&self, group: u32, share: u64) -> Option<u64> {
-        self.tree.group_ceiling(group, share)
+        group_ceiling(self.tree, group, share)
     }
 
     fn floor(&self, group: u32, share: u64, most: u64) -> Option<u64> {
-        self.tree.group_floor(group, share, most)
+        group_floor(self.tree, group, share, most)
     }
 
     fn is_full(&self, group: u32, share: u64, most: u64) -> bool {
-        self.tree.is_full(group, share, most)
+        is_full(self.tree, group, share, most)
     }
 }

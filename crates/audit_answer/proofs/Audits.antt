@@ -15,7 +15,7 @@ use Rattle.one_run.specs.Endings.{Reply}
 use Rattle.plan_doc.specs.declared.document.Document.{Document}
 use Rattle.plan_doc.specs.Accepted.{IsDocumentOf}
 use Rattle.plan_doc.specs.Conditions.{link_count, reporter_count, tasks_in}
-use Rattle.plan_doc.specs.Document.{Accepted}
+use Rattle.doc_parts.specs.Document.{Accepted}
 use Rattle.policy_tree.specs.Trees.{task_numbers}
 use Rattle.run_audit.proofs.Counts.{total_counted}
 use Rattle.run_audit.specs.History as history

@@ -4,7 +4,7 @@ use Rattle.bwe_specs.specs.declared.report.Report.{Report}
 use Rattle.bwe_specs.specs.Allocation.{Plan}
 use Rattle.audit_law.specs.DocumentRun.{IsDocumentRun, script_verdict}
 use Rattle.one_run.specs.Endings.{Reply}
-use Rattle.plan_doc.specs.Document.{Accepted}
+use Rattle.doc_parts.specs.Document.{Accepted}
 use Rattle.doc_names.specs.NameTexts.{NameTexts}
 use Rattle.plan_doc.specs.Plans.{plan_of}
 use Rattle.run_audit.specs.AuditText.{verdict_line}

@@ -17,8 +17,8 @@ use Rattle.demand_book.specs.Fit.{IsFit}
 use Rattle.document_scripts.proofs.Owned.{are-scripts, few-scripts, history-table, room-scripts}
 use Rattle.document_scripts.proofs.Split.{split-count}
 use Rattle.limit_table.specs.Tables.{total_of as table_total}
-use Rattle.policy_tree.specs.Trees.{task_numbers}
-use Rattle.policy_tree.specs.Walk.{tree_fault}
+use Rattle.tree_spec.specs.Trees.{task_numbers}
+use Rattle.tree_spec.specs.Walk.{tree_fault}
 use Rattle.raw_document.specs.Json.{json}
 use Rattle.raw_document.specs.Forms.{document_at}
 use Rattle.raw_document.specs.Raw.{Raw}
@@ -29,12 +29,12 @@ use Rattle.doc_passes.specs.Numbers.{Numbers, numbers}
 use Rattle.plan_doc.specs.declared.document.Document as code
 use Rattle.plan_doc.specs.Accepted.{IsAccepted}
 use Rattle.plan_doc.specs.Conditions.{IsUsable, link_count, reporter_count, tasks_in}
-use Rattle.plan_doc.specs.Document as documents
-use Rattle.plan_doc.specs.Document.{Accepted, accepted as accepted_by, clusters_of, document, document_by, document_of_raw, document_of_value, links_of, network_fault, policy_fault, over_limit, refused_by, unless, value_of}
-use Rattle.plan_doc.specs.Functions.{refused_in_groups}
-use Rattle.plan_doc.proofs.TooManyFacts.{no_tree_fault}
+use Rattle.doc_parts.specs.Document as documents
+use Rattle.doc_parts.specs.Document.{Accepted, accepted as accepted_by, clusters_of, document, document_by, document_of_raw, document_of_value, links_of, network_fault, policy_fault, over_limit, refused_by, unless, value_of}
+use Rattle.doc_parts.specs.Functions.{refused_in_groups}
+use Rattle.doc_parts.proofs.TooManyFacts.{no_tree_fault}
 use Rattle.plan_doc.specs.Owners.{not_owned, owner_of}
-use Rattle.plan_doc.specs.Refusals.{Refusal, bad_shape, not_owner, out_of_range, refused_function, refused_links, refused_paths, refused_tree, repeated_name, unknown_name}
+use Rattle.doc_refusals.specs.Refusals.{Refusal, bad_shape, not_owner, out_of_range, refused_function, refused_links, refused_paths, refused_tree, repeated_name, unknown_name}
 use Rattle.path_groups.specs.Faults.{plan_fault}
 use Rattle.wan_topology.specs.Network.{network_of}
 use Rattle.raw_document.specs.declared.doc_path.PathStep.{PathStep}

@@ -15,11 +15,11 @@ use Rattle.bwe_specs.specs.Reports.{demand_after, is_task, last_amount}
 use Rattle.bwe_specs.specs.Tree.{Cluster, Job, User, Weighted, cluster_value, inner_share, job_value, node_value, task_value, user_value}
 use Rattle.bwe_specs.specs.TreeFunctions.{AreClusters}
 use Rattle.bwe_specs.specs.Allocation.{Plan, allocation, group_line, wan_after}
-use Rattle.bwe_specs.proofs.Plans.{plan-never_falls}
+use Rattle.allocation_laws.proofs.Allocations.{plan-never_falls}
 use Rattle.bwe_specs.proofs.Sums.{sum_below-list, sum_by-numbers}
 use Rattle.plain_table.proofs.Filled.{amounts-total}
 use Rattle.limit_table.specs.Tables.{total_of}
-use Rattle.policy_tree.specs.Trees.{cluster_numbers, job_numbers, task_numbers, user_numbers}
+use Rattle.tree_spec.specs.Trees.{cluster_numbers, job_numbers, task_numbers, user_numbers}
 
 -- ---- demands
 

@@ -10,18 +10,19 @@ use Rattle.bwe_specs.proofs.Lists.{neither}
 use Rattle.bwe_specs.specs.FunctionValue.{IsFunction}
 use Rattle.bwe_specs.specs.Tree.{Cluster}
 use Rattle.bwe_specs.specs.TreeFunctions.{AreClusters, AreJobs, AreUsers, IsConfigured}
-use Rattle.policy_tree.specs.States.{cluster_tasks, job_tasks, user_tasks}
-use Rattle.policy_tree.specs.Numbering.{numbered, numbered_cluster, numbered_clusters, numbered_jobs, numbered_users, points_by}
-use Rattle.policy_tree.specs.Trees.{task_numbers}
-use Rattle.policy_tree.specs.Walk.{fault_by, is_childless, tree_fault, walk}
-use Rattle.policy_tree.specs.declared.fault.TreeFault.{TreeFault}
-use Rattle.policy_tree.specs.declared.fault.TreeFault.TheVariants.{TooManyTasks}
+use Rattle.tree_spec.specs.States.{cluster_tasks, job_tasks, user_tasks}
+use Rattle.tree_spec.specs.Numbering.{numbered, numbered_cluster, numbered_clusters, numbered_jobs, numbered_users, points_by}
+use Rattle.tree_spec.specs.Trees.{task_numbers}
+use Rattle.tree_spec.specs.Walk.{fault_by, is_childless, tree_fault, walk}
+use Rattle.tree_spec.specs.declared.fault.TreeFault.{TreeFault}
+use Rattle.tree_spec.specs.declared.fault.TreeFault.TheVariants.{TooManyTasks}
 use Rattle.raw_document.specs.declared.key.DocKey.TheVariants as keys
 use Rattle.raw_document.specs.declared.doc_path.PathStep.{PathStep}
 use Rattle.raw_document.specs.declared.doc_path.PathStep.TheVariants.{Index, Key}
 use Rattle.raw_document.specs.Raw.{Group, Job, User}
-use Rattle.plan_doc.specs.Functions.{RefusedFunction, below, first_refused, refused_configured, refused_here, refused_in_group, refused_in_groups, refused_in_job, refused_in_user}
-use Rattle.plan_doc.specs.TreeParts.{cluster_part, function_part, job_part, user_part}
+use Rattle.doc_refusals.specs.Refusals.{RefusedFunction}
+use Rattle.doc_parts.specs.Functions.{below, first_refused, refused_configured, refused_here, refused_in_group, refused_in_groups, refused_in_job, refused_in_user}
+use Rattle.doc_parts.specs.TreeParts.{cluster_part, function_part, job_part, user_part}
 
 below_none : (step : PathStep) (refused : Option RefusedFunction) → below step refused ≡ None → refused ≡ None
 below_none step None e = refl

@@ -10,10 +10,10 @@ use Rattle.limit_table.specs.Tables.{total_of}
 use Rattle.plan_doc.specs.declared.document.Document as read
 use Rattle.plan_doc.specs.Accepted.{IsDocumentOf}
 use Rattle.plan_doc.specs.Conditions.{link_count, tasks_in}
-use Rattle.plan_doc.specs.Document.{Accepted}
+use Rattle.doc_parts.specs.Document.{Accepted}
 use Rattle.plan_doc.specs.Plans.{plan_in, plan_of}
 use Rattle.plan_doc.proofs.PlanFacts.{plan-is}
-use Rattle.policy_tree.specs.Trees.{task_numbers}
+use Rattle.tree_spec.specs.Trees.{task_numbers}
 use Rattle.doc_names.specs.NameTexts.{texts_of}
 use Rattle.run_audit.specs.Verdict.{verdict_of}
 use Rattle.table_text.specs.TableText.{text_of}

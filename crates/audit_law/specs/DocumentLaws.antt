@@ -9,7 +9,7 @@ use Rattle.document_scripts.specs.Scripts.{scripts_of}
 use Rattle.plan_doc.specs.declared.document.Document as read
 use Rattle.plan_doc.specs.Accepted.{IsAccepted, IsDocumentOf}
 use Rattle.plan_doc.specs.Conditions.{IsUsable, link_count, reporter_count, tasks_in}
-use Rattle.plan_doc.specs.Document.{Accepted, document as document_of}
+use Rattle.doc_parts.specs.Document.{Accepted, document as document_of}
 use Rattle.plan_doc.specs.Plans.{plan_in}
 use Rattle.doc_names.specs.NameTexts.{texts_of}
 use Rattle.run_audit.specs.declared.verdict.AuditVerdict.TheVariants.{Legal}

@@ -10,7 +10,7 @@ use Rattle.bwe_specs.specs.Paths.{is_over, lowest_over}
 use Rattle.bwe_specs.specs.Filling.{Wan, closed_links, filling}
 use Rattle.bwe_specs.specs.RightClosings.{last_share, amounts_at, over_at, cause_after, share_cause, next_cause, top_verdict, verdict_or, verdict_after, verdict, AreRightToTop}
 use Rattle.bwe_specs.specs.Values.{NeverFalls}
-use Rattle.bwe_specs.proofs.Verdicts.{verdict-right_iff, right-verdict, verdict-right}
+use Rattle.allocation_laws.proofs.Verdicts.{verdict-right_iff, right-verdict, verdict-right}
 use Rattle.bwe_specs.proofs.Bounds.{none-lowest, some-lowest}
 use Rattle.mpfa_fill.specs.LastFit.{is_over_at}
 use Rattle.path_groups.proofs.Paths.{any_map}

@@ -7,7 +7,7 @@ use Rattle.one_run.specs.Endings.{Reply}
 use Rattle.plan_doc.specs.declared.document.Document.{Document}
 use Rattle.plan_doc.specs.Accepted.{IsDocumentOf}
 use Rattle.plan_doc.specs.Conditions.{reporter_count}
-use Rattle.plan_doc.specs.Document.{Accepted}
+use Rattle.doc_parts.specs.Document.{Accepted}
 use Rattle.doc_names.specs.NameTexts.{texts_of}
 use Rattle.run_text.specs.RunText.{run_text_of}
 use Rattle.crew_log.specs.LegalCrewLog.{IsClosed}

@@ -2,7 +2,7 @@
 
 ghost use Rattle.std.specs.Prelude.{◌≡◌, ◌≤◌, IfOk, Some};
 ghost use Rattle.plan_doc.specs.Conditions.{IsUsable, reporter_count};
-ghost use Rattle.plan_doc.specs.Document.{document as document_of};
+ghost use Rattle.doc_parts.specs.Document.{document as document_of};
 ghost use Rattle.plan_doc.specs.Plans.{plan_in};
 ghost use Rattle.crew_log.specs.LegalCrewLog.{IsClosed};
 ghost use Rattle.command_line.specs.declared.CommandLine.TheVariants.{Run};

@@ -5,11 +5,11 @@ use Rattle.bwe_specs.specs.Paths.{Path}
 use Rattle.bwe_specs.specs.Reports.{numbers}
 use Rattle.bwe_specs.specs.declared.report.Report.{Report}
 use Rattle.bwe_specs.specs.declared.report.Target.TheVariants.{Task}
-use Rattle.policy_tree.specs.Trees.{task_numbers}
+use Rattle.tree_spec.specs.Trees.{task_numbers}
 use Rattle.path_groups.specs.Given.{Group}
 use Rattle.doc_names.specs.NameTexts.{NameTexts}
 use Rattle.doc_passes.specs.Numbers.{Numbers}
-use Rattle.plan_doc.specs.Document.{Accepted, accepted, document}
+use Rattle.doc_parts.specs.Document.{Accepted, accepted, document}
 use Rattle.doc_maker.specs.Made.{Size, IsSize, drawn, numbered, link_name, task_name, reporter_name, tasks_of, made, made_document}
 
 -- the numbers that the tasks have in their names, in the order of the walk

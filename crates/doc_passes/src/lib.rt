@@ -1,9 +1,9 @@
 //! The passes over a raw document before any builder: counts above their limits, ranges, repeated
 //! names, unknown names.
 //!
-//! `plan_doc` calls them in this order, which is that of the refusals' numbers, and hands what they
-//! leave to the builders. Each answers what its definition says (`Limits`, `Ranges`, `Names` and
-//! `Numbers` of `specs/`): nothing, the names in their order, numbers in place of names, or the
+//! `doc_parts` calls them in this order, which is that of the refusals' numbers, and hands on what
+//! they leave. Each answers what its definition says (`Limits`, `Ranges`, `Names` and `Numbers` of
+//! `specs/`): nothing, the names in their order, numbers in place of names, or the
 //! place of the first fault in the walk. Nothing is promised of time. Each name is hashed at most
 //! once where it stands and at most once where it is referred to.
 //!

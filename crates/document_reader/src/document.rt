@@ -10,11 +10,12 @@ ghost use Rattle.policy_tree.specs.Childless.{clusters_of, idle_tree};
 ghost use Rattle.raw_document.specs.Raw.{Raw};
 ghost use Rattle.doc_passes.specs.InRange.{IsInRange};
 ghost use Rattle.doc_passes.specs.Counts.{task_count};
-ghost use Rattle.plan_doc.specs.Document.{document, document_of_raw};
-ghost use Rattle.plan_doc.specs.TooMany.{clusters_fault};
-ghost use Rattle.plan_doc.specs.Refusals.{refused_paths, refused_tree, not_owner};
-ghost use Rattle.plan_doc.specs.Accepted.{Answers, Makes};
-ghost use Rattle.plan_doc.specs.Gathering.{AreTreeParts, IsGathered, Gathers};
+ghost use Rattle.doc_parts.specs.Document.{document, document_of_raw};
+ghost use Rattle.doc_parts.specs.TooMany.{clusters_fault};
+ghost use Rattle.doc_refusals.specs.Refusals.{refused_paths, refused_tree, not_owner};
+ghost use Rattle.doc_parts.specs.Passing.{Makes};
+ghost use Rattle.plan_doc.specs.Accepted.{Answers};
+ghost use Rattle.doc_parts.specs.Gathering.{AreTreeParts, IsGathered, Gathers};
 ghost use Rattle.plan_doc.specs.Conditions.{IsUsable};
 
 use crate::gathered::{gathered_by_tokens, gathered_on_threads};

@@ -10,15 +10,15 @@ ghost use Rattle.wan_topology.specs.Faults.{topology_fault};
 ghost use Rattle.policy_tree.specs.Asked.{idle_cluster};
 ghost use Rattle.raw_document.specs.Reading.{Gives, each_view};
 ghost use Rattle.raw_document.specs.Raw.{link_view, group_view, raw_view};
-ghost use Rattle.plan_doc.specs.Document.{document, document_of_value, document_of_raw, document_named, document_numbered, links_of, network_fault, over_limit};
-ghost use Rattle.plan_doc.specs.Functions.{refused_in_groups};
-ghost use Rattle.plan_doc.specs.TreeParts.{cluster_part};
-ghost use Rattle.plan_doc.specs.Links.{link_part};
-ghost use Rattle.plan_doc.specs.TooMany.{links_fault};
-ghost use Rattle.plan_doc.specs.Refusals.{out_of_range, refused_function, refused_links};
-ghost use Rattle.plan_doc.specs.Accepted.{Makes, PassesBy};
-ghost use Rattle.plan_doc.specs.Tables.{AreEmpty, tables_view};
-ghost use Rattle.plan_doc.specs.Gathering.{LeavesNames, BuildsParts, AreTreeParts, Gathers};
+ghost use Rattle.doc_parts.specs.Document.{document, document_of_value, document_of_raw, document_named, document_numbered, links_of, network_fault, over_limit};
+ghost use Rattle.doc_parts.specs.Functions.{refused_in_groups};
+ghost use Rattle.doc_parts.specs.TreeParts.{cluster_part};
+ghost use Rattle.doc_parts.specs.Links.{link_part};
+ghost use Rattle.doc_parts.specs.TooMany.{links_fault};
+ghost use Rattle.doc_refusals.specs.Refusals.{out_of_range, refused_function, refused_links};
+ghost use Rattle.doc_parts.specs.Passing.{Makes, PassesBy};
+ghost use Rattle.doc_parts.specs.Tables.{AreEmpty, tables_view};
+ghost use Rattle.doc_parts.specs.Gathering.{LeavesNames, BuildsParts, AreTreeParts, Gathers};
 ghost use Rattle.doc_names.specs.NameTexts.{texts_of};
 ghost use Rattle.doc_passes.specs.Names.{name_lists};
 ghost use Rattle.doc_passes.specs.Numbers.{numbers};
@@ -162,7 +162,7 @@ fn ranges_beside_names<R: Threads + Sync>(
 
 // Names and numbers, or the first of the refusals 4 to 6. Threads take longer to start than a short
 // document takes to be read.
-#[tactic(auto, unfolding(plan_doc::specs::Document::document_of_raw))]
+#[tactic(auto, unfolding(doc_parts::specs::Document::document_of_raw))]
 fn read_names_on_threads<R: Threads + Sync>(
     rt: &R,
     alloc: Global,
@@ -227,7 +227,7 @@ fn together(
 
 // The same on two threads. Where the top is out of its range one thread does it: clusters are built
 // only of a top in its range, and the ranges are looked at beside.
-#[tactic(auto, unfolding(plan_doc::specs::Document::document_of_raw))]
+#[tactic(auto, unfolding(doc_parts::specs::Document::document_of_raw))]
 fn gather_on_threads<R: Threads + Sync>(
     rt: &R,
     alloc: Global,

@@ -6,7 +6,7 @@ use Rattle.bwe_specs.specs.declared.report.Report.{Report}
 use Rattle.bwe_specs.specs.declared.report.Target.{Target}
 use Rattle.bwe_specs.specs.Reports.{reports_of, AreOwned}
 use Rattle.bwe_specs.specs.Allocation.{Plan, allocation}
-use Rattle.bwe_specs.proofs.Plans.{allocation-interleaved}
+use Rattle.allocation_laws.proofs.Allocations.{allocation-interleaved}
 use Rattle.bwe_specs.specs.declared.limits.TheConstants.{MAX_REPORTERS, MAX_REPORTS}
 use Rattle.demand_book.specs.Fit.{IsFit}
 use Rattle.plan_doc.specs.declared.document.Document.{Document}

@@ -16,6 +16,7 @@ use path_groups::PathPlan;
 use policy_tree::PolicyTree;
 use std::alloc::Global;
 use std::marker::Brand;
+use tree_bounds::{group_ceiling, group_floor, is_full};
 use wan_topology::Topology;
 
 /// The groups of a tree with what is kept of them. What else is asked for is listed by group, and
@@ -78,18 +79,18 @@ impl<K: Meant> GroupValues for KnownValues<'_, K> {
         if let Some(value) = self.known[group as usize].value_between(share, most) {
             return Some(value);
         }
-        self.tree.group_ceiling(group, share)
+        group_ceiling(self.tree, group, share)
     }
 
     fn floor(&self, group: u32, share: u64, most: u64) -> Option<u64> {
         if let Some(value) = self.known[group as usize].value(share) {
             return Some(value);
         }
-        self.tree.group_floor(group, share, most)
+        group_floor(self.tree, group, share, most)
     }
 
     fn is_full(&self, group: u32, share: u64, most: u64) -> bool {
-        self.tree.is_full(group, share, most)
+        is_full(self.tree, group, share, most)
     }
 }
 

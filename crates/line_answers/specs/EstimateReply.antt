@@ -4,7 +4,7 @@ use Rattle.bwe_specs.specs.declared.report.Report.{Report}
 use Rattle.bwe_specs.specs.Allocation.{Plan}
 use Rattle.bwe_specs.specs.DocumentLimits.{limits_of}
 use Rattle.one_run.specs.Endings.{Reply}
-use Rattle.plan_doc.specs.Document.{Accepted}
+use Rattle.doc_parts.specs.Document.{Accepted}
 use Rattle.sample_lines.specs.RefusalLine.{sample_refusal}
 use Rattle.sample_lines.specs.Known.{Known}
 use Rattle.sample_lines.specs.SampleReports.{reports_in}

@@ -5,8 +5,8 @@ use Rattle.bwe_specs.specs.Allocation.{Plan, allocation}
 use Rattle.doc_maker.specs.Accepting.{made_accepted}
 use Rattle.doc_maker.specs.Made.{Size, made_document}
 use Rattle.one_run.specs.Endings.{Reply}
-use Rattle.plan_doc.specs.Document.{Accepted}
-use Rattle.plan_doc.specs.Refusals.{Refusal}
+use Rattle.doc_parts.specs.Document.{Accepted}
+use Rattle.doc_refusals.specs.Refusals.{Refusal}
 use Rattle.reply_text.specs.BulkText.{bulk_text_of}
 use Rattle.plan_doc.specs.Plans.{plan_of}
 use Rattle.plain_solve.specs.Refused.{refused_reply}

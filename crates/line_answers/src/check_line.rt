@@ -18,12 +18,12 @@ use document_reader::{read_document, read_document_on_threads};
 use one_run::Answer;
 use opened_document::{OpenedDocument, open_after_script};
 use plain_solve::refused;
-use plain_table::TreeValues;
 use plan_doc::Document;
 use reply_text::check_text;
 use std::alloc::Global;
 use std::mem::forget;
 use std::thread::Threads;
+use tree_values::TreeValues;
 
 /// The answer to its input.
 pub fn check(alloc: Global, input: &[u8]) -> Result<Answer, OutOfMemory>

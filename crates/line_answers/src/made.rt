@@ -4,7 +4,7 @@ ghost use Rattle.std.specs.Prelude.{◌≡◌, List, IfOk};
 ghost use Rattle.bwe_specs.specs.declared.report.Report.{Report};
 ghost use Rattle.doc_maker.specs.Made.{IsSize, made_document};
 ghost use Rattle.plan_doc.specs.Conditions.{IsUsable};
-ghost use Rattle.plan_doc.specs.Document.{document as document_of};
+ghost use Rattle.doc_parts.specs.Document.{document as document_of};
 ghost use Rattle.plan_doc.specs.Plans.{plan_in};
 ghost use Rattle.line_answers.specs.MadeLines.{bulk_reply, make_reply, summary_of, summary_reply};
 

@@ -27,13 +27,13 @@ use Rattle.doc_passes.specs.Ranges.{is_name, is_name_byte, ranges}
 use Rattle.doc_passes.specs.Names.{name_lists}
 use Rattle.doc_passes.specs.Numbers.{Numbers, numbers}
 use Rattle.doc_passes.specs.Passed.{HasPassed, IsReport}
-use Rattle.plan_doc.specs.Document as documents
-use Rattle.plan_doc.specs.Document.{Accepted, accepted as accepted_by, document, document_by, document_of_raw, document_of_value, links_of, network_fault, policy_fault, over_limit, refused_by, unless, value_of}
-use Rattle.plan_doc.specs.Functions.{refused_in_groups}
+use Rattle.doc_parts.specs.Document as documents
+use Rattle.doc_parts.specs.Document.{Accepted, accepted as accepted_by, document, document_by, document_of_raw, document_of_value, links_of, network_fault, policy_fault, over_limit, refused_by, unless, value_of}
+use Rattle.doc_parts.specs.Functions.{refused_in_groups}
 use Rattle.plan_doc.specs.Plans.{plan_of}
-use Rattle.plan_doc.specs.Refusals.{Refusal, bad_shape, not_owner, out_of_range, refused_function, refused_links, refused_paths, refused_tree, repeated_name, unknown_name}
-use Rattle.plan_doc.proofs.DocumentFacts.{passed_of}
-use Rattle.plan_doc.proofs.NodeFacts.{length-task_numbers}
+use Rattle.doc_refusals.specs.Refusals.{Refusal, bad_shape, not_owner, out_of_range, refused_function, refused_links, refused_paths, refused_tree, repeated_name, unknown_name}
+use Rattle.doc_parts.proofs.PassFacts.{passed_of}
+use Rattle.doc_parts.proofs.NodeFacts.{length-task_numbers}
 use Rattle.plan_doc.proofs.PlanFacts.{length-capacities}
 use Rattle.text_scan.specs.Names.{number_of_name}
 use Rattle.change_text.specs.StateLaw.{AreNames, AreReadable, IsName, is_plain}

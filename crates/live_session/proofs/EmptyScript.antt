@@ -21,8 +21,8 @@ use Rattle.doc_passes.specs.Names.{fold_member, name_lists}
 use Rattle.doc_passes.specs.Numbers.{Numbers, add_group_numbers, closing_numbers, link_owner, numbers, report_numbers}
 use Rattle.doc_passes.proofs.Readings.{bind_ok, ok_is}
 use Rattle.wan_topology.specs.Network.{network_of}
-use Rattle.plan_doc.specs.Document.{Accepted, document_of_raw, links_of}
-use Rattle.plan_doc.proofs.DocumentFacts.{document_is}
+use Rattle.doc_parts.specs.Document.{Accepted, document_of_raw, links_of}
+use Rattle.doc_parts.proofs.PassFacts.{document_is}
 use Rattle.live_session.specs.Laws.{EmptyScriptIsAccepted, without_script}
 use Rattle.live_session.proofs.Documents.{IsReadOf, by_raw}
 

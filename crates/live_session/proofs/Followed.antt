@@ -4,13 +4,13 @@ use Rattle.std.specs.Option.{option_map}
 use Rattle.std.proofs.lemmas.List.{length_push}
 use Rattle.demand_book.specs.Fit.{IsFit}
 use Rattle.allocator.specs.Frames.{task_count}
-use Rattle.plan_doc.specs.Document.{Accepted, document}
+use Rattle.doc_parts.specs.Document.{Accepted, document}
 use Rattle.plan_doc.specs.declared.document.Document.{Document}
 use Rattle.plan_doc.specs.Accepted.{IsDocumentOf}
 use Rattle.doc_names.specs.NameTexts.{NameTexts}
 use Rattle.plan_doc.specs.Plans.{plan_in, plan_of}
-use Rattle.plan_doc.specs.Refusals.{Refusal}
-use Rattle.plan_doc.specs.RefusalLines.{refusal_line}
+use Rattle.doc_refusals.specs.Refusals.{Refusal}
+use Rattle.refusal_text.specs.RefusalLines.{refusal_line}
 use Rattle.plan_doc.proofs.PlanFacts.{plan-is}
 use Rattle.live_lines.specs.Cutting.{Held}
 use Rattle.live_lines.specs.Known.{Known, known_by}

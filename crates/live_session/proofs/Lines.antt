@@ -4,7 +4,7 @@ use Rattle.std.proofs.lemmas.List.{map-append, length_push}
 use Rattle.std.proofs.lemmas.List.Concat.{flat_map-cons}
 use Rattle.std.proofs.lemmas.List.Sums.{fold-append}
 use Rattle.bwe_specs.specs.declared.report.Report.{Report}
-use Rattle.plan_doc.specs.Document.{Accepted}
+use Rattle.doc_parts.specs.Document.{Accepted}
 use Rattle.live_lines.specs.Cutting.{Held}
 use Rattle.live_lines.specs.Known.{Known}
 use Rattle.live_lines.specs.Meaning.{meaning_of}

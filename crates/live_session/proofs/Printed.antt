@@ -13,7 +13,7 @@ use Rattle.demand_book.specs.Fit.{IsInRange}
 use Rattle.allocator.specs.Frames.{task_count}
 use Rattle.last_reports.specs.Compaction.{last_report}
 use Rattle.last_reports.specs.Snapshot.{snapshot}
-use Rattle.plan_doc.specs.Document.{Accepted}
+use Rattle.doc_parts.specs.Document.{Accepted}
 use Rattle.plan_doc.specs.Plans.{plan_of}
 use Rattle.table_laws.proofs.Named.{all-reverse}
 use Rattle.live_lines.specs.Cutting.{Held, within, with_byte, lines_from, held_after, last_line, all_lines}

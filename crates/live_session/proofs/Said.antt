@@ -15,7 +15,7 @@ use Rattle.doc_names.proofs.OwnerFacts.{owner_is}
 use Rattle.text_scan.specs.Names.{number_of_name}
 use Rattle.text_scan.specs.Numbers.{amount_in_range, number_of}
 use Rattle.text_scan.specs.Words.{Text, words_of}
-use Rattle.plan_doc.specs.Document.{Accepted}
+use Rattle.doc_parts.specs.Document.{Accepted}
 use Rattle.live_lines.specs.declared.line.LineCause.{LineCause}
 use Rattle.live_lines.specs.declared.line.LineCause.TheVariants.{NoLine, UnknownName, AmountOutOfRange, NotOwner}
 use Rattle.live_lines.specs.declared.line.LineMeaning.{LineMeaning}

@@ -3,10 +3,10 @@ use Rattle.std.specs.Prelude.{ℕ, ◌+◌, Bool, List, [], length, map, Result,
 use Rattle.bwe_specs.specs.Allocation.{Plan, allocation}
 use Rattle.allocator.specs.Frames.{task_count}
 use Rattle.last_reports.specs.Snapshot.{snapshot}
-use Rattle.plan_doc.specs.Document.{Accepted, document}
+use Rattle.doc_parts.specs.Document.{Accepted, document}
 use Rattle.plan_doc.specs.Plans.{plan_of}
-use Rattle.plan_doc.specs.Refusals.{Refusal}
-use Rattle.plan_doc.specs.RefusalLines.{refusal_line}
+use Rattle.doc_refusals.specs.Refusals.{Refusal}
+use Rattle.refusal_text.specs.RefusalLines.{refusal_line}
 use Rattle.table_text.specs.TableText.{text_of}
 use Rattle.live_lines.specs.Cutting.{Held}
 use Rattle.live_lines.specs.Known.{Known}

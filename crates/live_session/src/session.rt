@@ -1,7 +1,7 @@
 //! A session: an accepted document that is followed through the input lines behind it.
 
 ghost use Rattle.std.specs.Prelude.{◌≡◌, ◌++◌, ◌∷◌, [], ℕ, List, true, false, option_map, IfOk, IfSome, IsNone, OnOk};
-ghost use Rattle.plan_doc.specs.Document.{Accepted};
+ghost use Rattle.doc_parts.specs.Document.{Accepted};
 ghost use Rattle.plan_doc.specs.Accepted.{IsDocumentOf};
 ghost use Rattle.plan_doc.specs.Conditions.{IsUsable};
 ghost use Rattle.live_lines.specs.Cutting.{Held};

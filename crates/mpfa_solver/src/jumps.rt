@@ -16,7 +16,7 @@ use mpfa_fill::{Closing, Filling, GroupValues, Moment};
 use path_groups::PathPlan;
 use std::alloc::Global;
 use std::marker::Brand;
-use std::sync::ledger::Ledger;
+use std::sync::ledger::{Blank, Ledger};
 use wan_topology::Topology;
 
 /// The filling of the values over the paths of the plan, between the capacities of the topology
@@ -58,6 +58,42 @@ pub fn solve<'a, V: GroupValues, L: Ledger>(
         moment = advanced(alloc, moment, top, hints, &mut notes, steps)?;
     }
     moment.into_filling(alloc)
+}
+
+/// The filling of the values over the paths of the plan, between the capacities of the topology, by
+/// `solve` without hints, on a counter of its own.
+pub fn solve_by_jumps<V: GroupValues>(
+    alloc: Global,
+    values: &V,
+    topology: &Topology,
+    plan: &PathPlan,
+) -> Result<Filling, OutOfMemory>
+    requires built_on { IsBuiltOn topology.now plan.now }
+    requires groups { (V.meaning values.now).groups ≡ length plan.now }
+    ensures { IfOk result
+        (IsFilling (wan_of (V.meaning values.now) plan.now topology.now.capacities)) }
+{
+    counted_by_jumps::<V, Brand>(alloc, values, topology, plan, Blank::new(1))
+}
+
+// The same on a counter of its own.
+fn counted_by_jumps<V: GroupValues, L: Ledger>(
+    alloc: Global,
+    values: &V,
+    topology: &Topology,
+    plan: &PathPlan,
+    blank: Blank,
+) -> Result<Filling, OutOfMemory>
+    requires built_on { IsBuiltOn topology.now plan.now }
+    requires groups { (V.meaning values.now).groups ≡ length plan.now }
+    requires name { blank.name ≡ L.name }
+    requires parts { blank.parts ≡ L.parts }
+    requires some { 0 < L.parts }
+    ensures { IfOk result
+        (IsFilling (wan_of (V.meaning values.now) plan.now topology.now.capacities)) }
+{
+    let mut steps: Steps<L> = Steps::new(blank);
+    solve(alloc, values, topology, plan, &[], &mut steps)
 }
 
 // Takes a moment past the next closing, or to the top where there is none.

@@ -1,9 +1,9 @@
 //! The filling of a network by jumps: one search for each closing.
 //!
 //! `solve` answers what `fill_by_steps` of `mpfa_fill` answers, for every top share, and from any
-//! hints. Tables are filled by `link_solver`, which asks for fewer values; `solve` stays as a
-//! library call for what it promises of its tests. It counts them on a `Steps`: a test is whether
-//! every link fits at one share. The look at the share after, which names the link to close, is not
+//! hints. `plain_table` fills by `solve_by_jumps`, the same without hints and without a counter: that
+//! is far less code than `link_solver`, by which the allocator fills, since it asks for fewer values.
+//! `solve` counts its tests on a `Steps`: a test is whether every link fits at one share. The look at the share after, which names the link to close, is not
 //! counted: it is known that not every link fits there. `solve` can also answer `OutOfMemory`,
 //! which no clause ties to a cause; with ample memory tests show that it does not. Hints that are
 //! the closings of the answer, as those of the last table mostly are, make two tests a closing.
@@ -15,5 +15,5 @@
 mod jumps;
 mod rise;
 
-pub use jumps::solve;
+pub use jumps::{solve, solve_by_jumps};
 pub use mpfa_fill::{Closing, Filling};

@@ -2,9 +2,9 @@
 use Rattle.std.proofs.Common.{◌≡◌, suc, ◌+◌, List, [], ◌∷◌, ◌++◌, length, flat_map, sum_by, refl, ap, arith}
 use Rattle.std.proofs.lemmas.List.{length-append}
 use Rattle.std.proofs.lemmas.List.Sums.{sum_by-cons}
-use Rattle.policy_tree.specs.declared.spec.JobSpec.{JobSpec}
-use Rattle.policy_tree.specs.declared.spec.UserSpec.{UserSpec}
-use Rattle.policy_tree.specs.declared.spec.ClusterSpec.{ClusterSpec}
+use Rattle.tree_spec.specs.declared.spec.JobSpec.{JobSpec}
+use Rattle.tree_spec.specs.declared.spec.UserSpec.{UserSpec}
+use Rattle.tree_spec.specs.declared.spec.ClusterSpec.{ClusterSpec}
 use Rattle.policy_tree.specs.Asked.{job_weights, user_weights, cluster_weights}
 use Rattle.policy_tree.specs.Childless.{job_childless, user_childless, cluster_childless}
 

@@ -1,7 +1,7 @@
 -- A part behind a document.
 use Rattle.std.proofs.Common.{◌≡◌, ℕ, List, Some, Ok, ap, ap₂, sym, ◌∙◌}
 use Rattle.std.specs.Prelude.{drop}
-use Rattle.plan_doc.specs.Document.{Accepted, document}
+use Rattle.doc_parts.specs.Document.{Accepted, document}
 use Rattle.two_part.specs.declared.Parts.{Parts}
 use Rattle.two_part.specs.TwoPart.{document_in, parts_of}
 use Rattle.parted_input.specs.Parted.{accepted_parts, parts_at, with_part}

@@ -3,8 +3,8 @@ use Rattle.std.specs.Prelude.{◌≡◌, ℕ, List, drop, Option, Some, None, Re
 use Rattle.one_run.specs.Endings.{Reply}
 use Rattle.plan_doc.specs.Accepted.{IsDocumentOf}
 use Rattle.plan_doc.specs.Conditions.{IsUsable}
-use Rattle.plan_doc.specs.Document.{Accepted, document}
-use Rattle.plan_doc.specs.Refusals.{Refusal}
+use Rattle.doc_parts.specs.Document.{Accepted, document}
+use Rattle.doc_refusals.specs.Refusals.{Refusal}
 use Rattle.two_part.specs.declared.Parts.{Parts}
 use Rattle.two_part.specs.TwoPart.{document_in, no_parts_line, parts_of}
 use Rattle.parted_input.specs.declared.parted.Parted as read

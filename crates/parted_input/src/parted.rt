@@ -1,7 +1,6 @@
 //! The two parts of the input of a command: a document, and what stands behind it.
 
 ghost use Rattle.std.specs.Prelude.{◌≡◌, IfOk};
-ghost use Rattle.plan_doc.specs.RefusalLines.{error_line};
 ghost use Rattle.parted_input.specs.Parted.{AreRead, accepted_parts, no_parts_reply};
 
 use bwe_specs::OutOfMemory;

@@ -1,9 +1,9 @@
 -- What an input gets that is one document, and what a refused one gets.
 use Rattle.std.specs.Prelude.{ℕ, List, Result, Ok, Err}
 use Rattle.one_run.specs.Endings.{Reply}
-use Rattle.plan_doc.specs.Document.{Accepted, document}
-use Rattle.plan_doc.specs.Refusals.{Refusal}
-use Rattle.plan_doc.specs.RefusalLines.{refusal_line}
+use Rattle.doc_parts.specs.Document.{Accepted, document}
+use Rattle.doc_refusals.specs.Refusals.{Refusal}
+use Rattle.refusal_text.specs.RefusalLines.{refusal_line}
 
 -- a refused document gets the row of its refusal
 abbrev pub refused_reply : Refusal → Reply

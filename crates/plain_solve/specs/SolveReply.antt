@@ -5,7 +5,7 @@ use Rattle.bwe_specs.specs.Allocation.{Plan, allocation}
 use Rattle.one_run.specs.Endings.{Reply}
 use Rattle.doc_names.specs.NameTexts.{NameTexts}
 use Rattle.table_text.specs.TableText.{text_of}
-use Rattle.plan_doc.specs.Document.{Accepted}
+use Rattle.doc_parts.specs.Document.{Accepted}
 use Rattle.plan_doc.specs.Plans.{plan_of}
 
 -- the table of the allocation of these reports

@@ -1,7 +1,7 @@
 //! The row of a refused document.
 
 ghost use Rattle.std.specs.Prelude.{◌≡◌, Some, IfOk};
-ghost use Rattle.plan_doc.specs.RefusalLines.{error_line};
+ghost use Rattle.refusal_text.specs.RefusalLines.{error_line};
 
 use bwe_specs::OutOfMemory;
 use one_run::Answer;

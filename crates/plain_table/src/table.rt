@@ -15,11 +15,11 @@ ghost use Rattle.plain_table.specs.Tables.{plan_by, table_by, wan_by};
 use crate::limits::limits_of;
 use crate::line::group_lines;
 use crate::script::take_in_all;
-use crate::values::TreeValues;
+use crate::values::PlainValues;
 use bwe_specs::{OutOfMemory, Report};
 use limit_table::{GroupLine, LimitTable};
-use link_solver::solve_by_links;
 use mpfa_fill::Filling;
+use mpfa_solver::solve_by_jumps;
 use path_groups::PathPlan;
 use policy_tree::PolicyTree;
 use std::alloc::Global;
@@ -92,8 +92,8 @@ fn table_now(
     ensures { IfOk result (λ table.
         table ≡ table_by (reported_in tree.now topology.now prefix) plan.now) }
 {
-    let values = TreeValues { tree };
-    let filling = solve_by_links(alloc, &values, topology, plan)?;
+    let values = PlainValues { tree };
+    let filling = solve_by_jumps(alloc, &values, topology, plan)?;
     table_of_filling(alloc, tree, topology, plan, prefix, filling)
 }
 

@@ -1,112 +1,33 @@
--- A document that has passed every refusal is the definition's, and meets the conditions of the calls that take its parts.
-use Rattle.std.proofs.Common.{◌≡◌, ℕ, ◌<◌, List, length, map, replicate, Option, Some, None, Result, Ok, Err, refl, sym, ap, subst, ◌∙◌, arith}
-use Rattle.std.specs.Prelude.{All, IfSome, ⊤}
+-- A document of these parts is the definition's, and meets the conditions of calls that take them.
+use Rattle.std.proofs.Common.{◌≡◌, ℕ, ◌<◌, List, length, map, replicate, None, refl, sym, ap, subst, ◌∙◌, arith}
+use Rattle.std.specs.Prelude.{All}
 use Rattle.std.proofs.lemmas.List.{length-map, length-replicate}
 use Rattle.std.proofs.lemmas.List.Elements.{All-same}
 use Rattle.wan_topology.specs.Network.{Network, network_of}
 use Rattle.path_groups.specs.Given.{Group, path_groups_of}
 use Rattle.path_groups.specs.Plan.{IsBuiltOn}
-use Rattle.path_groups.specs.Faults.{plan_fault}
 use Rattle.bwe_specs.specs.Paths.{PathGroups}
-use Rattle.policy_tree.specs.States.{cluster_tasks}
-use Rattle.policy_tree.specs.Numbering.{numbered_cluster}
-use Rattle.policy_tree.specs.Trees.{Tree, task_numbers}
+use Rattle.tree_spec.specs.States.{cluster_tasks}
+use Rattle.tree_spec.specs.Numbering.{numbered_cluster}
+use Rattle.tree_spec.specs.Trees.{Tree, task_numbers}
 use Rattle.doc_names.specs.declared.Names.{Names}
 use Rattle.raw_document.specs.Raw as raw
 use Rattle.doc_passes.specs.declared.numbers.DocumentNumbers.{DocumentNumbers}
 use Rattle.plan_doc.specs.declared.document.Document as code
 use Rattle.doc_passes.specs.Counts.{task_count}
-use Rattle.doc_passes.specs.Limits.{overrun}
-use Rattle.doc_passes.specs.Ranges.{ranges}
-use Rattle.doc_names.specs.NameTexts.{NameTexts, texts_of}
-use Rattle.doc_passes.specs.Names.{name_lists}
+use Rattle.doc_names.specs.NameTexts.{texts_of}
 use Rattle.doc_passes.specs.Numbers.{Numbers, numbers}
 use Rattle.doc_passes.specs.NumbersView.{numbers_view}
-use Rattle.plan_doc.specs.Functions.{refused_in_groups}
-use Rattle.plan_doc.specs.TreeParts.{cluster_part}
+use Rattle.doc_parts.specs.TreeParts.{cluster_part}
 use Rattle.doc_names.specs.Owners.{not_owned}
-use Rattle.plan_doc.specs.Refusals.{Refusal, unknown_name, refused_function, refused_links, refused_paths, refused_tree, not_owner}
-use Rattle.plan_doc.specs.Document as documents
-use Rattle.plan_doc.specs.Document.{Accepted, accepted, unless, links_of, clusters_of, network_fault, policy_fault, document_by}
+use Rattle.doc_parts.specs.Document.{accepted, links_of, clusters_of}
 use Rattle.plan_doc.specs.Accepted.{tree_of, IsDocumentOf}
-use Rattle.doc_passes.specs.Passed.{HasOwnerBelow, IsReport, IsClosing, AreNamesOf, AreNumbersOf, HasPassed}
+use Rattle.doc_passes.specs.Passed.{HasOwnerBelow, IsReport, IsClosing, HasPassed}
 use Rattle.plan_doc.specs.Conditions.{link_count, tasks_in, reporter_count, IsByOwner, IsUsable}
-use Rattle.doc_passes.proofs.LimitFacts.{are_few}
-use Rattle.doc_passes.proofs.RangeFacts.{in_range}
-use Rattle.doc_passes.proofs.NameFacts.{names_of}
-use Rattle.doc_passes.proofs.NumberFacts.{numbers_of}
-use Rattle.policy_tree.proofs.Numbers.{length-numbered}
-use Rattle.plan_doc.proofs.NodeFacts.{length-task_numbers}
+use Rattle.tree_spec.proofs.Numbers.{length-numbered}
+use Rattle.doc_parts.proofs.NodeFacts.{length-task_numbers}
 use Rattle.plan_doc.proofs.PlanFacts.{length-capacities}
 use Rattle.doc_names.proofs.OwnerFacts.{IsOwned, by_owners}
-
--- ---- the passes on names and numbers
-
-pub passed_of : (raw : raw.Raw) (lists names : NameTexts) (found : Numbers) (u : ⊤) → overrun raw ≡ None → ranges raw ≡ Ok u → name_lists raw ≡ Ok lists → names ≡ lists → numbers lists.links lists.tasks lists.reporters raw ≡ Ok found → HasPassed raw names found
-passed_of raw lists names found u few range listed same known =
-    let within = in_range raw u range in
-    let named : AreNamesOf raw lists = names_of raw lists listed in
-    let numbered : AreNumbersOf (length lists.links) (length lists.tasks) (length lists.reporters) raw found = numbers_of lists.links lists.tasks lists.reporters raw found within.amounts within.shares known in
-    let by_links : AreNumbersOf (length raw.links) (length lists.tasks) (length lists.reporters) raw found = subst (λ n. AreNumbersOf n (length lists.tasks) (length lists.reporters) raw found) named.links numbered in
-    let by_tasks : AreNumbersOf (length raw.links) (task_count raw.groups) (length lists.reporters) raw found = subst (λ n. AreNumbersOf (length raw.links) n (length lists.reporters) raw found) named.tasks by_links in
-    record {
-      few = are_few raw few;
-      range = within;
-      each_named = subst (AreNamesOf raw) (sym same) named;
-      each_numbered = subst (λ n. AreNumbersOf (length raw.links) (task_count raw.groups) n raw found) named.reporters by_tasks;
-    }
-
--- where each name is known, the refusals 7 to 11 are left
-pub numbered_left : (raw : raw.Raw) (lists names : NameTexts) (found : Numbers) → names ≡ lists → numbers lists.links lists.tasks lists.reporters raw ≡ Ok found → documents.document_numbered raw lists ≡ document_by raw names found
-numbered_left raw lists names found same known =
-    ap (λ read. documents.◌>>=◌ (documents.refused_by unknown_name read) (document_by raw lists)) known ∙ ap (λ texts. document_by raw texts found) (sym same)
-
--- ---- the builders, in the order of their refusals
-
--- a refusal of the first of two passes is one of both
-refused_here : {A : Type 0} (named : Option Refusal) (read : Result ⊤ Refusal) (next : ⊤ → Result A Refusal)
-    → IfSome named (λ refusal. read ≡ Err refusal) → IfSome named (λ refusal. documents.◌>>=◌ read next ≡ Err refusal)
-refused_here None read next refused = refused
-refused_here (Some refusal) (Ok u) next refused = absurd cc
-refused_here (Some refusal) (Err found) next refused = let same : found ≡ refusal = cc in ap Err same
-
--- the first builder that refuses has the refusal of the document
-module _ (raw : raw.Raw) (names : NameTexts) (numbers : Numbers) (named : Option Refusal) where
-  pub functions_refused : IfSome named (λ refusal. unless refused_function (refused_in_groups raw.top raw.groups) ≡ Err refusal)
-      → IfSome named (λ refusal. document_by raw names numbers ≡ Err refusal)
-  unfolding document_by
-  functions_refused refused = refused_here named (unless refused_function (refused_in_groups raw.top raw.groups)) _ refused
-
-  pub links_refused : refused_in_groups raw.top raw.groups ≡ None → IfSome named (λ refusal. unless refused_links (network_fault raw) ≡ Err refusal)
-      → IfSome named (λ refusal. document_by raw names numbers ≡ Err refusal)
-  unfolding document_by
-  links_refused functions refused = rw functions (refused_here named (unless refused_links (network_fault raw)) _ refused)
-
-  pub paths_refused : (network : Network) → refused_in_groups raw.top raw.groups ≡ None → network_fault raw ≡ None → network ≡ network_of (links_of raw)
-      → IfSome named (λ refusal. unless refused_paths (plan_fault network numbers.groups) ≡ Err refusal) → IfSome named (λ refusal. document_by raw names numbers ≡ Err refusal)
-  unfolding document_by
-  paths_refused network functions links topology refused =
-      rw (functions, links, sym topology) (refused_here named (unless refused_paths (plan_fault network numbers.groups)) _ refused)
-
-  pub tree_refused : (network : Network) → refused_in_groups raw.top raw.groups ≡ None → network_fault raw ≡ None → network ≡ network_of (links_of raw) → plan_fault network numbers.groups ≡ None
-      → IfSome named (λ refusal. unless refused_tree (policy_fault raw) ≡ Err refusal) → IfSome named (λ refusal. document_by raw names numbers ≡ Err refusal)
-  unfolding document_by
-  tree_refused network functions links topology paths refused =
-      rw (functions, links, sym topology, paths) (refused_here named (unless refused_tree (policy_fault raw)) _ refused)
-
-  pub owners_refused : (network : Network) → refused_in_groups raw.top raw.groups ≡ None → network_fault raw ≡ None → network ≡ network_of (links_of raw) → plan_fault network numbers.groups ≡ None
-      → policy_fault raw ≡ None → IfSome named (λ refusal. unless not_owner (not_owned numbers.task_owners numbers.link_owners 0 numbers.script) ≡ Err refusal)
-      → IfSome named (λ refusal. document_by raw names numbers ≡ Err refusal)
-  unfolding document_by
-  owners_refused network functions links topology paths tree refused =
-      rw (functions, links, sym topology, paths, tree) (refused_here named (unless not_owner (not_owned numbers.task_owners numbers.link_owners 0 numbers.script)) _ refused)
-
--- where no builder refuses, the document is of their parts
-pub document_is : (raw : raw.Raw) (names : NameTexts) (numbers : Numbers) (network : Network) → refused_in_groups raw.top raw.groups ≡ None → network_fault raw ≡ None → network ≡ network_of (links_of raw)
-    → plan_fault network numbers.groups ≡ None → policy_fault raw ≡ None → not_owned numbers.task_owners numbers.link_owners 0 numbers.script ≡ None
-    → document_by raw names numbers ≡ Ok (accepted raw names numbers)
-unfolding document_by
-document_is raw names numbers network functions links topology paths tree owners = rw (functions, links, sym topology, paths, tree, owners) refl
 
 pub is_document : (raw : raw.Raw) (version : ℕ) (names : Names) (numbers : DocumentNumbers) (tree : Tree) (topology : Network) (plan : List PathGroups)
     → version ≡ raw.version → tree ≡ tree_of (accepted raw (texts_of names) (numbers_view numbers)) → topology ≡ network_of (links_of raw) → plan ≡ path_groups_of (numbers_view numbers).groups
@@ -122,8 +43,6 @@ is_document raw version names numbers tree topology plan version_is tree_is topo
   task_owners = refl;
   link_owners = refl;
 }
-
--- ---- conditions
 
 pub usable : (document : code.Document) (raw : raw.Raw) (numbers : Numbers) → HasPassed raw (texts_of document.names) numbers → IsDocumentOf (accepted raw (texts_of document.names) numbers) document
     → IsBuiltOn document.topology document.plan → not_owned numbers.task_owners numbers.link_owners 0 numbers.script ≡ None → IsUsable document

@@ -2,20 +2,20 @@
 use Rattle.std.proofs.Common.{◌≡◌, ℕ, List, length, replicate, Some, Ok, ap₂}
 use Rattle.serde_json.specs.Data.{Data}
 use Rattle.bwe_specs.specs.DocumentLimits.{limits_of}
-use Rattle.policy_tree.specs.Childless.{clusters_of, idle_tree}
-use Rattle.policy_tree.specs.Numbering.{numbered_clusters}
-use Rattle.policy_tree.specs.States.{ClusterState}
-use Rattle.policy_tree.specs.Trees.{Tree, task_numbers}
+use Rattle.tree_spec.specs.Childless.{clusters_of, idle_tree}
+use Rattle.tree_spec.specs.Numbering.{numbered_clusters}
+use Rattle.tree_spec.specs.States.{ClusterState}
+use Rattle.tree_spec.specs.Trees.{Tree, task_numbers}
 use Rattle.raw_document.specs.Forms.{document_at}
 use Rattle.raw_document.specs.Json.{json}
 use Rattle.raw_document.specs.Raw.{Raw}
 use Rattle.doc_names.specs.NameTexts.{NameTexts}
 use Rattle.doc_passes.specs.Numbers.{Numbers}
-use Rattle.plan_doc.specs.declared.gathered.TreeParts.{TreeParts}
+use Rattle.doc_parts.specs.declared.gathered.TreeParts.{TreeParts}
 use Rattle.plan_doc.specs.Accepted.{tree_of}
-use Rattle.plan_doc.specs.Document.{accepted, document, document_of_value, document_of_raw, policy_fault}
-use Rattle.plan_doc.specs.Gathering.{AreTreeParts}
-use Rattle.plan_doc.specs.TooMany.{clusters_fault}
+use Rattle.doc_parts.specs.Document.{accepted, document, document_of_value, document_of_raw, policy_fault}
+use Rattle.doc_parts.specs.Gathering.{AreTreeParts}
+use Rattle.doc_parts.specs.TooMany.{clusters_fault}
 
 -- what is made of the shape is made of the bytes
 pub from_shape : (bytes : List ℕ) (d : Data) (raw : Raw) → json bytes ≡ Some d → document_at d ≡ Ok raw → document_of_raw raw ≡ document bytes

@@ -7,9 +7,9 @@ use Rattle.bwe_specs.specs.Tree.{Cluster}
 use Rattle.wan_topology.specs.Network as networks
 use Rattle.raw_document.specs.Raw as raw
 use Rattle.plan_doc.specs.declared.document.Document as code
-use Rattle.plan_doc.specs.Document.{Accepted}
+use Rattle.doc_parts.specs.Document.{Accepted}
 use Rattle.plan_doc.specs.Accepted.{IsDocumentOf}
-use Rattle.plan_doc.specs.Links.{link_part}
+use Rattle.doc_parts.specs.Links.{link_part}
 use Rattle.plan_doc.specs.Plans.{plan_in, plan_of}
 
 pub length-capacities : (links : List raw.Link) → length (networks.network_of (map link_part links)).capacities ≡ length links

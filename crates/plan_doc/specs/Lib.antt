@@ -1,15 +1,4 @@
-pub mod Functions
-pub mod TreeParts
-pub mod Building
 pub mod Owners
-pub mod Refusals
-pub mod RefusalLines
-pub mod Links
-pub mod Childless
-pub mod TooMany
-pub mod Tables
-pub mod Document
 pub mod Accepted
-pub mod Gathering
 pub mod Conditions
 pub mod Plans

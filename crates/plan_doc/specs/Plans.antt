@@ -3,7 +3,7 @@ use Rattle.bwe_specs.specs.Allocation.{Plan}
 use Rattle.wan_topology.specs.Network.{network_of}
 use Rattle.path_groups.specs.Given.{path_groups_of}
 use Rattle.plan_doc.specs.declared.document.Document.{Document}
-use Rattle.plan_doc.specs.Document.{Accepted}
+use Rattle.doc_parts.specs.Document.{Accepted}
 
 -- the plan of an accepted document, as the definition reads it ..
 abbrev pub plan_of : Accepted → Plan

@@ -6,25 +6,27 @@ ghost use Rattle.bwe_specs.specs.DocumentLimits.{limits_of};
 ghost use Rattle.path_groups.specs.Given.{AreInRange, groups_of, path_groups_of};
 ghost use Rattle.path_groups.specs.Plan.{IsBuiltOn};
 ghost use Rattle.path_groups.specs.Faults.{plan_fault};
-ghost use Rattle.policy_tree.specs.Walk.{tree_fault};
-ghost use Rattle.policy_tree.specs.Childless.{clusters_of, idle_tree};
+ghost use Rattle.tree_spec.specs.Walk.{tree_fault};
+ghost use Rattle.tree_spec.specs.Childless.{clusters_of, idle_tree};
 ghost use Rattle.raw_document.specs.Raw.{Raw};
 ghost use Rattle.doc_passes.specs.InRange.{IsInRange};
 ghost use Rattle.doc_passes.specs.Counts.{task_count};
-ghost use Rattle.plan_doc.specs.Document.{document, document_of_raw};
-ghost use Rattle.plan_doc.specs.TooMany.{clusters_fault};
-ghost use Rattle.plan_doc.specs.Refusals.{refused_paths, refused_tree, not_owner};
-ghost use Rattle.plan_doc.specs.Accepted.{Answers, Makes};
-ghost use Rattle.plan_doc.specs.Gathering.{AreTreeParts, IsGathered, Gathers};
+ghost use Rattle.doc_parts.specs.Document.{document, document_of_raw};
+ghost use Rattle.doc_parts.specs.TooMany.{clusters_fault};
+ghost use Rattle.doc_refusals.specs.Refusals.{refused_paths, refused_tree, not_owner};
+ghost use Rattle.doc_parts.specs.Passing.{Makes};
+ghost use Rattle.plan_doc.specs.Accepted.{Answers};
+ghost use Rattle.doc_parts.specs.Gathering.{AreTreeParts, IsGathered, Gathers};
 ghost use Rattle.plan_doc.specs.Conditions.{IsUsable};
 
-use crate::doc_error::DocError;
-use crate::gathered::{Built, Gathered, Named, TreeParts, gathered_by_tree};
 use bwe_specs::{Closing, DocumentLimits, MAX_GROUPS, Report};
 use doc_names::{Names, find_not_owned};
+use doc_parts::{Built, Gathered, Named, TreeParts, gathered_by_tree};
+use doc_refusals::DocError;
 use path_groups::{GroupSpec, PathError, PathPlan};
-use policy_tree::{PolicyTree, TreeError, TreeFault};
+use policy_tree::PolicyTree;
 use std::alloc::Global;
+use tree_spec::{TreeError, TreeFault};
 use wan_topology::Topology;
 
 /// An accepted document, of version 1 to 4. Links, groups, tasks and reporters are numbers, whose

@@ -10,9 +10,11 @@ use Rattle.bwe_specs.specs.Distribution.{children_sum}
 use Rattle.bw_function.specs.BwFunction.{Function}
 use Rattle.capped_sum.specs.declared.task.Task.{Task}
 use Rattle.capped_sum.specs.CappedSum.{tasks_value}
-use Rattle.policy_tree.specs.States.{JobState, UserState, ClusterState, job_tasks, user_tasks, cluster_tasks, transformed, job_meaning, jobs_meaning, user_meaning, users_meaning, cluster_meaning}
+use Rattle.tree_spec.specs.States.{transformed}
+use Rattle.policy_tree.specs.States.{JobState, UserState, ClusterState, job_tasks, user_tasks, cluster_tasks, job_meaning, jobs_meaning, user_meaning, users_meaning, cluster_meaning}
 use Rattle.policy_tree.specs.Asked.{HasTop}
-use Rattle.policy_tree.specs.Numbering.{numbered, points_by, numbered_tasks, numbered_job, numbered_jobs, numbered_user, numbered_users, numbered_cluster, job_demands, user_demands, cluster_demands}
+use Rattle.tree_spec.specs.Numbering.{numbered}
+use Rattle.policy_tree.specs.Numbering.{points_by, numbered_tasks, numbered_job, numbered_jobs, numbered_user, numbered_users, numbered_cluster, job_demands, user_demands, cluster_demands}
 use Rattle.policy_tree.specs.Kept.{HaveJobTop, HaveUserTop, HaveClusterTop}
 use Rattle.policy_tree.proofs.Meanings.{nodes-sum}
 use Rattle.policy_tree.specs.Nodes.{Agrees}

@@ -5,7 +5,8 @@ use Rattle.std.specs.List.{range_with_len}
 use Rattle.std.proofs.lemmas.List.{length-append, length-map, append-nil, append_assoc, take_more, get_or-map}
 use Rattle.std.proofs.lemmas.List.Sums.{sum_by-cons, sum_by_more_le}
 use Rattle.policy_tree.specs.States.{JobState, UserState, ClusterState, job_tasks, user_tasks, cluster_tasks}
-use Rattle.policy_tree.specs.Numbering.{numbered, numbered_job, numbered_user, numbered_cluster, numbered_clusters}
+use Rattle.tree_spec.specs.Numbering.{numbered}
+use Rattle.policy_tree.specs.Numbering.{numbered_job, numbered_user, numbered_cluster, numbered_clusters}
 use Rattle.policy_tree.specs.Walk.{Node, OfJob, job_nodes, user_nodes, cluster_nodes, walk}
 use Rattle.bwe_specs.specs.Lists.{lists_of}
 use Rattle.policy_tree.specs.Children.{numbers_from, child_numbers, child_lists, job_size, user_size, cluster_size, nodes_of_job, nodes_of_user, nodes_of_cluster, all_nodes}

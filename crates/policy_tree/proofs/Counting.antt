@@ -7,14 +7,15 @@ use Rattle.std.proofs.lemmas.List.{length-append, length-map, map-append, append
 use Rattle.std.proofs.lemmas.List.Concat.{flat_map-append}
 use Rattle.std.proofs.lemmas.List.FromFn.{length-range_with_len}
 use Rattle.capped_sum.specs.CappedSum.{without_demand}
-use Rattle.policy_tree.specs.declared.fault.TreeFault.{TreeFault}
-use Rattle.policy_tree.specs.declared.fault.TreeFault.TheVariants.{TooManyTasks}
-use Rattle.policy_tree.specs.declared.spec.JobSpec.{JobSpec}
-use Rattle.policy_tree.specs.declared.spec.UserSpec.{UserSpec}
-use Rattle.policy_tree.specs.declared.spec.ClusterSpec.{ClusterSpec}
+use Rattle.tree_spec.specs.declared.fault.TreeFault.{TreeFault}
+use Rattle.tree_spec.specs.declared.fault.TreeFault.TheVariants.{TooManyTasks}
+use Rattle.tree_spec.specs.declared.spec.JobSpec.{JobSpec}
+use Rattle.tree_spec.specs.declared.spec.UserSpec.{UserSpec}
+use Rattle.tree_spec.specs.declared.spec.ClusterSpec.{ClusterSpec}
 use Rattle.policy_tree.specs.States.{cluster_tasks, user_tasks, job_tasks}
 use Rattle.policy_tree.specs.Asked.{idle_job, idle_user, idle_cluster, cluster_weights}
-use Rattle.policy_tree.specs.Numbering.{numbered, numbered_task, numbered_job, numbered_user, numbered_cluster}
+use Rattle.tree_spec.specs.Numbering.{numbered}
+use Rattle.policy_tree.specs.Numbering.{numbered_task, numbered_job, numbered_user, numbered_cluster}
 use Rattle.policy_tree.specs.Trees.{task_numbers}
 use Rattle.policy_tree.specs.Walk.{Node, job_nodes, user_nodes, cluster_nodes, walk, is_childless, fault_by, tree_fault}
 use Rattle.policy_tree.specs.Childless.{job_childless, user_childless, cluster_childless, clusters_of, IsCounted}

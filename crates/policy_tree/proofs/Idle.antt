@@ -7,9 +7,9 @@ use Rattle.capped_sum.specs.declared.task.Task.{Task}
 use Rattle.capped_sum.specs.CappedSum.{without_demand}
 use Rattle.policy_tree.specs.Numbering.{job_demands, user_demands, cluster_demands, demands_of}
 use Rattle.policy_tree.specs.Kept.{HaveJobTop, HaveUserTop, HaveClusterTop}
-use Rattle.policy_tree.specs.declared.spec.JobSpec.{JobSpec}
-use Rattle.policy_tree.specs.declared.spec.UserSpec.{UserSpec}
-use Rattle.policy_tree.specs.declared.spec.ClusterSpec.{ClusterSpec}
+use Rattle.tree_spec.specs.declared.spec.JobSpec.{JobSpec}
+use Rattle.tree_spec.specs.declared.spec.UserSpec.{UserSpec}
+use Rattle.tree_spec.specs.declared.spec.ClusterSpec.{ClusterSpec}
 use Rattle.policy_tree.specs.States.{job_tasks, user_tasks, cluster_tasks}
 use Rattle.policy_tree.specs.Asked.{idle_job, idle_user, idle_cluster, job_weights, user_weights, cluster_weights, HasJobTop, HasUserTop, HasClusterTop}
 

@@ -11,7 +11,8 @@ use Rattle.capped_sum.specs.declared.task.Task.{Task}
 use Rattle.capped_sum.specs.Index.{IsInRange}
 use Rattle.capped_sum.specs.CappedSum.{Tasks, tasks_value}
 use Rattle.capped_sum.proofs.Meanings.{tasks-meaning}
-use Rattle.policy_tree.specs.States.{JobState, UserState, ClusterState, job_tasks, user_tasks, cluster_tasks, transformed, job_meaning, jobs_meaning, user_meaning, users_meaning, cluster_meaning, IsJobState, IsUserState, IsClusterState}
+use Rattle.tree_spec.specs.States.{transformed}
+use Rattle.policy_tree.specs.States.{JobState, UserState, ClusterState, job_tasks, user_tasks, cluster_tasks, job_meaning, jobs_meaning, user_meaning, users_meaning, cluster_meaning, IsJobState, IsUserState, IsClusterState}
 use Rattle.policy_tree.proofs.Transforms.{transformed-meaning}
 
 -- a value that a bound holds for at every share is bounded so under a configured function too

@@ -3,13 +3,9 @@ use Rattle.std.proofs.Common.{◌≡◌, ℕ, zero, suc, ◌+◌, ◌<◌, List,
 use Rattle.std.proofs.lemmas.List.{length-append, get_or_append_left, get_or-append-add}
 use Rattle.std.proofs.lemmas.List.Sums.{sum_by-cons}
 use Rattle.std.proofs.lemmas.List.Elements.{All-head, All-tail}
-use Rattle.policy_tree.specs.Numbering.{numbered}
+pub use Rattle.tree_spec.proofs.Numbers.{length-numbered}
+use Rattle.tree_spec.specs.Numbering.{numbered}
 use Rattle.policy_tree.specs.Nodes.{Agrees}
-
-pub length-numbered : {X Y : Type 0} (tasks : X → ℕ) (item : ℕ → X → Y) (first : ℕ) (xs : List X) → length (numbered tasks item first xs) ≡ length xs
-unfolding numbered
-length-numbered tasks item first [] = refl
-length-numbered tasks item first (x ∷ xs) = ap suc (length-numbered tasks item (first + tasks x) xs)
 
 -- an item is told how many tasks come before it
 pub get_or-numbered : {X Y : Type 0} (tasks : X → ℕ) (item : ℕ → X → Y) (first : ℕ) (xs : List X) (place : ℕ) (d : X) (e : Y) → place < length xs

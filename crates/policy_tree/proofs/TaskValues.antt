@@ -6,7 +6,8 @@ use Rattle.bwe_specs.specs.Tree.{task_value, task_values}
 use Rattle.policy_tree.specs.declared.home.Home.{Home}
 use Rattle.policy_tree.specs.States.{JobState, UserState, ClusterState, job_tasks, user_tasks, cluster_tasks}
 use Rattle.policy_tree.specs.Changes.{job_at, user_at, cluster_at}
-use Rattle.policy_tree.specs.Numbering.{numbered, numbered_job, numbered_user, numbered_cluster, numbered_clusters, job_demands, user_demands, cluster_demands, demands_of}
+use Rattle.tree_spec.specs.Numbering.{numbered}
+use Rattle.policy_tree.specs.Numbering.{numbered_job, numbered_user, numbered_cluster, numbered_clusters, job_demands, user_demands, cluster_demands, demands_of}
 use Rattle.policy_tree.specs.Nodes.{Agrees}
 use Rattle.policy_tree.specs.Trees.{demand_in, tree_of}
 use Rattle.policy_tree.specs.Seen.{user_task_values, cluster_task_values, task_value_in, value_at, job_task_values}

@@ -24,14 +24,15 @@ use Rattle.policy_tree.specs.States.{JobState, UserState, ClusterState, job_task
 use Rattle.policy_tree.specs.Asked.{HasTop}
 use Rattle.policy_tree.specs.Walk.{walk}
 use Rattle.policy_tree.specs.Changes.{job_at, user_at, cluster_at, job_with, user_with, cluster_with}
-use Rattle.policy_tree.specs.Numbering.{numbered, points_by, numbered_task, numbered_tasks, numbered_job, numbered_jobs, numbered_user, numbered_users, numbered_cluster, numbered_clusters, job_demands, user_demands, cluster_demands, demands_of}
+use Rattle.tree_spec.specs.Numbering.{numbered}
+use Rattle.policy_tree.specs.Numbering.{points_by, numbered_task, numbered_tasks, numbered_job, numbered_jobs, numbered_user, numbered_users, numbered_cluster, numbered_clusters, job_demands, user_demands, cluster_demands, demands_of}
 use Rattle.policy_tree.specs.Trees.{Tree, demand_in, value_in, job_numbers, user_numbers, cluster_numbers, task_numbers, IsTree, tree_of}
 use Rattle.policy_tree.specs.Kept.{HaveJobTop, HaveUserTop, HaveClusterTop, IsHome, IsKeptTree, AreFirsts, AreHomes, counts_of, cluster_counts}
 use Rattle.policy_tree.proofs.Meanings.{cluster-most, nodes-most, nodes-sum}
 use Rattle.policy_tree.proofs.Numbers.{agrees-at, get_or-numbered, length-numbered, numbered-set_same, take-numbered}
 use Rattle.std.specs.Prelude.{Vec}
 use Rattle.std.specs.Global.{Global}
-use Rattle.policy_tree.specs.declared.spec.ClusterSpec.{ClusterSpec}
+use Rattle.tree_spec.specs.declared.spec.ClusterSpec.{ClusterSpec}
 use Rattle.policy_tree.specs.Asked.{idle_cluster}
 use Rattle.policy_tree.specs.Childless.{AreFirstsOf}
 use Rattle.policy_tree.proofs.Idle.{idle_clusters-tasks}

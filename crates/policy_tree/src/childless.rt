@@ -6,10 +6,9 @@ ghost use Rattle.policy_tree.specs.Childless.{job_childless, user_childless, clu
 ghost use Rattle.policy_tree.specs.Trees.{task_numbers};
 ghost use Rattle.policy_tree.specs.Walk.{walk, tree_fault};
 
-use crate::fault::TreeFault;
-use crate::spec::{ClusterSpec, JobSpec, UserSpec};
 use bwe_specs::{MAX_TASKS, OutOfMemory};
 use std::alloc::Global;
+use tree_spec::{ClusterSpec, JobSpec, TreeFault, UserSpec};
 
 /// The first fault of a tree of these clusters.
 pub(crate) fn fault_of(clusters: &[ClusterSpec]) -> Option<TreeFault>

@@ -1,16 +1,14 @@
 //! A cluster of the tree.
 
-ghost use Rattle.std.specs.Prelude.{◌≡◌, ℕ, IsTrue, ◌<◌, ◌≤◌, length, OnOk, OnErr};
+ghost use Rattle.std.specs.Prelude.{◌≡◌, ◌<◌, ◌≤◌, length, OnOk, OnErr};
 ghost use Rattle.function_sum.specs.Meaning.{IsMeaning};
-ghost use Rattle.policy_tree.specs.States.{cluster_meaning, users_meaning, job_tasks, IsClusterState};
+ghost use Rattle.policy_tree.specs.States.{cluster_meaning, users_meaning, job_tasks, IsClusterState, IsKeptFunction};
 ghost use Rattle.policy_tree.specs.Asked.{HasClusterWeights, cluster_weights, idle_cluster};
 ghost use Rattle.policy_tree.specs.Changes.{job_at, user_at, cluster_with};
 
-use crate::ceiling::{Ceiling, ceiling_at, is_any_configured, is_full_at};
-use crate::floor::floor_within;
+use crate::configured::is_any_configured;
 use crate::level::{LevelNode, nodes_of, outline_of, refresh_all, rematch_all};
 use crate::siblings::Siblings;
-use crate::spec::ClusterSpec;
 use crate::user::UserNode;
 use crate::value::{
     add_bends_of, last_share_at, look_at, near_at, stretch_of, value_at, what_holds,
@@ -20,6 +18,7 @@ use bwe_specs::{MAX_AMOUNT, OutOfMemory};
 use function_sum::{Look, Outline, ShareFunction, Stretch};
 use std::alloc::Global;
 use std::marker::Model;
+use tree_spec::ClusterSpec;
 
 /// A cluster: its users, and its configured function.
 #[derive(Drop)]
@@ -45,6 +44,19 @@ impl Model for ClusterNode {
 }
 
 impl ClusterNode {
+    /// The configured function, if there is one.
+    pub fn function(&self) -> &Option<BwFunction>
+        ensures configured { result.now ≡ self.now.configured }
+        ensures kept { IsKeptFunction result.now }
+    {
+        &self.function
+    }
+
+    /// Whether a function is configured here or below. Where none is, the value takes no search.
+    pub fn is_configured(&self) -> bool {
+        self.is_configured
+    }
+
     /// The users, in the order of their numbers.
     pub fn users(&self) -> &[UserNode]
         ensures users { result.now ≡ self.now.users }
@@ -80,23 +92,6 @@ impl ClusterNode {
             nodes: self.users.as_slice(),
             outline: &self.outline,
         }
-    }
-
-    /// Whether it is told to have at a share all that it has at a higher one, `most`.
-    pub(crate) fn is_full(&self, share: u64, most: u64) -> bool
-        ensures { IsTrue result → (higher : ℕ) → share ≤ higher
-            → most ≡ cluster_meaning self.now higher → cluster_meaning self.now share ≡ most }
-    {
-        is_full_at(&self.function, &self.siblings(), share, most)
-    }
-
-    /// No more than the value at a share, in kilobits per second, where it is told to have `most`
-    /// at some share. It takes no search.
-    pub(crate) fn floor(&self, share: u64, most: u64) -> u64
-        ensures { (other : ℕ) → most ≡ cluster_meaning self.now other
-            → result ≤ cluster_meaning self.now share }
-    {
-        floor_within(&self.function, &self.siblings(), share, most)
     }
 }
 
@@ -166,15 +161,5 @@ impl ShareFunction for ClusterNode {
 
     fn stretch(&self, amount: u64) -> Option<Stretch> {
         stretch_of(&self.function, &self.siblings(), amount)
-    }
-}
-
-impl Ceiling for ClusterNode {
-    fn ceiling(&self, share: u64) -> u64 {
-        ceiling_at(&self.function, &self.siblings(), share)
-    }
-
-    fn is_configured(&self) -> bool {
-        self.is_configured
     }
 }

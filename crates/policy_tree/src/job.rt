@@ -2,16 +2,15 @@
 
 ghost use Rattle.std.specs.Prelude.{◌≡◌, ℕ, ◌<◌, ◌≤◌, length, OnOk, OnErr};
 ghost use Rattle.capped_sum.specs.Index.{AreInRange};
-ghost use Rattle.capped_sum.specs.CappedSum.{task_at};
-ghost use Rattle.policy_tree.specs.States.{job_meaning, job_tasks, IsJobState};
+ghost use Rattle.capped_sum.specs.CappedSum.{task_at, tasks_value};
+ghost use Rattle.function_sum.specs.Meaning.{IsMeaning};
+ghost use Rattle.policy_tree.specs.States.{job_meaning, job_tasks, IsJobState, IsKeptFunction};
 ghost use Rattle.policy_tree.specs.Asked.{HasJobWeights, job_weights, idle_job};
 ghost use Rattle.policy_tree.specs.Changes.{job_with};
 ghost use Rattle.policy_tree.specs.Seen.{value_at};
 
-use crate::ceiling::{Ceiling, near_ceiling_at};
-use crate::floor::{Floor, floor_at, steepest_at};
+use crate::configured::Configured;
 use crate::level::LevelNode;
-use crate::spec::JobSpec;
 use crate::value::{
     add_bends_of, last_share_at, look_at, near_at, stretch_of, value_at, what_holds,
 };
@@ -21,6 +20,7 @@ use capped_sum::CappedSum;
 use function_sum::{Look, Outline, ShareFunction, Stretch};
 use std::alloc::Global;
 use std::marker::Model;
+use tree_spec::JobSpec;
 
 /// A job: the sum of its tasks, and its configured function.
 #[derive(Drop)]
@@ -41,10 +41,19 @@ impl Model for JobNode {
 }
 
 impl JobNode {
+    /// The configured function, if there is one.
+    pub fn function(&self) -> &Option<BwFunction>
+        ensures configured { result.now ≡ self.now.configured }
+        ensures kept { IsKeptFunction result.now }
+    {
+        &self.function
+    }
+
     /// The sum of the tasks' values, with their weights and demands.
     pub fn sum(&self) -> &CappedSum
         ensures sum { result.now ≡ self.now.sum }
         ensures in_range { AreInRange result.now.tasks }
+        ensures meaning { IsMeaning (tasks_value result.now) }
     {
         &self.sum
     }
@@ -146,22 +155,8 @@ impl ShareFunction for JobNode {
     }
 }
 
-impl Ceiling for JobNode {
-    fn ceiling(&self, share: u64) -> u64 {
-        near_ceiling_at(&self.function, &self.sum, share)
-    }
-
+impl Configured for JobNode {
     fn is_configured(&self) -> bool {
-        self.function.is_some() || self.sum.is_configured()
-    }
-}
-
-impl Floor for JobNode {
-    fn floor(&self, share: u64) -> u64 {
-        floor_at(&self.function, &self.sum, share)
-    }
-
-    fn steepest(&self) -> u64 {
-        steepest_at(&self.function, &self.sum)
+        self.function.is_some()
     }
 }

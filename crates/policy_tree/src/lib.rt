@@ -2,10 +2,10 @@
 //!
 //! The layers above build a `PolicyTree`, set what tasks ask for, and ask for the values of the
 //! groups; `push_down` goes down the nodes of one group. Contracts see a tree as its clusters in
-//! the words of the definitions, with numbered tasks, and a list of demands (`specs/Trees.antt`);
-//! why a tree is refused is one function of its clusters (`specs/Walk.antt`). `PolicyTree::top`
-//! says what is true of every tree: the groups' values are 0 at share 0, never fall, and add up to
-//! at most `MAX_TOTAL` at the top.
+//! the words of the definitions, with numbered tasks, and a list of demands (`Trees.antt` in
+//! `specs/` of `tree_spec`); why a tree is refused is one function of its clusters (`Walk.antt`
+//! there). `PolicyTree::top` says what is true of every tree: the groups' values are 0 at share 0,
+//! never fall, and add up to at most `MAX_TOTAL` at the top.
 //!
 //! What a value costs: without configured functions one sum a job, each a search in the job's order
 //! of demands. A node with a configured function looks its inner share up. A job tells it without a
@@ -21,34 +21,28 @@
 //! node, and a sort of the demands of each job that was told a new one; docs/PERFORMANCE.md counts
 //! them. A changed demand makes the sum of its own job slow until the next `rematch`, and no other.
 //! `rematch_on_threads` shares the clusters out among threads, one for each processor.
-//! A node is looked up by its number in the order of the numbers. `PolicyTree::group_ceiling` and
-//! `group_floor` never search for a share: they ask a configured function, and where there is none
-//! the children. A floor is what the function gives, less what the children rise at most from one
-//! share to the next, and no more than they have at the top. Nothing is promised of that cost in a
-//! contract, nor of how values are kept.
+//! A node is looked up by its number in the order of the numbers. `tree_bounds` tells bounds of the
+//! groups' values without a search, by the nodes' `function` and `siblings`. Nothing is promised of
+//! that cost in a contract, nor of how values are kept.
 #![tactic(auto)]
 
-mod ceiling;
 mod childless;
 mod cluster;
-mod fault;
-mod floor;
+mod configured;
 mod home;
 mod job;
 mod kind;
 mod level;
 mod siblings;
-mod spec;
 mod tree;
 mod user;
 mod value;
 mod walked;
 
 pub use cluster::ClusterNode;
-pub use fault::{TreeError, TreeFault};
 pub use job::JobNode;
 pub use kind::Kind;
 pub use siblings::Siblings;
-pub use spec::{ClusterSpec, JobSpec, TreeSpec, UserSpec};
 pub use tree::PolicyTree;
+pub use tree_spec::{ClusterSpec, JobSpec, TreeError, TreeFault, TreeSpec, UserSpec};
 pub use user::UserNode;

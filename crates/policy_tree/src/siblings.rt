@@ -4,8 +4,6 @@ ghost use Rattle.std.specs.Prelude.{◌≡◌, ℕ, map};
 ghost use Rattle.bwe_specs.specs.Distribution.{children_sum};
 ghost use Rattle.function_sum.specs.Meaning.{IsMeaning};
 
-use crate::ceiling::{Ceiling, ceiling_sum, is_any_configured};
-use crate::floor::{Floor, floor_sum, steepest_sum};
 use function_sum::{Look, Outline, ShareFunction, Stretch, look_at, near_sum, sum_at};
 
 /// Nodes that are the children of one, so that their sum is a share function, and its outline.
@@ -61,25 +59,5 @@ impl<C: ShareFunction> ShareFunction for Siblings<'_, C> {
             Some(node) => node.stretch(amount),
             None => None,
         }
-    }
-}
-
-impl<C: Ceiling> Ceiling for Siblings<'_, C> {
-    fn ceiling(&self, share: u64) -> u64 {
-        ceiling_sum(self.nodes, share)
-    }
-
-    fn is_configured(&self) -> bool {
-        is_any_configured(self.nodes)
-    }
-}
-
-impl<C: Floor> Floor for Siblings<'_, C> {
-    fn floor(&self, share: u64) -> u64 {
-        floor_sum(self.nodes, share)
-    }
-
-    fn steepest(&self) -> u64 {
-        steepest_sum(self.nodes)
     }
 }

@@ -1,6 +1,6 @@
 //! The tree of all groups.
 
-ghost use Rattle.std.specs.Prelude.{◌≡◌, ℕ, ◌^◌, ◌<◌, ◌≤◌, length, All, IfOk, IfErr, IfSome, IsTrue, OnOk, OnErr, None};
+ghost use Rattle.std.specs.Prelude.{◌≡◌, ℕ, ◌^◌, ◌<◌, ◌≤◌, length, All, IfOk, IfErr, OnOk, OnErr, None};
 ghost use Rattle.bwe_specs.specs.Values.{AreValues};
 ghost use Rattle.policy_tree.specs.Trees.{asking, demand_in, value_in, task_numbers, IsTree};
 ghost use Rattle.policy_tree.specs.Asked.{HasClusterTop, HasClusterWeights};
@@ -10,15 +10,12 @@ ghost use Rattle.policy_tree.specs.Children.{child_numbers};
 ghost use Rattle.policy_tree.specs.Seen.{kind_of, node_in, group_node_in, value_of, task_value_in, IsJobOf};
 ghost use Rattle.policy_tree.specs.Walk.{walk, tree_fault, TellsFault};
 
-use crate::ceiling::Ceiling;
 use crate::childless::{fault_of, firsts_of};
 use crate::cluster::ClusterNode;
-use crate::fault::TreeError;
 use crate::home::{Home, homes_of};
 use crate::job::JobNode;
 use crate::kind::Kind;
 use crate::level::{LevelNode, nodes_of, refresh_all, rematch_all};
-use crate::spec::TreeSpec;
 use crate::walked::{children_of, count_of, kind_among, value_among};
 use bwe_specs::{MAX_AMOUNT, MAX_SHARE, OutOfMemory};
 use function_sum::ShareFunction;
@@ -26,6 +23,7 @@ use rayon::prelude::*;
 use std::alloc::Global;
 use std::marker::Model;
 use std::thread::Threads;
+use tree_spec::{TreeError, TreeSpec};
 
 /// The clusters of all groups, with their users, jobs and tasks, and what each task asks for.
 #[derive(Drop)]
@@ -254,51 +252,6 @@ impl PolicyTree {
         ensures { result ≡ value_in self.now group share }
     {
         self.clusters[group as usize].value(share)
-    }
-
-    /// No less than what a group may have at a share, in kilobits per second, found without a
-    /// search: what the configured function of its cluster gives there, or without one the sum over
-    /// its users. A user or a job has what its function gives, and no more than its children have at
-    /// the top at most. A job without a function has its exact sum. `None` where the group has no
-    /// configured function: its value takes no search then.
-    pub fn group_ceiling(&self, group: u32, share: u64) -> Option<u64>
-        requires { group < length self.now.clusters }
-        ensures { IfSome result (λ ceiling. value_in self.now group share ≤ ceiling) }
-    {
-        let cluster = &self.clusters[group as usize];
-        if !cluster.is_configured() {
-            return None;
-        }
-        Some(cluster.ceiling(share))
-    }
-
-    /// No more than what a group may have at a share, in kilobits per second, found without a
-    /// search: what the configured function of its cluster gives there, and at most `most`, less
-    /// what its users may rise from one share to the next; or without such a function the sum of
-    /// the floors of its users. `None` where the group has no configured function: its value takes
-    /// no search then. `most` is what the group has at the greatest share.
-    pub fn group_floor(&self, group: u32, share: u64, most: u64) -> Option<u64>
-        requires group { group < length self.now.clusters }
-        requires within { share ≤ self.now.top }
-        requires most { most ≡ value_in self.now group self.now.top }
-        ensures { IfSome result (λ floor. floor ≤ value_in self.now group share) }
-    {
-        let cluster = &self.clusters[group as usize];
-        if !cluster.is_configured() {
-            return None;
-        }
-        Some(cluster.floor(share, most))
-    }
-
-    /// Whether a group is told to have at a share all that it has at the greatest one, `most`: where
-    /// the configured function of its cluster gives no less there. It takes no search.
-    pub fn is_full(&self, group: u32, share: u64, most: u64) -> bool
-        requires group { group < length self.now.clusters }
-        requires within { share ≤ self.now.top }
-        requires most { most ≡ value_in self.now group self.now.top }
-        ensures { IsTrue result → value_in self.now group share ≡ most }
-    {
-        self.clusters[group as usize].is_full(share, most)
     }
 
     /// What a group may have at the greatest share, in kilobits per second.

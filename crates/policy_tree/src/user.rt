@@ -2,16 +2,14 @@
 
 ghost use Rattle.std.specs.Prelude.{◌≡◌, ℕ, ◌<◌, ◌≤◌, length, OnOk, OnErr};
 ghost use Rattle.function_sum.specs.Meaning.{IsMeaning};
-ghost use Rattle.policy_tree.specs.States.{user_meaning, jobs_meaning, job_tasks, IsUserState};
+ghost use Rattle.policy_tree.specs.States.{user_meaning, jobs_meaning, job_tasks, IsUserState, IsKeptFunction};
 ghost use Rattle.policy_tree.specs.Asked.{HasUserWeights, user_weights, idle_user};
 ghost use Rattle.policy_tree.specs.Changes.{job_at, user_with};
 
-use crate::ceiling::{Ceiling, is_any_configured, near_ceiling_at};
-use crate::floor::{Floor, floor_at, steepest_at};
+use crate::configured::{Configured, is_any_configured};
 use crate::job::JobNode;
 use crate::level::{LevelNode, nodes_of, outline_of, refresh_all, rematch_all};
 use crate::siblings::Siblings;
-use crate::spec::UserSpec;
 use crate::value::{
     add_bends_of, last_share_at, look_at, near_at, stretch_of, value_at, what_holds,
 };
@@ -20,6 +18,7 @@ use bwe_specs::{MAX_AMOUNT, OutOfMemory};
 use function_sum::{Look, Outline, ShareFunction, Stretch};
 use std::alloc::Global;
 use std::marker::Model;
+use tree_spec::UserSpec;
 
 /// A user: its jobs, and its configured function.
 #[derive(Drop)]
@@ -44,6 +43,14 @@ impl Model for UserNode {
 }
 
 impl UserNode {
+    /// The configured function, if there is one.
+    pub fn function(&self) -> &Option<BwFunction>
+        ensures configured { result.now ≡ self.now.configured }
+        ensures kept { IsKeptFunction result.now }
+    {
+        &self.function
+    }
+
     /// The jobs, in the order of their numbers.
     pub fn jobs(&self) -> &[JobNode]
         ensures jobs { result.now ≡ self.now.jobs }
@@ -141,22 +148,8 @@ impl ShareFunction for UserNode {
     }
 }
 
-impl Ceiling for UserNode {
-    fn ceiling(&self, share: u64) -> u64 {
-        near_ceiling_at(&self.function, &self.siblings(), share)
-    }
-
+impl Configured for UserNode {
     fn is_configured(&self) -> bool {
-        self.function.is_some() || self.siblings().is_configured()
-    }
-}
-
-impl Floor for UserNode {
-    fn floor(&self, share: u64) -> u64 {
-        floor_at(&self.function, &self.siblings(), share)
-    }
-
-    fn steepest(&self) -> u64 {
-        steepest_at(&self.function, &self.siblings())
+        self.function.is_some() || is_any_configured(self.jobs.as_slice())
     }
 }

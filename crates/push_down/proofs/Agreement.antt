@@ -9,7 +9,8 @@ use Rattle.bwe_specs.specs.Distribution.{children_sum, common_share, handed_out,
 use Rattle.bwe_specs.proofs.HandedOut.{length-distribution}
 use Rattle.policy_tree.specs.Nodes.{Agrees}
 use Rattle.policy_tree.specs.States.{JobState, UserState, ClusterState, job_tasks, user_tasks, cluster_tasks, job_meaning, user_meaning}
-use Rattle.policy_tree.specs.Numbering.{numbered, numbered_job, numbered_jobs, numbered_user, numbered_users, numbered_cluster, job_demands, user_demands, cluster_demands}
+use Rattle.tree_spec.specs.Numbering.{numbered}
+use Rattle.policy_tree.specs.Numbering.{numbered_job, numbered_jobs, numbered_user, numbered_users, numbered_cluster, job_demands, user_demands, cluster_demands}
 use Rattle.policy_tree.specs.Kept.{HaveJobTop, HaveUserTop, HaveClusterTop}
 use Rattle.policy_tree.proofs.Agreement.{length-job_demands, length-user_demands, tasks-agree, jobs-agree, users-agree}
 use Rattle.policy_tree.proofs.Numbers.{agrees-left, agrees-right}

@@ -10,7 +10,7 @@ use Rattle.version_scan.specs.Version.{is_of_version_4}
 use Rattle.doc_names.specs.NameTexts.{NameTexts, texts_of}
 use Rattle.plan_doc.specs.declared.document.Document.{Document}
 use Rattle.plan_doc.specs.Accepted.{IsAccepted}
-use Rattle.plan_doc.specs.Document.{document}
+use Rattle.doc_parts.specs.Document.{document}
 use Rattle.plan_doc.specs.Plans.{plan_in, plan_of}
 use Rattle.plan_doc.proofs.PlanFacts.{plan-is}
 use Rattle.plain_solve.specs.Refused.{document_reply, read_reply}

@@ -2,9 +2,9 @@
 
 ghost use Rattle.std.specs.Prelude.{◌≡◌, ◌≢◌, IfOk, IfSome, IsNone};
 ghost use Rattle.doc_names.specs.NameTexts.{texts_of};
-ghost use Rattle.plan_doc.specs.Accepted.{NamesRefusal};
+ghost use Rattle.doc_parts.specs.Passing.{NamesRefusal};
 ghost use Rattle.plan_doc.specs.Conditions.{IsUsable};
-ghost use Rattle.plan_doc.specs.Document.{document};
+ghost use Rattle.doc_parts.specs.Document.{document};
 ghost use Rattle.plan_doc.specs.Plans.{plan_in};
 ghost use Rattle.plain_solve.specs.SolveCall.{IsForInput};
 ghost use Rattle.plain_solve.specs.SolveReply.{table_reply};

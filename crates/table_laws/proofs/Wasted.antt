@@ -15,7 +15,7 @@ use Rattle.bwe_specs.proofs.Bounds.{sum_below-add, sum_below-mono, sum_below-zer
 use Rattle.bwe_specs.proofs.Certificates.{filling-right, filling-amounts}
 use Rattle.bwe_specs.proofs.Growth.{amounts_at-grown_amounts, closed-keeps, growth-off, is_at-true}
 use Rattle.bwe_specs.proofs.Loads.{load_on-unused, lowest_over-is_over}
-use Rattle.bwe_specs.proofs.StopShares.{held_back}
+use Rattle.allocation_laws.proofs.HeldBack.{held_back}
 use Rattle.table_laws.specs.Growing.{GrowsOver, added_load}
 use Rattle.table_laws.specs.Tables.{IsWithoutWaste}
 use Rattle.table_laws.proofs.Closings.{right-upto, closed-later}

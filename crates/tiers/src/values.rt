@@ -6,6 +6,7 @@ ghost use Rattle.tiers.specs.Fillings.{values_of_tier};
 
 use mpfa_fill::GroupValues;
 use policy_tree::PolicyTree;
+use tree_bounds::{group_ceiling, group_floor, is_full};
 
 /// What each group may have at a share in the filling of one tier, under the demands of a tree: its
 /// value where it is one of the tier, and 0 else.
@@ -37,7 +38,7 @@ impl GroupValues for TierValues<'_> {
 
     fn ceiling(&self, group: u32, share: u64) -> Option<u64> {
         if is_in_tier(self.tiers, self.tier, group) {
-            self.tree.group_ceiling(group, share)
+            group_ceiling(self.tree, group, share)
         } else {
             None
         }
@@ -45,14 +46,14 @@ impl GroupValues for TierValues<'_> {
 
     fn floor(&self, group: u32, share: u64, most: u64) -> Option<u64> {
         if is_in_tier(self.tiers, self.tier, group) {
-            self.tree.group_floor(group, share, most)
+            group_floor(self.tree, group, share, most)
         } else {
             None
         }
     }
 
     fn is_full(&self, group: u32, share: u64, most: u64) -> bool {
-        is_in_tier(self.tiers, self.tier, group) && self.tree.is_full(group, share, most)
+        is_in_tier(self.tiers, self.tier, group) && is_full(self.tree, group, share, most)
     }
 }
 

@@ -10,9 +10,9 @@ use Rattle.command_line.specs.declared.CommandLine.{CommandLine}
 use Rattle.command_line.specs.declared.CommandLine.TheVariants.{Solve, Check, Run, Make, Bulk, Audit, Tiers, Enforce, Estimate, Levels}
 use Rattle.enforce_run.specs.declared.event.EventLine.{EventLine}
 use Rattle.one_run.specs.Endings.{IsDue, IsInput, Reply, Served, answered, done, far_too_long, no_line, out_of_memory, read_fault, too_long, write_fault}
-use Rattle.plan_doc.specs.Document.{Accepted, document}
+use Rattle.doc_parts.specs.Document.{Accepted, document}
 use Rattle.plan_doc.specs.Plans.{plan_of}
-use Rattle.plan_doc.specs.Refusals.{Refusal}
+use Rattle.doc_refusals.specs.Refusals.{Refusal}
 use Rattle.run_audit.specs.declared.verdict.AuditVerdict.{AuditVerdict}
 use Rattle.run_audit.specs.declared.verdict.AuditVerdict.TheVariants as audited
 use Rattle.doc_names.specs.NameTexts.{NameTexts}

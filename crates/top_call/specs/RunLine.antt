@@ -4,8 +4,8 @@ use Rattle.bwe_specs.specs.Allocation.{Table}
 use Rattle.crew_log.specs.declared.log.CrewLog.{CrewLog}
 use Rattle.crew_log.specs.LegalCrewLog.{IsClosed}
 use Rattle.one_run.specs.Endings.{Reply}
-use Rattle.plan_doc.specs.Document.{Accepted}
-use Rattle.plan_doc.specs.Refusals.{Refusal}
+use Rattle.doc_parts.specs.Document.{Accepted}
+use Rattle.doc_refusals.specs.Refusals.{Refusal}
 use Rattle.run_text.specs.RunText.{run_text_of}
 use Rattle.top_call.specs.Runs.{IsRunOf}
 use Rattle.plan_doc.specs.Plans.{plan_of}

@@ -3,7 +3,7 @@ use Rattle.std.specs.Prelude.{◌≡◌, ℕ, Bool, true, false, List, Option, S
 use Rattle.command_line.specs.declared.CommandLine.{CommandLine}
 use Rattle.command_line.specs.declared.CommandLine.TheVariants.{Solve, Check, Run, Make, Bulk, Audit, Tiers, Enforce, Estimate, Levels}
 use Rattle.one_run.specs.Endings.{Ending, Reply, Served}
-use Rattle.plan_doc.specs.Document.{document}
+use Rattle.doc_parts.specs.Document.{document}
 use Rattle.line_answers.specs.Replies.{check_accepted, levels_accepted}
 use Rattle.plain_solve.specs.SolveReply.{solve_accepted}
 use Rattle.plain_solve.specs.Refused.{document_reply}

@@ -28,8 +28,8 @@ pub enum TopologyError {
     OutOfMemory,
 }
 
-// Says only that there is an error, as is owed to a test that fails: `plan_doc` has the words of
-// each refusal.
+// Says only that there is an error, as is owed to a test that fails: `refusal_text` has the words
+// of each refusal.
 impl fmt::Debug for TopologyError {
     fn fmt<W: fmt::Write>(&self, f: &mut fmt::Formatter<W>) -> fmt::Result {
         f.write_str("no topology was made")

@@ -2,8 +2,8 @@
 use Rattle.std.proofs.Common.{arith, ◌∙◌}
 use Rattle.std.specs.Prelude.{codes}
 use Rattle.std.proofs.lemmas.List.{length-map}
-use Rattle.plan_doc.specs.Document.{document}
-use Rattle.plan_doc.proofs.NodeFacts.{length-task_numbers}
+use Rattle.doc_parts.specs.Document.{document}
+use Rattle.doc_parts.proofs.NodeFacts.{length-task_numbers}
 use Rattle.doc_maker.specs.Made.{made, task_name, numbered}
 use Rattle.doc_maker.specs.Accepting.{walked_tasks, numbered_group, numbered_report, MadeDocumentsAreAccepted, MadeDocumentsHaveTheirCounts}
 use Rattle.doc_maker.proofs.accepting.Limits.{length-numbers}

@@ -10,10 +10,10 @@ use Rattle.bwe_specs.specs.Reports.{numbers}
 use Rattle.bwe_specs.specs.declared.limits.TheConstants.{MAX_AMOUNT}
 use Rattle.bw_function.specs.Faults.{later_fault, function_fault}
 use Rattle.wan_topology.specs.Faults.{link_fault, first_link_fault, topology_fault}
-use Rattle.plan_doc.specs.Functions.{first_refused, refused_configured, refused_in_job, refused_in_user, refused_in_group, refused_in_groups}
-use Rattle.plan_doc.specs.Links.{link_part}
-use Rattle.plan_doc.specs.Document.{links_of, network_fault}
-use Rattle.plan_doc.proofs.TooManyFacts.{few_links}
+use Rattle.doc_parts.specs.Functions.{first_refused, refused_configured, refused_in_job, refused_in_user, refused_in_group, refused_in_groups}
+use Rattle.doc_parts.specs.Links.{link_part}
+use Rattle.doc_parts.specs.Document.{links_of, network_fault}
+use Rattle.doc_parts.proofs.TooManyFacts.{few_links}
 use Rattle.doc_maker.specs.Made.{Size, IsSize, drawn, link_name, made_link, made_function, user_function, made_job, made_user, made_group, made}
 use Rattle.doc_maker.proofs.accepting.NameLists.{IsOther, absent}
 

@@ -16,19 +16,19 @@ use Rattle.wan_topology.specs.Network.{Network, Sites, network_of, sites_of}
 use Rattle.path_groups.specs.Faults.{first_fault, leads, repeats, path_fault, path_group_fault, group_fault, plan_fault}
 use Rattle.capped_sum.specs.CappedSum.{without_demand}
 use Rattle.raw_document.specs.Raw.{Task}
-use Rattle.policy_tree.specs.States.{ClusterState, cluster_tasks}
-use Rattle.policy_tree.specs.Numbering.{numbered, numbered_task, numbered_tasks, numbered_job, numbered_user, numbered_cluster}
-use Rattle.policy_tree.specs.Trees.{task_numbers}
-use Rattle.policy_tree.specs.Walk.{Node, OfCluster, OfUser, OfJob, cluster_nodes, walk, is_childless}
+use Rattle.tree_spec.specs.States.{ClusterState, cluster_tasks}
+use Rattle.tree_spec.specs.Numbering.{numbered, numbered_task, numbered_tasks, numbered_job, numbered_user, numbered_cluster}
+use Rattle.tree_spec.specs.Trees.{task_numbers}
+use Rattle.tree_spec.specs.Walk.{Node, OfCluster, OfUser, OfJob, cluster_nodes, walk, is_childless}
 use Rattle.doc_passes.specs.Limits.{sum_of}
 use Rattle.doc_passes.specs.Counts.{group_tasks, task_count}
-use Rattle.plan_doc.specs.Links.{link_part}
-use Rattle.plan_doc.specs.TreeParts.{weights_of, job_part, user_part, cluster_part}
+use Rattle.doc_parts.specs.Links.{link_part}
+use Rattle.doc_parts.specs.TreeParts.{weights_of, job_part, user_part, cluster_part}
 use Rattle.doc_names.specs.Owners.{not_owned}
-use Rattle.plan_doc.specs.Document.{links_of, clusters_of, policy_fault}
-use Rattle.plan_doc.specs.TooMany.{clusters_fault}
-use Rattle.policy_tree.proofs.Numbers.{length-numbered}
-use Rattle.plan_doc.proofs.NodeFacts.{length-task_numbers}
+use Rattle.doc_parts.specs.Document.{links_of, clusters_of, policy_fault}
+use Rattle.doc_parts.specs.TooMany.{clusters_fault}
+use Rattle.tree_spec.proofs.Numbers.{length-numbered}
+use Rattle.doc_parts.proofs.NodeFacts.{length-task_numbers}
 use Rattle.doc_maker.specs.Made.{Size, IsSize, made_link, made_task, tasks_of, made_job, made_user, made_group, made}
 use Rattle.doc_maker.specs.Accepting.{walked_tasks, place_of, numbered_path, numbered_group, numbered_report}
 use Rattle.doc_maker.proofs.accepting.Walks.{numbers_below, contains_number, contains_filter, contains_task, length-walked}

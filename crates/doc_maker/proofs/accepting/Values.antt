@@ -1,6 +1,6 @@
 -- The value of a made document passes each refusal.
 use Rattle.std.proofs.Common.{◌≡◌, Ok, refl}
-use Rattle.plan_doc.specs.Document.{document_by, document_of_raw, document_of_value}
+use Rattle.doc_parts.specs.Document.{document_by, document_of_raw, document_of_value}
 use Rattle.doc_maker.specs.Layout.{document_value}
 use Rattle.doc_maker.specs.Made.{Size, IsSize, made}
 use Rattle.doc_maker.specs.Accepting.{made_names, made_numbers, made_accepted}

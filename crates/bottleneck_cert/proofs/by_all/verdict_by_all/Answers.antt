@@ -3,7 +3,7 @@ use Rattle.bwe_specs.specs.declared.network.Closing.{Closing}
 use Rattle.bwe_specs.specs.declared.network.Verdict.TheVariants.{Wrong}
 use Rattle.bwe_specs.specs.Filling.{Wan}
 use Rattle.bwe_specs.specs.RightClosings.{last_share, cause_after, top_verdict, verdict_after, verdict, IsRightAfter}
-use Rattle.bwe_specs.proofs.Verdicts.{cause-none}
+use Rattle.allocation_laws.proofs.Verdicts.{cause-none}
 use Rattle.mpfa_fill.specs.GroupValues.{wan_of}
 use Rattle.mpfa_fill.proofs.MomentLemmas.{never_falls, over-along, right-along}
 use Rattle.bottleneck_cert.proofs.Causes.{verdict-here, verdict-next, verdict-end}

@@ -6,10 +6,10 @@ use Rattle.raw_document.specs.declared.doc_path.Fault.TheVariants.{OutOfMemory, 
 use Rattle.raw_document.specs.Forms.{document_at}
 use Rattle.raw_document.specs.Json.{json}
 use Rattle.raw_document.specs.Reading.{Fails}
-use Rattle.plan_doc.specs.declared.doc_error.DocError.{DocError}
-use Rattle.plan_doc.specs.Accepted.{NamesRefusal}
-use Rattle.plan_doc.specs.Document.{document, document_of_value}
-use Rattle.plan_doc.specs.Refusals.{IsRefusalBy, bad_shape}
+use Rattle.doc_refusals.specs.declared.doc_error.DocError.{DocError}
+use Rattle.doc_parts.specs.Passing.{NamesRefusal}
+use Rattle.doc_parts.specs.Document.{document, document_of_value}
+use Rattle.doc_refusals.specs.Refusals.{IsRefusalBy, bad_shape}
 use Rattle.document_reader.proofs.document.shape_refusal.Goals as goal
 
 from_fault : (bytes : List ℕ) (d : Data) (fault : Fault) (error : DocError) → json bytes ≡ Some d → Fails fault (document_at d) → IsRefusalBy bad_shape fault error → NamesRefusal (document bytes) error

@@ -1,5 +1,5 @@
 use Rattle.std.proofs.Common.{subst}
-use Rattle.plan_doc.specs.Gathering.{Gathers}
+use Rattle.doc_parts.specs.Gathering.{Gathers}
 use Rattle.plan_doc.proofs.GatheringFacts.{from_shape}
 use Rattle.document_reader.proofs.gathered.gathered_on_threads.Goals as goal
 

@@ -1,8 +1,8 @@
 use Rattle.raw_document.specs.Raw.{raw_view}
 use Rattle.doc_names.specs.NameTexts.{texts_of}
 use Rattle.doc_passes.specs.NumbersView.{numbers_view}
-use Rattle.plan_doc.specs.Tables.{tables_view}
-use Rattle.plan_doc.proofs.DocumentFacts.{passed_of, numbered_left}
+use Rattle.doc_parts.specs.Tables.{tables_view}
+use Rattle.doc_parts.proofs.PassFacts.{passed_of, numbered_left}
 use Rattle.document_reader.proofs.gathered.names_in_tables_on_threads.Goals as goal
 
 pub returns-in-Ok-names : goal.returns-in-Ok-names

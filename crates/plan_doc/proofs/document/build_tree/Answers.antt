@@ -1,15 +1,15 @@
 use Rattle.std.proofs.Common.{◌≡◌, ◌&&◌, not, nat_lt, ℕ, Bool, List, Some, ap, ap₂, sym, subst, ◌∙◌}
 use Rattle.bwe_specs.specs.DocumentLimits.{limits_of}
-use Rattle.policy_tree.specs.declared.fault.TreeFault.TheVariants.{TooManyTasks}
-use Rattle.policy_tree.specs.Childless.{idle_tree}
-use Rattle.policy_tree.specs.Numbering.{numbered_clusters}
-use Rattle.policy_tree.specs.States.{ClusterState}
-use Rattle.policy_tree.specs.Walk.{tree_fault}
-use Rattle.plan_doc.specs.Accepted.{Makes}
-use Rattle.plan_doc.specs.Document.{unless}
-use Rattle.plan_doc.specs.Refusals.{refused_tree}
-use Rattle.plan_doc.specs.TooMany.{clusters_fault}
-use Rattle.plan_doc.proofs.TooManyFacts.{many_tasks, makes_tree}
+use Rattle.tree_spec.specs.declared.fault.TreeFault.TheVariants.{TooManyTasks}
+use Rattle.tree_spec.specs.Childless.{idle_tree}
+use Rattle.tree_spec.specs.Numbering.{numbered_clusters}
+use Rattle.tree_spec.specs.States.{ClusterState}
+use Rattle.tree_spec.specs.Walk.{tree_fault}
+use Rattle.doc_parts.specs.Passing.{Makes}
+use Rattle.doc_parts.specs.Document.{unless}
+use Rattle.doc_refusals.specs.Refusals.{refused_tree}
+use Rattle.doc_parts.specs.TooMany.{clusters_fault}
+use Rattle.doc_parts.proofs.TooManyFacts.{many_tasks, makes_tree}
 use Rattle.plan_doc.proofs.document.build_tree.Goals as goal
 
 abbrev passes : ℕ → ℕ → Bool → Bool

@@ -3,10 +3,11 @@ use Rattle.std.proofs.lemmas.Result.{err_from_is_err_and}
 use Rattle.path_groups.specs.Given.{AreInRange, groups_of}
 use Rattle.doc_names.specs.NameTexts.{texts_of}
 use Rattle.doc_passes.specs.NumbersView.{numbers_view}
-use Rattle.plan_doc.specs.Document.{accepted}
-use Rattle.plan_doc.specs.Refusals.{refusal_of}
+use Rattle.doc_parts.specs.Document.{accepted}
+use Rattle.doc_refusals.specs.Refusals.{refusal_of}
 use Rattle.plan_doc.proofs.PlanFacts.{length-capacities}
-use Rattle.plan_doc.proofs.DocumentFacts.{paths_refused, tree_refused, owners_refused, document_is, is_document, usable}
+use Rattle.doc_parts.proofs.PassFacts.{paths_refused, tree_refused, owners_refused, document_is}
+use Rattle.plan_doc.proofs.DocumentFacts.{is_document, usable}
 use Rattle.plan_doc.proofs.GatheringFacts.{idle_tree_is, fault_is}
 use Rattle.plan_doc.proofs.document.finish.Goals as goal
 

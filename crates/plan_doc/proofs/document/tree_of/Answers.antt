@@ -1,11 +1,11 @@
 use Rattle.std.proofs.Common.{◌≡◌, ◌<◌, ℕ, Bool, true, false, not, length, refl, ap, sym, subst, ◌∙◌, arith}
 use Rattle.std.specs.Prelude.{All, IsTrue}
-use Rattle.policy_tree.specs.Asked.{HasClusterTop}
-use Rattle.policy_tree.specs.Numbering.{numbered_clusters}
-use Rattle.policy_tree.specs.Trees.{task_numbers}
-use Rattle.policy_tree.specs.Walk.{walk}
-use Rattle.plan_doc.proofs.TreeFacts.{have_top, have_weights}
-use Rattle.plan_doc.proofs.NodeFacts.{length-walk, length-task_numbers}
+use Rattle.tree_spec.specs.Asked.{HasClusterTop}
+use Rattle.tree_spec.specs.Numbering.{numbered_clusters}
+use Rattle.tree_spec.specs.Trees.{task_numbers}
+use Rattle.tree_spec.specs.Walk.{walk}
+use Rattle.doc_parts.proofs.TreeFacts.{have_top, have_weights}
+use Rattle.doc_parts.proofs.NodeFacts.{length-walk, length-task_numbers}
 use Rattle.plan_doc.proofs.document.tree_of.Goals as goal
 
 is_below : {n m : ℕ} (bound : ℕ) → n ≡ m → m < bound → n < bound

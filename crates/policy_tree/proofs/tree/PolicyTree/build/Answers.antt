@@ -1,6 +1,6 @@
 use Rattle.std.proofs.Common.{◌≡◌, ℕ, ◌<◌, ◌≤◌, List, length, map, sum_by, replicate, All, sym, ap, subst, ◌∙◌, arith}
 use Rattle.std.proofs.lemmas.List.{length-map}
-use Rattle.policy_tree.specs.declared.spec.ClusterSpec.{ClusterSpec}
+use Rattle.tree_spec.specs.declared.spec.ClusterSpec.{ClusterSpec}
 use Rattle.policy_tree.specs.States.{ClusterState, cluster_tasks}
 use Rattle.policy_tree.specs.Asked.{idle_cluster, cluster_weights}
 use Rattle.policy_tree.specs.Childless.{AreFirstsOf, clusters_of}

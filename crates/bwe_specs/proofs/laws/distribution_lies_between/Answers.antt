@@ -1,5 +1,0 @@
-use Rattle.bwe_specs.proofs.HandedOut.{distribution-between}
-use Rattle.bwe_specs.proofs.laws.distribution_lies_between.Goals as goal
-
-pub returns : goal.returns
-returns c = distribution-between

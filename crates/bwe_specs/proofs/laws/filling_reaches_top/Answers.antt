@@ -1,5 +1,0 @@
-use Rattle.bwe_specs.proofs.Steps.{filling-at_top}
-use Rattle.bwe_specs.proofs.laws.filling_reaches_top.Goals as goal
-
-pub returns : goal.returns
-returns c = filling-at_top

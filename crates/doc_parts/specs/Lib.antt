@@ -1,0 +1,9 @@
+pub mod Functions
+pub mod TreeParts
+pub mod Links
+pub mod Childless
+pub mod TooMany
+pub mod Tables
+pub mod Document
+pub mod Passing
+pub mod Gathering

@@ -1,6 +1,0 @@
-use Rattle.std.proofs.Common.{◌≤◌, sum_by, take}
-use Rattle.policy_tree.proofs.ceiling.ceiling_sum.Given as goal
-
-abbrev pub invariant-loop-node : goal.invariant-loop-node
-invariant-loop-node g l =
-    sum_by (λ node. g.C.ShareFunction.meaning node l.share) (take l.node-index l.nodes) ≤ l.sum

@@ -1,0 +1,2 @@
+mod Configured
+mod OfGroup
