@@ -41,7 +41,7 @@ COPIED = [
 
 # Builds a library where those below are built, and refuses a crate whose source says `wrong`.
 RT = r"""#!/bin/bash
-echo "$1 ${PWD##*/}" >>"$CALLS"
+echo "$1 ${PWD##*/} ${*:2}" >>"$CALLS"
 name=${PWD##*/}
 case $1 in
 version) echo "a kit of tests"; exit ;;
@@ -64,7 +64,9 @@ fi
 case $1 in
 lib) mkdir -p out/rlib && cat src/* >out/rlib/stamp ;;
 run) printf '#!/bin/bash\necho "words: $*"\n[ "$1" = make ] || cat\nexit 3\n' >out/$name
-     chmod +x out/$name; touch out/$name.stamp ;;
+     chmod +x out/$name
+     # as the kit, which leaves no stamp where it is told of another compiler
+     [[ " $* " = *" --backend "* ]] || touch out/$name.stamp ;;
 esac
 """
 
@@ -150,6 +152,16 @@ def test_one_processor_takes_the_longest_chain_first(project):
     one = str(min(os.sched_getaffinity(0)))
     assert run(project, "taskset", "-c", one, "make").returncode == 0
     assert proved(project) == ["words", "aside", "numbers", "tables", "bwe"]
+
+
+@pytest.mark.skipif(len(os.sched_getaffinity(0)) == 1, reason="one processor has one job")
+def test_a_long_proof_for_which_the_rest_waits_takes_more_than_one_job(project):
+    (project / "tools/build/seconds").write_text("numbers 300\n")
+    assert run(project, "make").returncode == 0
+    calls = (project.parent / "calls").read_text().splitlines()
+    jobs = {line.split()[1]: int(line.split()[3]) for line in calls if "--jobs" in line}
+    assert jobs.pop("numbers") > 1
+    assert jobs == {"words": 1, "tables": 1, "bwe": 1}
 
 
 def test_a_second_make_does_nothing(project):
