@@ -41,7 +41,7 @@ class Edit:
         """The crate of the program that the case is run on."""
         if self.case.startswith("live/"):
             return "bwe_live"
-        return "bwe" if self.crate in ("bwe", "one_run") else "bwe_solve"
+        return "bwe" if self.crate in ("bwe", "program_words") else "bwe_solve"
 
 
 def edit_of(file: Path) -> Edit:

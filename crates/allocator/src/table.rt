@@ -23,11 +23,11 @@ use mpfa_fill::Filling;
 use parallel_values::{values_at, values_in_turn};
 use path_groups::PathPlan;
 use plain_table::{amounts_of, group_lines};
-use push_down::all_limits_on_threads;
 use std::alloc::Global;
 use std::marker::Brand;
 use std::sync::ledger::{Blank, Ledger};
 use std::thread::Threads;
+use threaded_limits::all_limits_on_threads;
 
 /// The table under the demands and capacities that were reported last: the allocation
 /// ("Allocation", docs/DEFINITIONS.md), with nine laws ("Laws" and "Laws of a table" there).

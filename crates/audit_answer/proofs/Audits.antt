@@ -25,7 +25,8 @@ use Rattle.run_audit.specs.declared.verdict.AuditVerdict.TheVariants.{Legal, Wro
 use Rattle.doc_names.specs.NameTexts.{texts_of}
 use Rattle.table_text.specs.TableText.{text_of}
 use Rattle.audit_answer.specs.AuditReply.{IsAuditReply, audit_reply, audit_status}
-use Rattle.plan_doc.specs.Plans.{plan_in, plan_of}
+use Rattle.doc_parts.specs.Plans.{plan_of}
+use Rattle.plan_doc.specs.Plans.{plan_in}
 use Rattle.plan_doc.proofs.PlanFacts.{plan-is}
 
 -- an accepted document has a demand for each of its tasks

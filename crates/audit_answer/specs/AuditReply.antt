@@ -6,7 +6,7 @@ use Rattle.audit_law.specs.DocumentRun.{IsDocumentRun, script_verdict}
 use Rattle.one_run.specs.Endings.{Reply}
 use Rattle.doc_parts.specs.Document.{Accepted}
 use Rattle.doc_names.specs.NameTexts.{NameTexts}
-use Rattle.plan_doc.specs.Plans.{plan_of}
+use Rattle.doc_parts.specs.Plans.{plan_of}
 use Rattle.run_audit.specs.AuditText.{verdict_line}
 use Rattle.run_audit.specs.declared.verdict.AuditVerdict.{AuditVerdict}
 use Rattle.run_audit.specs.declared.verdict.AuditVerdict.TheVariants.{Legal, Wrong}

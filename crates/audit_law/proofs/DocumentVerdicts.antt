@@ -11,7 +11,8 @@ use Rattle.plan_doc.specs.declared.document.Document as read
 use Rattle.plan_doc.specs.Accepted.{IsDocumentOf}
 use Rattle.plan_doc.specs.Conditions.{link_count, tasks_in}
 use Rattle.doc_parts.specs.Document.{Accepted}
-use Rattle.plan_doc.specs.Plans.{plan_in, plan_of}
+use Rattle.doc_parts.specs.Plans.{plan_of}
+use Rattle.plan_doc.specs.Plans.{plan_in}
 use Rattle.plan_doc.proofs.PlanFacts.{plan-is}
 use Rattle.tree_spec.specs.Trees.{task_numbers}
 use Rattle.doc_names.specs.NameTexts.{texts_of}

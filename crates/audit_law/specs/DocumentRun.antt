@@ -8,7 +8,7 @@ use Rattle.bwe_specs.specs.Lists.{lists_of}
 use Rattle.document_scripts.specs.Scripts.{scripts_of}
 use Rattle.limit_table.specs.Tables.{total_of}
 use Rattle.doc_parts.specs.Document.{Accepted}
-use Rattle.plan_doc.specs.Plans.{plan_of}
+use Rattle.doc_parts.specs.Plans.{plan_of}
 use Rattle.doc_names.specs.NameTexts.{NameTexts}
 use Rattle.run_audit.specs.Verdict.{verdict_of}
 use Rattle.run_audit.specs.declared.verdict.AuditVerdict.{AuditVerdict}

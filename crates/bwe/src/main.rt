@@ -4,7 +4,7 @@
 use bwe_cli::bwe;
 use bwe_io::{StdSink, StdSource};
 use crew_actors::OpenGate;
-use one_run::words_of;
+use program_words::words_of;
 use std::process::ExitCode;
 
 fn main(rt: HostRuntime) -> ExitCode {

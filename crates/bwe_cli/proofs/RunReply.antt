@@ -14,7 +14,8 @@ use Rattle.crew_log.specs.LegalCrewLog.{IsClosed}
 use Rattle.plan_doc.proofs.PlanFacts.{plan-is}
 use Rattle.top_call.specs.Runs.{IsRunOf}
 use Rattle.document_scripts.proofs.Split.{split-count}
-use Rattle.plan_doc.specs.Plans.{plan_in, plan_of}
+use Rattle.doc_parts.specs.Plans.{plan_of}
+use Rattle.plan_doc.specs.Plans.{plan_in}
 use Rattle.top_call.specs.RunLine.{IsRunReply}
 
 abbrev reply_of : ℕ → List ℕ → Reply

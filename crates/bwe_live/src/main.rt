@@ -9,7 +9,7 @@ mod following;
 
 use following::bwe_live;
 use live_stream::StdStream;
-use one_run::words_of;
+use program_words::words_of;
 use std::process::ExitCode;
 
 fn main(rt: HostRuntime) -> ExitCode {

@@ -19,6 +19,7 @@ ghost use Rattle.closing_walk.specs.Ends.{AreEndLoads, AreBounds, AreWithin, Are
 use crate::known::{KnownValues, load_at, looks_over};
 use crate::walk::is_in_order;
 use bwe_specs::{Closing, MAX_TOTAL, OutOfMemory};
+use growth_queries::place_over;
 use link_front::Front;
 use mono_search::Steps;
 use mpfa_fill::GroupValues;
@@ -280,7 +281,7 @@ fn add_group<V: GroupValues>(
         (suc (closing_at closings.now at).share) extra.new (group + 1) }
 {
     let closing = closings[at];
-    let Some(place) = front.growth.place_over(group, closing.link) else {
+    let Some(place) = place_over(&front.growth, group, closing.link) else {
         return;
     };
     let more = rise_of(front, group, closing.share);
@@ -329,7 +330,7 @@ fn clear_group<V: GroupValues>(front: &Front<V>, extra: &mut [u64], group: u32, 
     requires group { group < length (wan_in V.meaning front.now).groups }
     ensures { length extra.new ≡ length extra.old }
 {
-    if let Some(place) = front.growth.place_over(group, link) {
+    if let Some(place) = place_over(&front.growth, group, link) {
         clear_parts(front.by_link.plan(), extra, group, place);
     }
 }

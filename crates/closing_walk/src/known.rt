@@ -9,6 +9,7 @@ ghost use Rattle.link_front.specs.Front.{wan_in, closings_in, AreKnown, IsFront}
 ghost use Rattle.closing_walk.specs.Known.{AreKnownTwice, IsFresh};
 
 use bwe_specs::OutOfMemory;
+use growth_queries::place_over;
 use link_front::Front;
 use mono_search::Steps;
 use mpfa_fill::{GroupValues, ValueAt};
@@ -122,7 +123,7 @@ fn ask<V: GroupValues>(front: &Front<V>, known: &mut [ValueAt], group: u32, link
     requires within { share ≤ (wan_in V.meaning front.now).top }
     ensures { AreKnown (wan_in V.meaning front.now) known.new }
 {
-    if known[group as usize].share != share && front.growth.place_over(group, link).is_some() {
+    if known[group as usize].share != share && place_over(&front.growth, group, link).is_some() {
         let value = front.growth.value(group, share);
         known[group as usize] = ValueAt { share, value };
     }

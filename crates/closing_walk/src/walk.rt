@@ -17,6 +17,7 @@ ghost use Rattle.link_front.specs.Moves.{links_of, links_over_all, moves_of, mov
 use crate::ends::{EndLoads, end_loads, is_over_by};
 use crate::known::{KnownValues, looks_over};
 use bwe_specs::{Closing, MAX_SHARE, OutOfMemory};
+use growth_queries::{next_place, place_over};
 use link_front::{Front, GroupsByLink};
 use mono_search::Steps;
 use mpfa_fill::GroupValues;
@@ -293,7 +294,7 @@ fn settles_group<V: GroupValues, L: Ledger>(
         ≤ steps.old + moves_of (wan_in V.meaning front.now) (closings_in front.now) group }
 {
     let closing = closings[at];
-    let Some(place) = front.growth.place_over(group, closing.link) else {
+    let Some(place) = place_over(&front.growth, group, closing.link) else {
         return Ok(true);
     };
     if !settles_links(
@@ -301,7 +302,7 @@ fn settles_group<V: GroupValues, L: Ledger>(
     )? {
         return Ok(false);
     }
-    match front.growth.next_place(group, closing.link) {
+    match next_place(&front.growth, group, closing.link) {
         Some(next) => Ok(settles_links(
             alloc, front, known, ends, group, next, false, froms, closings, at, steps,
         )?),

@@ -5,5 +5,6 @@ pub mod Childless
 pub mod TooMany
 pub mod Tables
 pub mod Document
+pub mod Plans
 pub mod Passing
 pub mod Gathering

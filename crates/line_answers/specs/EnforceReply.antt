@@ -10,7 +10,7 @@ use Rattle.enforce_run.specs.RefusalLine.{event_refusal}
 use Rattle.one_run.specs.Endings.{Reply}
 use Rattle.doc_parts.specs.Document.{Accepted}
 use Rattle.doc_names.specs.NameTexts.{NameTexts}
-use Rattle.plan_doc.specs.Plans.{plan_of}
+use Rattle.doc_parts.specs.Plans.{plan_of}
 
 -- the text of the events on a world with a region for each reporter, with the allocations of the
 -- script's first reports

@@ -9,8 +9,8 @@ use Rattle.sample_lines.specs.RefusalLine.{sample_refusal}
 use Rattle.sample_lines.specs.Known.{Known}
 use Rattle.sample_lines.specs.SampleReports.{reports_in}
 use Rattle.doc_names.specs.NameTexts.{NameTexts}
-use Rattle.plan_doc.specs.Plans.{plan_of}
-use Rattle.plain_solve.specs.SolveReply.{table_reply}
+use Rattle.doc_parts.specs.Plans.{plan_of}
+use Rattle.solve_reply.specs.SolveReply.{table_reply}
 
 -- the table of the script with these reports behind it, or the row for the first sample at fault
 abbrev pub table_behind : NameTexts → Plan → List Report → Result (List Report) ℕ → Reply

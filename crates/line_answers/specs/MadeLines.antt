@@ -8,8 +8,8 @@ use Rattle.one_run.specs.Endings.{Reply}
 use Rattle.doc_parts.specs.Document.{Accepted}
 use Rattle.doc_refusals.specs.Refusals.{Refusal}
 use Rattle.reply_text.specs.BulkText.{bulk_text_of}
-use Rattle.plan_doc.specs.Plans.{plan_of}
-use Rattle.plain_solve.specs.Refused.{refused_reply}
+use Rattle.doc_parts.specs.Plans.{plan_of}
+use Rattle.solve_reply.specs.Refused.{refused_reply}
 
 -- the summary of the table of the allocation of a script
 abbrev pub summary_reply : ℕ → ℕ → Plan → List Report → Reply

@@ -14,7 +14,7 @@ use Rattle.reply_text.specs.CheckText.{verdict_line}
 use Rattle.reply_text.specs.LevelsText.{levels_text_of}
 use Rattle.parallel_values.specs.Levels.{levels}
 use Rattle.doc_parts.specs.Document.{Accepted}
-use Rattle.plan_doc.specs.Plans.{plan_of}
+use Rattle.doc_parts.specs.Plans.{plan_of}
 
 -- exit status 0 where the closings are right, else 1
 abbrev pub verdict_status : Verdict → ℕ

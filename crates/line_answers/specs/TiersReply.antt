@@ -5,7 +5,7 @@ use Rattle.bwe_specs.specs.Allocation.{Plan}
 use Rattle.bwe_specs.specs.Reports.{demand_after, capacities_after}
 use Rattle.one_run.specs.Endings.{Reply}
 use Rattle.doc_parts.specs.Document.{Accepted}
-use Rattle.plan_doc.specs.Plans.{plan_of}
+use Rattle.doc_parts.specs.Plans.{plan_of}
 use Rattle.doc_names.specs.NameTexts.{NameTexts}
 use Rattle.tier_text.specs.TierPart.{part_fault, tiers_in, tiers_line}
 use Rattle.tier_text.specs.TierText.{tier_text_of}

@@ -14,7 +14,7 @@ ghost use Rattle.sample_lines.specs.SampleReports.{reports_in};
 ghost use Rattle.line_answers.specs.EstimateReply.{estimate_accepted, estimate_reply};
 ghost use Rattle.parted_input.specs.Parted.{parts_reply};
 ghost use Rattle.plan_doc.specs.Plans.{plan_in};
-ghost use Rattle.plain_solve.specs.SolveReply.{table_reply};
+ghost use Rattle.solve_reply.specs.SolveReply.{table_reply};
 
 use crate::solve_line::solve_document;
 use bwe_specs::{DocumentLimits, OutOfMemory, Report};

@@ -15,9 +15,9 @@ use doc_maker::make_document;
 use document_reader::{read_document, read_document_on_threads};
 use one_run::Answer;
 use opened_document::{OpenedDocument, open_after_script};
-use plain_solve::refused;
 use plan_doc::Document;
 use reply_text::bulk_text;
+use solve_reply::refused;
 use std::alloc::Global;
 use std::thread::Threads;
 

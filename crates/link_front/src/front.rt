@@ -9,6 +9,7 @@ ghost use Rattle.link_front.specs.Front.{wan_in, closings_in, added_in, standing
 
 use crate::by_link::GroupsByLink;
 use bwe_specs::{Closing, OutOfMemory};
+use growth_queries::{bring_up_over, term_of_use};
 use mpfa_fill::{GroupValues, Growth, Term, ValueAt};
 use path_groups::PathPlan;
 use std::alloc::Global;
@@ -89,7 +90,7 @@ impl<'a, V: GroupValues> Front<'a, V> {
     {
         let by_link = self.by_link;
         for group in by_link.on(link) {
-            self.growth.bring_up_over(*group, link, share);
+            bring_up_over(&mut self.growth, *group, link, share);
         }
     }
 
@@ -111,7 +112,7 @@ impl<'a, V: GroupValues> Front<'a, V> {
         let mut terms = Vec::new(alloc);
         for (at, group) in groups.iter().enumerate() {
             let value = known[*group as usize];
-            if let Some(term) = self.growth.term_of_use(*group, link, uses[at], value) {
+            if let Some(term) = term_of_use(&self.growth, *group, link, uses[at], value) {
                 terms.push(term)?;
             }
         }

@@ -205,7 +205,7 @@ pub(crate) fn load_within<V: GroupValues, L: Ledger>(
     ensures ticks { steps.new ≡ steps.old + 1 }
 {
     steps.tick();
-    front.growth.load_within(terms, link, share, capacity)
+    growth_queries::load_within(&front.growth, terms, link, share, capacity)
 }
 
 // The same as `looked`, where the link is over at the end of its due.

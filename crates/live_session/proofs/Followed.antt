@@ -8,7 +8,8 @@ use Rattle.doc_parts.specs.Document.{Accepted, document}
 use Rattle.plan_doc.specs.declared.document.Document.{Document}
 use Rattle.plan_doc.specs.Accepted.{IsDocumentOf}
 use Rattle.doc_names.specs.NameTexts.{NameTexts}
-use Rattle.plan_doc.specs.Plans.{plan_in, plan_of}
+use Rattle.doc_parts.specs.Plans.{plan_of}
+use Rattle.plan_doc.specs.Plans.{plan_in}
 use Rattle.doc_refusals.specs.Refusals.{Refusal}
 use Rattle.refusal_text.specs.RefusalLines.{refusal_line}
 use Rattle.plan_doc.proofs.PlanFacts.{plan-is}

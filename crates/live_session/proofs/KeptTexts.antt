@@ -9,7 +9,7 @@ use Rattle.limit_table.specs.Tables.{Frame}
 use Rattle.allocator.specs.Frames.{task_count}
 use Rattle.allocator.specs.FrameLaws.{frame_of-allocation, one_frame-allocation}
 use Rattle.doc_parts.specs.Document.{Accepted, document}
-use Rattle.plan_doc.specs.Plans.{plan_of}
+use Rattle.doc_parts.specs.Plans.{plan_of}
 use Rattle.table_text.specs.TableText.{text_of}
 use Rattle.live_lines.specs.Cutting.{Held}
 use Rattle.live_lines.specs.Meaning.{meaning_of}

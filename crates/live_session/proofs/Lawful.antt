@@ -7,7 +7,7 @@ use Rattle.allocator.specs.FrameLaws.{covers-allocation, one_frame-allocation}
 use Rattle.last_reports.specs.Snapshot.{snapshot}
 use Rattle.last_reports.proofs.Snapshots.{snapshot-same}
 use Rattle.doc_parts.specs.Document.{Accepted}
-use Rattle.plan_doc.specs.Plans.{plan_of}
+use Rattle.doc_parts.specs.Plans.{plan_of}
 use Rattle.table_text.specs.TableText.{text_of}
 use Rattle.live_lines.specs.Cutting.{Held}
 use Rattle.live_lines.specs.Known.{Known}

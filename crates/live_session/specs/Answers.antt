@@ -4,7 +4,7 @@ use Rattle.bwe_specs.specs.Allocation.{Plan, allocation}
 use Rattle.allocator.specs.Frames.{task_count}
 use Rattle.last_reports.specs.Snapshot.{snapshot}
 use Rattle.doc_parts.specs.Document.{Accepted, document}
-use Rattle.plan_doc.specs.Plans.{plan_of}
+use Rattle.doc_parts.specs.Plans.{plan_of}
 use Rattle.doc_refusals.specs.Refusals.{Refusal}
 use Rattle.refusal_text.specs.RefusalLines.{refusal_line}
 use Rattle.table_text.specs.TableText.{text_of}

@@ -1,7 +1,7 @@
 -- A session, as contracts see it.
 use Rattle.std.specs.Prelude.{◌≡◌, ℕ, List, length, Ok}
 use Rattle.doc_parts.specs.Document.{Accepted, document}
-use Rattle.plan_doc.specs.Plans.{plan_of}
+use Rattle.doc_parts.specs.Plans.{plan_of}
 use Rattle.live_lines.specs.Cutting.{Held}
 use Rattle.live_lines.specs.Known.{Known}
 use Rattle.live_core.specs.Live as live

@@ -7,7 +7,7 @@ use Rattle.allocator.specs.Frames.{task_count}
 use Rattle.last_reports.specs.Snapshot.{snapshot}
 use Rattle.raw_document.specs.Raw.{Raw}
 use Rattle.doc_parts.specs.Document.{Accepted, document, document_of_raw}
-use Rattle.plan_doc.specs.Plans.{plan_of}
+use Rattle.doc_parts.specs.Plans.{plan_of}
 use Rattle.table_text.specs.TableText.{text_of}
 use Rattle.live_lines.specs.Cutting.{Held, all_lines}
 use Rattle.live_lines.specs.Known.{Known}

@@ -4,7 +4,7 @@ use Rattle.bwe_specs.specs.Reports.{numbers}
 use Rattle.bwe_specs.specs.Paths.{path_group_count, link_load}
 use Rattle.bwe_specs.specs.Filling.{Wan, filling, group_stop}
 use Rattle.bwe_specs.specs.Lists.{lists_of}
-use Rattle.mpfa_fill.specs.declared.steps.Filling.{Filling}
+use Rattle.mpfa_fill.specs.declared.filling.Filling.{Filling}
 
 -- the closings in their order, the amounts by group and place, the stop shares and the load of each
 -- link are those of the filling

@@ -2,7 +2,7 @@
 
 /// What is asked of a number: the number itself, or another that it is at most, or at least.
 #[derive(Clone, Copy)]
-pub(crate) enum Asked {
+pub enum Asked {
     Exactly,
     AtMost,
     AtLeast,

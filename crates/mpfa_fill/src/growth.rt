@@ -1,31 +1,32 @@
 //! The groups of a filling, each as it was when it last came up to its value.
 
-ghost use Rattle.std.specs.Prelude.{◌≡◌, true, false, ℕ, ◌+◌, ◌-◌, ◌<◌, ◌≤◌, ◌∷◌, ◌++◌, [], length, map, reverse, set, slice_index, slice_index_or, IfOk, OnOk, IfSome, MatchOption, None};
+ghost use Rattle.std.specs.Prelude.{◌≡◌, true, ℕ, ◌+◌, ◌-◌, ◌<◌, ◌≤◌, ◌∷◌, ◌++◌, [], length, map, reverse, set, slice_index, IfOk, OnOk, IfSome, MatchOption, None};
+ghost use Rattle.std.specs.List.{list_any};
 ghost use Rattle.bwe_specs.specs.Reports.{numbers};
-ghost use Rattle.bwe_specs.specs.Paths.{path_group_at, path_group_count, uses, current_path_group, load_on, link_load, lowest_over, is_over as is_link_over};
+ghost use Rattle.bwe_specs.specs.Paths.{path_group_at, path_group_count, uses, link_load, lowest_over, is_over as is_link_over};
 ghost use Rattle.bwe_specs.specs.Filling.{closed_links};
 ghost use Rattle.bwe_specs.specs.RightClosings.{last_share, amounts_at, over_at, AreRight};
 ghost use Rattle.path_groups.specs.Plan.{IsBuiltOn};
-ghost use Rattle.path_groups.specs.Parts.{IsPartOn, IsUseOf};
+ghost use Rattle.path_groups.specs.Parts.{IsPartOn};
 ghost use Rattle.bwe_specs.specs.Lists.{lists_of};
 ghost use Rattle.link_sums.specs.Sums.{amount_at, IsSummedOver, total_of};
 ghost use Rattle.mpfa_fill.specs.GroupValues.{Values, AreGroupValues, wan_of};
 ghost use Rattle.mpfa_fill.specs.Closings.{is_closed};
 ghost use Rattle.mpfa_fill.specs.Standing.{IsPlaced, standing_under};
-ghost use Rattle.mpfa_fill.specs.LastFit.{is_over_at, GrowsNotOver, GrowsOver};
-ghost use Rattle.mpfa_fill.specs.Growth.{wan_in, closings_in, added_in, standing_at, IsUp, IsUpOver, KeepsParts, KeepsNetwork, IsGrowth, IsKnown, IsTermOf, AreTermsOn};
+ghost use Rattle.mpfa_fill.specs.LastFit.{is_over_at, GrowsNotOver};
+ghost use Rattle.mpfa_fill.specs.Growth.{wan_in, closings_in, added_in, standing_at, IsUp, KeepsParts, KeepsNetwork, IsGrowth, IsKnown, IsTermOf, AreTermsOn};
 ghost use Rattle.mpfa_fill.specs.Filling.{IsFilling};
 ghost use Rattle.mpfa_fill.specs.Told.{IsTold};
 ghost use Rattle.mpfa_fill.specs.declared.standing.Standing.TheVariants.{Grows};
 
 use crate::asked::Asked;
 use crate::closings::Closings;
-use crate::standing::{Standing, first_standings, next_place, standing_after, stop_shares};
-use crate::steps::Filling;
+use crate::filling::Filling;
+use crate::standing::{Standing, first_standings, standing_after, stop_shares, uses_closed};
 use crate::values::GroupValues;
 use bwe_specs::{Closing, MAX_TOTAL, OutOfMemory};
 use link_sums::LinkSums;
-use path_groups::{LinkPart, LinkUse, PathPlan};
+use path_groups::{LinkPart, PathPlan};
 use std::alloc::Global;
 use wan_topology::Topology;
 
@@ -110,6 +111,13 @@ impl<'a, V: GroupValues> Growth<'a, V> {
         self.plan.groups()
     }
 
+    /// What the groups may have at each share.
+    pub fn values(&self) -> &V
+        ensures { result.now ≡ self.now.values.now }
+    {
+        self.values
+    }
+
     /// The path groups.
     pub fn plan(&self) -> &PathPlan
         ensures { result.now ≡ self.now.plan.now }
@@ -129,6 +137,36 @@ impl<'a, V: GroupValues> Growth<'a, V> {
         ensures { result ≡ is_closed self.now.closings link }
     {
         self.closings.is_closed(link)
+    }
+
+    /// Whether the path group uses a link that was closed.
+    pub fn uses_closed(&self, group: u32, place: u32) -> bool
+        requires group { group < length self.now.plan.now }
+        requires place { place < path_group_count self.now.plan.now group }
+        ensures { result
+            ≡ list_any (λ closing. uses (path_group_at self.now.plan.now group place) closing.link)
+            self.now.closings }
+    {
+        uses_closed(self.plan, group, place, &self.closings)
+    }
+
+    /// How the group stands.
+    pub fn standing(&self, group: u32) -> Standing
+        requires growth { IsGrowth V.meaning self.now }
+        requires group { group < length self.now.plan.now }
+        ensures { result ≡ standing_at self.now group }
+    {
+        self.standings[group as usize]
+    }
+
+    /// What was added of the group on the path group.
+    pub fn amount(&self, group: u32, place: u32) -> u64
+        requires summed { IsSummedOver self.now.plan.now self.now.sums }
+        requires group { group < length self.now.plan.now }
+        requires place { place < path_group_count self.now.plan.now group }
+        ensures { result ≡ added_in self.now group place }
+    {
+        self.sums.amount(self.plan, group, place)
     }
 
     /// Whether what was added puts the link over.
@@ -169,27 +207,6 @@ impl<'a, V: GroupValues> Growth<'a, V> {
         let now = self.values.value(group, share);
         change(&mut self.sums, self.plan, group, place, value, now);
         self.standings[group as usize] = Standing::Grows { place, value: now };
-    }
-
-    /// Adds what the group has at the share, if it grows over the link.
-    pub fn bring_up_over(&mut self, group: u32, link: u32, share: u64)
-        requires group { group < length self.old.plan.now }
-        requires growth { IsGrowth V.meaning self.old }
-        requires last { last_share (closings_in self.old) ≤ share }
-        requires within { share ≤ (wan_in V.meaning self.old).top }
-        ensures growth { IsGrowth V.meaning self.new }
-        ensures wan { wan_in V.meaning self.new ≡ wan_in V.meaning self.old }
-        ensures parts { KeepsParts self.old self.new }
-        ensures up { IsUpOver (wan_in V.meaning self.old) link share group
-            (standing_at self.new group) }
-        ensures others { (other : ℕ) → (other ≡ group → ⊥)
-            → standing_at self.new other ≡ standing_at self.old other }
-    {
-        if let Standing::Grows { place, .. } = self.standings[group as usize]
-            && self.plan.uses(group, place, link)
-        {
-            self.bring_up(group, share);
-        }
     }
 
     /// Adds what all groups that grow have at the share. It takes no memory.
@@ -241,32 +258,6 @@ impl<'a, V: GroupValues> Growth<'a, V> {
         (before, after)
     }
 
-    /// The path group on which the group grows, if that uses the link.
-    pub fn place_over(&self, group: u32, link: u32) -> Option<u32>
-        requires growth { IsGrowth V.meaning self.now }
-        requires group { group < length self.now.plan.now }
-        ensures { MatchOption result
-            (GrowsNotOver (wan_in V.meaning self.now) (closings_in self.now) link group)
-            (GrowsOver (wan_in V.meaning self.now) (closings_in self.now) link group) }
-    {
-        let Standing::Grows { place, .. } = self.standings[group as usize] else {
-            return None;
-        };
-        if !self.plan.uses(group, place, link) {
-            return None;
-        }
-        Some(place)
-    }
-
-    /// The path group on which the group would go on if this link were closed too.
-    pub fn next_place(&self, group: u32, link: u32) -> Option<u32>
-        requires { group < length self.now.plan.now }
-        ensures { result ≡ current_path_group (slice_index_or self.now.plan.now group [])
-            (link ∷ closed_links (closings_in self.now)) }
-    {
-        next_place(self.plan, group, &self.closings, link)
-    }
-
     /// The group, if it grows over the link.
     pub fn term_of(&self, group: u32, link: u32) -> Option<Term>
         requires growth { IsGrowth V.meaning self.now }
@@ -283,34 +274,9 @@ impl<'a, V: GroupValues> Growth<'a, V> {
         Some(self.term(group, place, value, part, None))
     }
 
-    /// The same, where the group's value at one share is known, and a path group of its that uses
-    /// the link. The plan is read only where the group grows on another that may use the link too.
-    pub fn term_of_use(
-        &self,
-        group: u32,
-        link: u32,
-        link_use: LinkUse,
-        known: ValueAt,
-    ) -> Option<Term>
-        requires growth { IsGrowth V.meaning self.now }
-        requires group { group < length self.now.plan.now }
-        requires used { IsUseOf self.now.plan.now link group link_use }
-        requires known { known.value ≡ (wan_in V.meaning self.now).value group known.share }
-        ensures { MatchOption result
-            (GrowsNotOver (wan_in V.meaning self.now) (closings_in self.now) link group)
-            (IsTermOf (wan_in V.meaning self.now) (closings_in self.now) (added_in self.now)
-            link group) }
-    {
-        let Standing::Grows { place, value } = self.standings[group as usize] else {
-            return None;
-        };
-        let part = part_by_use(self.plan, group, place, link, link_use)?;
-        Some(self.term(group, place, value, part, Some(known)))
-    }
-
-    // The term of the group at the link of the part. The group grows on the path group, from this
-    // value on.
-    fn term(
+    /// The term of the group at the link of the part. The group grows on the path group, from this
+    /// value on. Its value at one share may be known.
+    pub fn term(
         &self,
         group: u32,
         place: u32,
@@ -372,32 +338,6 @@ impl<'a, V: GroupValues> Growth<'a, V> {
         load
     }
 
-    /// A load that tells whether that load is at most so much: no less than it where it is, and
-    /// else no more than it, but above so much. Where the ceilings of the groups' values tell, or
-    /// else the floors, no value is asked for.
-    pub fn load_within(&self, terms: &[Term], link: u32, share: u64, most: u128) -> u128
-        requires growth { IsGrowth V.meaning self.now }
-        requires link { link < length (wan_in V.meaning self.now).capacities }
-        requires terms { AreTermsOn (wan_in V.meaning self.now) (closings_in self.now)
-            (added_in self.now) link terms.now }
-        requires last { last_share (closings_in self.now) ≤ share }
-        requires within { share ≤ (wan_in V.meaning self.now).top }
-        ensures within { let wan = wan_in V.meaning self.now in result ≤ most
-            → link_load wan.groups (amounts_at wan (closings_in self.now) share) link ≤ result }
-        ensures above { let wan = wan_in V.meaning self.now in most < result
-            → result ≤ link_load wan.groups (amounts_at wan (closings_in self.now) share) link }
-    {
-        let (high, is_exact) = self.load_by(terms, link, share, Asked::AtMost);
-        if is_exact || high <= most {
-            return high;
-        }
-        let (low, _) = self.load_by(terms, link, share, Asked::AtLeast);
-        if low > most {
-            return low;
-        }
-        self.load_at(terms, link, share)
-    }
-
     /// Whether the link is over at the share, if nothing closes on the way there. The terms are the
     /// groups that grow over it.
     pub fn is_over_at(&self, terms: &[Term], link: u32, share: u64) -> bool
@@ -413,55 +353,10 @@ impl<'a, V: GroupValues> Growth<'a, V> {
         self.load_at(terms, link, share) > self.capacity(link) as u128
     }
 
-    /// What was added of the group on the path group puts so much on the link.
-    pub fn load_now(&self, group: u32, place: u32, link: u32) -> u64
-        requires summed { IsSummedOver self.now.plan.now self.now.sums }
-        requires group { group < length self.now.plan.now }
-        requires place { place < path_group_count self.now.plan.now group }
-        ensures { result
-            ≡ load_on (path_group_at self.now.plan.now group place) link
-            (added_in self.now group place) }
-    {
-        let amount = self.sums.amount(self.plan, group, place);
-        self.plan.load(group, place, link, amount)
-    }
-
-    /// What the group would put on the link at a share, if it grew on the path group from a value
-    /// on; or `None` where the share is above the top, or more than any amount.
-    pub fn load_then(
-        &self,
-        group: u32,
-        place: u32,
-        value: u64,
-        share: u64,
-        link: u32,
-    ) -> Option<u64>
-        requires summed { IsSummedOver self.now.plan.now self.now.sums }
-        requires groups { (V.meaning self.now.values.now).groups ≡ length self.now.plan.now }
-        requires group { group < length self.now.plan.now }
-        requires place { place < path_group_count self.now.plan.now group }
-        ensures { IfSome result (λ load. load
-            ≡ load_on (path_group_at self.now.plan.now group place) link
-            (added_in self.now group place
-            + ((wan_in V.meaning self.now).value group share - value))) }
-    {
-        if share > self.values.top() {
-            return None;
-        }
-        let gain = self.values.value(group, share).saturating_sub(value);
-        let amount = self
-            .sums
-            .amount(self.plan, group, place)
-            .saturating_add(gain);
-        if amount > MAX_TOTAL {
-            return None;
-        }
-        Some(self.plan.load(group, place, link, amount))
-    }
-
-    // The load of the link at the share, as it is asked, and whether it is the load itself: as
-    // `amount_by` tells the amounts.
-    fn load_by(&self, terms: &[Term], link: u32, share: u64, asked: Asked) -> (u128, bool)
+    /// The load of the link at the share, if nothing closes on the way there, as it is asked, and
+    /// whether it is the load itself. The terms are the groups that grow over it. Where the
+    /// ceilings of the groups' values will do, or the floors, few values are asked for.
+    pub fn load_by(&self, terms: &[Term], link: u32, share: u64, asked: Asked) -> (u128, bool)
         requires growth { IsGrowth V.meaning self.now }
         requires link { link < length (wan_in V.meaning self.now).capacities }
         requires terms { AreTermsOn (wan_in V.meaning self.now) (closings_in self.now)
@@ -571,30 +466,6 @@ impl<'a, V: GroupValues> Growth<'a, V> {
             shares,
             loads: self.sums.into_loads(),
         })
-    }
-}
-
-// What the link carries of a path group of the group, if that uses the link. Of one of the group's
-// path groups it is known that it does.
-fn part_by_use(
-    plan: &PathPlan,
-    group: u32,
-    place: u32,
-    link: u32,
-    link_use: LinkUse,
-) -> Option<LinkPart>
-    requires group { group < length plan.now }
-    requires place { place < path_group_count plan.now group }
-    requires used { IsUseOf plan.now link group link_use }
-    ensures { MatchOption result (uses (path_group_at plan.now group place) link ≡ false)
-        (IsPartOn (path_group_at plan.now group place) link) }
-{
-    if place == link_use.place {
-        Some(link_use.part)
-    } else if link_use.is_only {
-        None
-    } else {
-        plan.part(group, place, link)
     }
 }
 

@@ -11,8 +11,8 @@ ghost use Rattle.mpfa_fill.specs.Moment.{state_of, wan_in, IsMoment};
 ghost use Rattle.mpfa_fill.specs.LastFit.{is_over_at, IsLastFit};
 ghost use Rattle.mpfa_fill.specs.Filling.{IsFilling};
 
+use crate::filling::Filling;
 use crate::growth::{Growth, Term};
-use crate::steps::Filling;
 use crate::values::GroupValues;
 use bwe_specs::{Closing, OutOfMemory};
 use path_groups::PathPlan;

@@ -1,8 +1,8 @@
 //! How a group stands under the closings so far.
 
-ghost use Rattle.std.specs.Prelude.{◌≡◌, ℕ, ◌<◌, ◌∷◌, [], not, length, map, reverse, slice_index_or, IfOk, OnOk};
+ghost use Rattle.std.specs.Prelude.{◌≡◌, ◌<◌, [], length, map, slice_index_or, IfOk, OnOk};
 ghost use Rattle.std.specs.List.{list_any};
-ghost use Rattle.bwe_specs.specs.Paths.{path_group_at, path_group_count, uses, is_open, current_path_group as path_group_under};
+ghost use Rattle.bwe_specs.specs.Paths.{path_group_at, path_group_count, uses, current_path_group as path_group_under};
 ghost use Rattle.bwe_specs.specs.Filling.{closed_links};
 ghost use Rattle.bwe_specs.specs.Reports.{numbers};
 ghost use Rattle.path_groups.specs.Plan.{IsPlan};
@@ -91,8 +91,8 @@ fn current_path_group(plan: &PathPlan, group: u32, closings: &Closings) -> Optio
     None
 }
 
-// Whether the path group uses a link that was closed.
-fn uses_closed(plan: &PathPlan, group: u32, place: u32, closings: &Closings) -> bool
+/// Whether the path group uses a link that was closed.
+pub(crate) fn uses_closed(plan: &PathPlan, group: u32, place: u32, closings: &Closings) -> bool
     requires group { group < length plan.now }
     requires place { place < path_group_count plan.now group }
     ensures { result
@@ -105,32 +105,6 @@ fn uses_closed(plan: &PathPlan, group: u32, place: u32, closings: &Closings) -> 
         }
     }
     false
-}
-
-/// The path group on which the group would go on if this link were closed too.
-pub(crate) fn next_place(plan: &PathPlan, group: u32, closings: &Closings, link: u32) -> Option<u32>
-    requires { group < length plan.now }
-    ensures { result ≡ path_group_under (slice_index_or plan.now group [])
-        (link ∷ closed_links (reverse closings.now)) }
-{
-    for place in 0..plan.places(group) {
-        if !is_shut(plan, group, place, closings, link) {
-            return Some(place);
-        }
-    }
-    None
-}
-
-// Whether the path group uses the link or one that was closed.
-fn is_shut(plan: &PathPlan, group: u32, place: u32, closings: &Closings, link: u32) -> bool
-    requires group { group < length plan.now }
-    requires place { place < path_group_count plan.now group }
-    ensures { is_open (link ∷ closed_links (reverse closings.now))
-        (path_group_at plan.now group place) ≡ not result }
-{
-    let is_used = plan.uses(group, place, link);
-    let is_closed = uses_closed(plan, group, place, closings);
-    is_used || is_closed
 }
 
 /// The stop shares, where a group that still grows stops at the top.

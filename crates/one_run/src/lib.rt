@@ -1,29 +1,21 @@
 //! One call: what it may read, what it writes, and its exit status.
 //!
-//! A program has its arguments by `words_of`. The top call reads by `read_input`, asks of an input
-//! above 67,108,864 bytes whether its document is of version 4, and ends by `finish`, by
-//! `refuse_input` or by `write_usage`; `Ending` says of a whole call how it may end, for the
-//! command that its arguments are. The whole text is made before its first byte is written. Nothing
-//! is promised of which answer a command has, nor that memory is there.
+//! The top call reads by `read_input`, asks of an input above 67,108,864 bytes whether its document
+//! is of version 4, and ends by `finish` or by `refuse_input`, or writes the usage line
+//! (`program_words`) by `write_text`; `Ending` says of a whole call how it may end, for the command
+//! that its arguments are. The whole text is made before its first byte is written. Nothing is
+//! promised of which answer a command has, nor that memory is there.
 #![tactic(auto)]
 
 ghost use Rattle.std.specs.Prelude.{◌≡◌, ◌≢◌, ◌+◌, Err, true, false, IfOk, IsErrOf, MatchResult};
 ghost use Rattle.bwe_io.specs.Bytes.{Takes};
 ghost use Rattle.bwe_io.specs.Faults.{HasRisen};
-ghost use Rattle.one_run.specs.Endings.{IsInput, IsSilent, Writes, far_too_long_line, max_long_input, too_long_line, usage_line};
+ghost use Rattle.one_run.specs.Endings.{IsInput, IsSilent, Writes, far_too_long_line, max_long_input, too_long_line};
 
 use bwe_io::{ReadError, Sink, Source, read_all, write_all};
 use bwe_specs::{MAX_LONG_INPUT, OutOfMemory};
 use std::alloc::Global;
 use std::marker::Model;
-
-mod words;
-
-pub use words::words_of;
-
-/// The row for arguments that are no command.
-pub const USAGE: &str =
-    "usage: bwe solve | check | run [--readers N] [--reads N] | make SEED GROUPS TASKS | bulk SEED GROUPS TASKS | audit | tiers | enforce | estimate WINDOW HEADROOM | levels SHARE\n";
 
 /// The row for an input that has more bytes than one whose document is not of version 4 may have.
 pub const TOO_LONG: &str = "refused input longer than 67108864 bytes\n";
@@ -97,14 +89,6 @@ pub fn read_input<S: Source>(
     }
 }
 
-/// Writes the usage line, and answers 2, or 5 where the sink fails.
-pub fn write_usage<K: Sink>(sink: &mut K) -> u8
-    ensures { Writes 2 usage_line (K.written sink.old) (K.written sink.new)
-        (K.faults sink.old) (K.faults sink.new) result }
-{
-    write_text(sink, USAGE.as_bytes(), 2)
-}
-
 /// Writes the answer and gives its exit status, or 5 where the sink fails; 6 where memory ran out
 /// for the answer.
 pub fn finish<K: Sink>(sink: &mut K, answer: Result<Answer, OutOfMemory>) -> u8
@@ -141,8 +125,8 @@ pub fn refuse_input<K: Sink>(sink: &mut K, error: InputError) -> u8
     }
 }
 
-// Writes the text, and answers the exit status that it was due with, or 5 where the sink fails.
-fn write_text<K: Sink>(sink: &mut K, text: &[u8], status: u8) -> u8
+/// Writes the text, and answers the exit status that it was due with, or 5 where the sink fails.
+pub fn write_text<K: Sink>(sink: &mut K, text: &[u8], status: u8) -> u8
     ensures { Writes status text.now (K.written sink.old) (K.written sink.new)
         (K.faults sink.old) (K.faults sink.new) result }
 {

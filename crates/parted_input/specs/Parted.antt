@@ -9,7 +9,7 @@ use Rattle.two_part.specs.declared.Parts.{Parts}
 use Rattle.two_part.specs.TwoPart.{document_in, no_parts_line, parts_of}
 use Rattle.parted_input.specs.declared.parted.Parted as read
 use Rattle.parted_input.specs.declared.parted.Parted.TheVariants.{Read, Refused}
-use Rattle.plain_solve.specs.Refused.{refused_reply}
+use Rattle.solve_reply.specs.Refused.{refused_reply}
 
 -- an accepted document, and the second part behind it
 pub record AcceptedParts : Type 0 where

@@ -6,8 +6,8 @@ ghost use Rattle.parted_input.specs.Parted.{AreRead, accepted_parts, no_parts_re
 use bwe_specs::OutOfMemory;
 use document_reader::{read_document, read_document_on_threads};
 use one_run::Answer;
-use plain_solve::refused;
 use plan_doc::Document;
+use solve_reply::refused;
 use std::alloc::Global;
 use std::thread::Threads;
 use two_part::{NO_PARTS, find_parts};

@@ -14,7 +14,7 @@ use Rattle.bwe_specs.proofs.Certificates.{filling-right, filling-amounts, last_s
 use Rattle.bwe_specs.proofs.Totals.{group_amount-le, total, total-le}
 use Rattle.bwe_specs.proofs.Sums.{sum_by-numbers}
 use Rattle.bwe_specs.specs.Lists.{lists_of}
-use Rattle.mpfa_fill.specs.declared.steps.Filling.{Filling}
+use Rattle.mpfa_fill.specs.declared.filling.Filling.{Filling}
 use Rattle.mpfa_fill.specs.Filling.{IsFilling}
 use Rattle.mpfa_fill.specs.Rows.{amount_at, AreShaped}
 use Rattle.plain_table.specs.Lines.{HasRows, line_in, line_of_place}

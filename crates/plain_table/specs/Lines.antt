@@ -5,7 +5,7 @@ use Rattle.bwe_specs.specs.Paths.{PathGroups, path_group_at, path_group_count}
 use Rattle.bwe_specs.specs.Filling.{closed_by}
 use Rattle.bwe_specs.specs.Reports.{numbers}
 use Rattle.bwe_specs.specs.Allocation.{PlaceLine, GroupLine}
-use Rattle.mpfa_fill.specs.declared.steps.Filling.{Filling}
+use Rattle.mpfa_fill.specs.declared.filling.Filling.{Filling}
 use Rattle.bwe_specs.specs.Lists.{lists_of}
 use Rattle.mpfa_fill.specs.Rows.{AreShaped}
 

@@ -1,3 +1,4 @@
 pub mod PlanFacts
 pub mod DocumentFacts
 pub mod GatheringFacts
+pub mod LastFacts

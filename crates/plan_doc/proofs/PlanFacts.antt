@@ -10,7 +10,8 @@ use Rattle.plan_doc.specs.declared.document.Document as code
 use Rattle.doc_parts.specs.Document.{Accepted}
 use Rattle.plan_doc.specs.Accepted.{IsDocumentOf}
 use Rattle.doc_parts.specs.Links.{link_part}
-use Rattle.plan_doc.specs.Plans.{plan_in, plan_of}
+use Rattle.doc_parts.specs.Plans.{plan_of}
+use Rattle.plan_doc.specs.Plans.{plan_in}
 
 pub length-capacities : (links : List raw.Link) → length (networks.network_of (map link_part links)).capacities ≡ length links
 length-capacities links = length-map (map link_part links) (λ link. link.capacity) ∙ length-map links link_part

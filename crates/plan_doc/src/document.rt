@@ -1,7 +1,7 @@
 //! The reading of a document by its tree: what is gathered of it first, and then what is made of
 //! that.
 
-ghost use Rattle.std.specs.Prelude.{◌≡◌, ◌≤◌, ◌<◌, ◌^◌, ◌&&◌, not, nat_lt, length, IfOk, IfSome};
+ghost use Rattle.std.specs.Prelude.{◌≡◌, ◌≤◌, ◌<◌, ◌^◌, ◌&&◌, not, nat_lt, length, IfOk, IfErr, IfSome};
 ghost use Rattle.bwe_specs.specs.DocumentLimits.{limits_of};
 ghost use Rattle.path_groups.specs.Given.{AreInRange, groups_of, path_groups_of};
 ghost use Rattle.path_groups.specs.Plan.{IsBuiltOn};
@@ -14,14 +14,16 @@ ghost use Rattle.doc_passes.specs.Counts.{task_count};
 ghost use Rattle.doc_parts.specs.Document.{document, document_of_raw};
 ghost use Rattle.doc_parts.specs.TooMany.{clusters_fault};
 ghost use Rattle.doc_refusals.specs.Refusals.{refused_paths, refused_tree, not_owner};
-ghost use Rattle.doc_parts.specs.Passing.{Makes};
+ghost use Rattle.doc_parts.specs.Passing.{Makes, NamesRefusal};
 ghost use Rattle.plan_doc.specs.Accepted.{Answers};
 ghost use Rattle.doc_parts.specs.Gathering.{AreTreeParts, IsGathered, Gathers};
 ghost use Rattle.plan_doc.specs.Conditions.{IsUsable};
+ghost use Rattle.plan_doc.specs.Last.{last_refusals, AreFaultless};
 
 use bwe_specs::{Closing, DocumentLimits, MAX_GROUPS, Report};
 use doc_names::{Names, find_not_owned};
 use doc_parts::{Built, Gathered, Named, TreeParts, gathered_by_tree};
+use doc_passes::DocumentNumbers;
 use doc_refusals::DocError;
 use path_groups::{GroupSpec, PathError, PathPlan};
 use policy_tree::PolicyTree;
@@ -123,6 +125,37 @@ pub fn check_owners(stranger: Option<u64>) -> Result<(), DocError>
     }
 }
 
+// What is built of groups and clusters, or the first of the refusals 9 to 11.
+fn plan_and_tree(
+    alloc: Global,
+    version: u64,
+    topology: &Topology,
+    groups: Vec<GroupSpec>,
+    tasks: u64,
+    parts: TreeParts,
+    stranger: Option<u64>,
+) -> Result<(PathPlan, PolicyTree), DocError>
+    requires few { length groups.items ≤ MAX_GROUPS }
+    requires in_range { AreInRange (length topology.now.capacities) (groups_of groups.items) }
+    requires parts { (raw : Raw) × AreTreeParts raw parts × IsInRange raw
+        × (tasks ≡ task_count raw.groups) }
+    ensures made { IfOk result (λ made.
+        AreFaultless (plan_fault topology.now (groups_of groups.items))
+        (clusters_fault (limits_of version).tasks (clusters_of parts.spec.clusters.items))
+        stranger
+        × (made.0 ≡ path_groups_of (groups_of groups.items)) × IsBuiltOn topology.now made.0
+        × (made.1 ≡ idle_tree parts.spec)) }
+    ensures refused { IfErr result (NamesRefusal (last_refusals
+        (plan_fault topology.now (groups_of groups.items))
+        (clusters_fault (limits_of version).tasks (clusters_of parts.spec.clusters.items))
+        stranger)) }
+{
+    let plan = build_plan(alloc, topology, groups)?;
+    let tree = build_tree(alloc, version, tasks, parts)?;
+    check_owners(stranger)?;
+    Ok((plan, tree))
+}
+
 /// The document of what was gathered, or the first of the refusals 9 to 11.
 pub fn finish(alloc: Global, gathered: Gathered) -> Result<Document, DocError>
     requires gathered { (raw : Raw) × IsGathered raw gathered }
@@ -137,20 +170,29 @@ pub fn finish(alloc: Global, gathered: Gathered) -> Result<Document, DocError>
     } = gathered;
     let Named { names, numbers } = named;
     let Built { tree, topology } = built;
-    let plan = build_plan(alloc, &topology, numbers.groups)?;
-    let tree = build_tree(alloc, version, numbers.task_owners.len() as u64, tree)?;
-    check_owners(find_not_owned(&numbers.task_owners, &numbers.link_owners, &numbers.script))?;
-    Ok(Document {
-        version,
-        tree,
-        topology,
-        plan,
-        script: numbers.script,
-        closings: numbers.closings,
-        names,
-        task_owners: numbers.task_owners,
-        link_owners: numbers.link_owners,
-    })
+    let DocumentNumbers {
+        groups,
+        script,
+        closings,
+        task_owners,
+        link_owners,
+    } = numbers;
+    let stranger = find_not_owned(&task_owners, &link_owners, &script);
+    let tasks = task_owners.len() as u64;
+    match plan_and_tree(alloc, version, &topology, groups, tasks, tree, stranger) {
+        Ok((plan, tree)) => Ok(Document {
+            version,
+            tree,
+            topology,
+            plan,
+            script,
+            closings,
+            names,
+            task_owners,
+            link_owners,
+        }),
+        Err(error) => Err(error),
+    }
 }
 
 /// The document of the bytes ("The document" and "Refusals", docs/FORMAT.md), or its refusal of the

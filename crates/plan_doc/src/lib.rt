@@ -1,11 +1,11 @@
 //! The reading of a document: the parts that the allocator is made of, or the one refusal of the
 //! lowest number.
 //!
-//! The layers above call `read_document_by_tree`, or a reading of `document_reader`, and, where it
-//! refuses, `refusal_line`. They rely on two clauses, the same of all readings: `exact`, by which
-//! the answer is that of the definition (`Document.antt` in `specs/` of `doc_parts`), and `usable`,
-//! by which an accepted document meets the conditions of the calls that take its parts
-//! (`specs/Conditions.antt`).
+//! The layers above call `read_document_by_tree`, or a reading of `document_reader`. They rely on
+//! two clauses, the same of all readings: `exact`, by which the answer is that of the definition
+//! (`Document.antt` in `specs/` of `doc_parts`), and `usable`, by which an accepted document meets
+//! the conditions of the calls that take its parts (`specs/Conditions.antt`). The row of a refusal
+//! is in `refusal_text`, which is proved beside this crate.
 //!
 //! `doc_parts` gathers names, numbers, clusters and topology of the raw document, and lets that go.
 //! Then plan and tree are built of what was gathered (`document`); `specs/Gathering.antt` of
@@ -27,4 +27,3 @@ pub use doc_passes::What;
 pub use doc_refusals::DocError;
 pub use document::{Document, build_plan, build_tree, check_owners, finish, read_document_by_tree};
 pub use raw_document::{DocKey, DocPath, PathStep};
-pub use refusal_text::refusal_line;

@@ -8,7 +8,5 @@ pub mod Agreement
 pub mod Homes
 pub mod TreeFacts
 pub mod Counting
-pub mod SeenPlaces
-pub mod WalkSeen
-pub mod ChildLists
+pub mod Sizes
 pub mod TaskValues

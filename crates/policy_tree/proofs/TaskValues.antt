@@ -10,7 +10,7 @@ use Rattle.tree_spec.specs.Numbering.{numbered}
 use Rattle.policy_tree.specs.Numbering.{numbered_job, numbered_user, numbered_cluster, numbered_clusters, job_demands, user_demands, cluster_demands, demands_of}
 use Rattle.policy_tree.specs.Nodes.{Agrees}
 use Rattle.policy_tree.specs.Trees.{demand_in, tree_of}
-use Rattle.policy_tree.specs.Seen.{user_task_values, cluster_task_values, task_value_in, value_at, job_task_values}
+use Rattle.policy_tree.specs.TaskValues.{user_task_values, cluster_task_values, task_value_in, value_at, job_task_values}
 use Rattle.policy_tree.proofs.Numbers.{agrees-left, agrees-right}
 use Rattle.policy_tree.proofs.Agreement.{tasks-agree, length-job_demands, length-user_demands, length-cluster_demands}
 use Rattle.policy_tree.proofs.Homes.{IsAt, within_all}

@@ -76,6 +76,14 @@ clusters-are top first (cluster ∷ clusters) are have =
       clusters-are top (first + cluster_tasks cluster) clusters (All-tail IsClusterState cluster clusters are) (All-tail (HaveClusterTop top) cluster clusters have),
     )
 
+-- one task more
+pub range-push : (first count : ℕ) → range_with_len first (count + 1) ≡ range_with_len first count ++ (first + count) ∷ []
+range-push first zero = let e : first ≡ first + 0 = omega arith in ap (λ n. n ∷ []) e
+range-push first (suc count) =
+    let more : suc count + 1 ≡ suc (count + 1) = omega arith in
+    let e : first + 1 + count ≡ first + suc count = omega arith in
+    ap (range_with_len first) more ∙ ap (λ rest. first ∷ rest) (range-push (first + 1) count) ∙ ap (λ n. first ∷ (range_with_len (first + 1) count ++ n ∷ [])) e
+
 -- tasks are numbered in one walk
 range-append : (first count more : ℕ) → range_with_len first count ++ range_with_len (first + count) more ≡ range_with_len first (count + more)
 range-append first zero more =

@@ -7,5 +7,5 @@ pub mod Kept
 pub mod Nodes
 pub mod Walk
 pub mod Childless
-pub mod Seen
-pub mod Children
+pub mod TaskValues
+pub mod Sizes

@@ -7,7 +7,7 @@ ghost use Rattle.function_sum.specs.Meaning.{IsMeaning};
 ghost use Rattle.policy_tree.specs.States.{job_meaning, job_tasks, IsJobState, IsKeptFunction};
 ghost use Rattle.policy_tree.specs.Asked.{HasJobWeights, job_weights, idle_job};
 ghost use Rattle.policy_tree.specs.Changes.{job_with};
-ghost use Rattle.policy_tree.specs.Seen.{value_at};
+ghost use Rattle.policy_tree.specs.TaskValues.{value_at};
 
 use crate::configured::Configured;
 use crate::level::LevelNode;

@@ -21,9 +21,9 @@
 //! node, and a sort of the demands of each job that was told a new one; docs/PERFORMANCE.md counts
 //! them. A changed demand makes the sum of its own job slow until the next `rematch`, and no other.
 //! `rematch_on_threads` shares the clusters out among threads, one for each processor.
-//! A node is looked up by its number in the order of the numbers. `tree_bounds` tells bounds of the
-//! groups' values without a search, by the nodes' `function` and `siblings`. Nothing is promised of
-//! that cost in a contract, nor of how values are kept.
+//! `tree_bounds` tells bounds of the groups' values without a search, by the nodes' `function` and
+//! `siblings`; `tree_nodes` tells of each node by its number. Nothing is promised of that cost in a
+//! contract, nor of how values are kept.
 #![tactic(auto)]
 
 mod childless;
@@ -31,17 +31,14 @@ mod cluster;
 mod configured;
 mod home;
 mod job;
-mod kind;
 mod level;
 mod siblings;
 mod tree;
 mod user;
 mod value;
-mod walked;
 
 pub use cluster::ClusterNode;
 pub use job::JobNode;
-pub use kind::Kind;
 pub use siblings::Siblings;
 pub use tree::PolicyTree;
 pub use tree_spec::{ClusterSpec, JobSpec, TreeError, TreeFault, TreeSpec, UserSpec};

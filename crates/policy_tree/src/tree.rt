@@ -5,18 +5,15 @@ ghost use Rattle.bwe_specs.specs.Values.{AreValues};
 ghost use Rattle.policy_tree.specs.Trees.{asking, demand_in, value_in, task_numbers, IsTree};
 ghost use Rattle.policy_tree.specs.Asked.{HasClusterTop, HasClusterWeights};
 ghost use Rattle.policy_tree.specs.Childless.{clusters_of, idle_tree};
-ghost use Rattle.policy_tree.specs.Nodes.{first_in, IsClusterOf};
-ghost use Rattle.policy_tree.specs.Children.{child_numbers};
-ghost use Rattle.policy_tree.specs.Seen.{kind_of, node_in, group_node_in, value_of, task_value_in, IsJobOf};
+ghost use Rattle.policy_tree.specs.Nodes.{first_in, AreClustersOf, IsClusterOf};
+ghost use Rattle.policy_tree.specs.TaskValues.{task_value_in, IsJobOf};
 ghost use Rattle.policy_tree.specs.Walk.{walk, tree_fault, TellsFault};
 
 use crate::childless::{fault_of, firsts_of};
 use crate::cluster::ClusterNode;
 use crate::home::{Home, homes_of};
 use crate::job::JobNode;
-use crate::kind::Kind;
 use crate::level::{LevelNode, nodes_of, refresh_all, rematch_all};
-use crate::walked::{children_of, count_of, kind_among, value_among};
 use bwe_specs::{MAX_AMOUNT, MAX_SHARE, OutOfMemory};
 use function_sum::ShareFunction;
 use rayon::prelude::*;
@@ -176,65 +173,19 @@ impl PolicyTree {
         &self.clusters[group as usize]
     }
 
+    /// The clusters of all groups, for those who go through all nodes.
+    pub fn clusters(&self) -> &[ClusterNode]
+        ensures { AreClustersOf self.now result.now }
+    {
+        self.clusters.as_slice()
+    }
+
     /// The number of a group's first task. The numbers of its tasks go on from there.
     pub fn first_task(&self, group: u32) -> u32
         requires { group < length self.now.clusters }
         ensures { result ≡ first_in self.now group }
     {
         self.firsts[group as usize]
-    }
-
-    /// How many nodes there are: clusters, users and jobs. They are counted at each call.
-    pub fn nodes(&self) -> u32
-        ensures { result ≡ length (walk self.now.clusters) }
-    {
-        count_of(self.clusters.as_slice())
-    }
-
-    /// Of which kind a node is ("Numbering rule", docs/DEFINITIONS.md).
-    ///
-    /// A node is looked for in the order of the numbers, here and in `node_value`.
-    pub fn kind(&self, node: u32) -> Kind
-        requires { node < length (walk self.now.clusters) }
-        ensures { result ≡ kind_of (node_in self.now node) }
-    {
-        match kind_among(self.clusters.as_slice(), node) {
-            Ok(kind) => kind,
-            Err(_) => Kind::Job,
-        }
-    }
-
-    /// The numbers of a node's children in their order: of its users, its jobs, or its tasks.
-    ///
-    /// The tree keeps no such list: each call makes those of all nodes, in one walk. No clause says
-    /// when memory runs out.
-    pub fn children(&self, alloc: Global, node: u32) -> Result<Vec<u32>, OutOfMemory>
-        requires { node < length (walk self.now.clusters) }
-        ensures { IfOk result (λ numbers.
-            numbers.items ≡ child_numbers node (node_in self.now node)) }
-    {
-        let lists = children_of(alloc, self.clusters.as_slice())?;
-        let numbers = Vec::from_slice(alloc, lists[node as usize].as_slice())?;
-        Ok(numbers)
-    }
-
-    /// The number of a group's cluster.
-    pub fn group_node(&self, group: u32) -> u32
-        requires { group < length self.now.clusters }
-        ensures { result ≡ group_node_in self.now group }
-    {
-        count_of(&self.clusters[..group as usize])
-    }
-
-    /// What a node may have at a share, in kilobits per second.
-    pub fn node_value(&self, node: u32, share: u64) -> u64
-        requires { node < length (walk self.now.clusters) }
-        ensures { result ≡ value_of self.now (node_in self.now node) share }
-    {
-        match value_among(self.clusters.as_slice(), node, share) {
-            Ok(value) => value,
-            Err(_) => 0,
-        }
     }
 
     /// What a task may have at a share, in kilobits per second ("Task rule", docs/DEFINITIONS.md).

@@ -10,7 +10,7 @@ use bw_function::BwFunction;
 use bwe_specs::MAX_SHARE;
 use function_sum::{Look, Outline, ShareFunction, Stretch};
 use mono_search::Steps;
-use share_transform::{look_by, meeting_of};
+use share_meeting::{look_by, meeting_of};
 use std::marker::Brand;
 use std::sync::ledger::{Blank, Ledger};
 

@@ -11,7 +11,7 @@ use bwe_specs::{MAX_SHARE, MAX_TOTAL};
 use capped_sum::CappedSum;
 use function_sum::{ShareFunction, sum_at};
 use policy_tree::Siblings;
-use share_transform::meeting_of;
+use share_meeting::meeting_of;
 
 /// The children of a node, in their order.
 pub(crate) trait Children {

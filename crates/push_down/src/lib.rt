@@ -2,7 +2,8 @@
 //!
 //! The allocator calls `all_limits` once for a table, also for one of tiers: each group's amount is
 //! handed down by `distribute`, and the limits stand in the order of the tasks' numbers.
-//! `all_limits_on_threads` hands down the amounts of several groups beside each other.
+//! `threaded_limits`, which hands down the amounts of several groups beside each other, calls
+//! `distribute` and `push_limits`.
 //! `distribute` goes down the tree level by level: a node's amount is given to its children by the
 //! Distribution rule, and what is left over goes to them in their order. The limits add up to the
 //! amount (the Conservation law). Of a job the common share of its tasks is told by the index of
@@ -26,7 +27,7 @@ mod share;
 
 use bwe_specs::{MAX_SHARE, MAX_TASKS, MAX_TOTAL, OutOfMemory};
 use children::Tasks;
-pub use groups::{all_limits, all_limits_on_threads};
+pub use groups::{all_limits, push_limits};
 use policy_tree::{ClusterNode, JobNode, PolicyTree, UserNode};
 use share::shared_out;
 use std::alloc::Global;

@@ -3,18 +3,13 @@
 use Rattle.std.specs.Prelude.{ℕ, ◌*◌, ◌/◌, ◌≤◌, List, ◌++◌, map, All}
 use Rattle.std.specs.List.{range_with_len}
 use Rattle.std.specs.List.Sorted.{IsStrictlyIncreasing}
-use Rattle.bwe_specs.specs.Tree.{inner_share}
 use Rattle.bw_function.specs.BwFunction.{Function, IsBwFunction}
-use Rattle.function_sum.specs.Shares.{AreMerged}
+use Rattle.share_transform.specs.Shares.{AreMerged}
 
 -- the parent is the configured function; a pair is a matched share and an inner share
 pub record Transformation : Type 0 where
   pub parent : Function
   pub pairs : List (ℕ × ℕ)
-
--- the share at which the children have together what the parent gives at a share
-abbrev pub inner_share_of : Function → (ℕ → ℕ) → ℕ → ℕ
-inner_share_of parent sum share = inner_share parent.top parent.points sum share
 
 -- the shares at which a pair is kept
 abbrev pub matched_shares : List (ℕ × ℕ) → List ℕ

@@ -11,11 +11,12 @@ use Rattle.doc_names.specs.NameTexts.{NameTexts, texts_of}
 use Rattle.plan_doc.specs.declared.document.Document.{Document}
 use Rattle.plan_doc.specs.Accepted.{IsAccepted}
 use Rattle.doc_parts.specs.Document.{document}
-use Rattle.plan_doc.specs.Plans.{plan_in, plan_of}
+use Rattle.doc_parts.specs.Plans.{plan_of}
+use Rattle.plan_doc.specs.Plans.{plan_in}
 use Rattle.plan_doc.proofs.PlanFacts.{plan-is}
-use Rattle.plain_solve.specs.Refused.{document_reply, read_reply}
-use Rattle.plain_solve.specs.SolveCall.{IsForInput}
-use Rattle.plain_solve.specs.SolveReply.{solve_accepted, table_reply}
+use Rattle.solve_reply.specs.Refused.{document_reply, read_reply}
+use Rattle.solve_reply.specs.SolveCall.{IsForInput}
+use Rattle.solve_reply.specs.SolveReply.{solve_accepted, table_reply}
 use Rattle.solve_answer.proofs.Versions.{of-version-4}
 
 -- a long input is too long unless it is of version 4

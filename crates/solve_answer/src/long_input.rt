@@ -6,8 +6,8 @@ ghost use Rattle.doc_parts.specs.Passing.{NamesRefusal};
 ghost use Rattle.plan_doc.specs.Conditions.{IsUsable};
 ghost use Rattle.doc_parts.specs.Document.{document};
 ghost use Rattle.plan_doc.specs.Plans.{plan_in};
-ghost use Rattle.plain_solve.specs.SolveCall.{IsForInput};
-ghost use Rattle.plain_solve.specs.SolveReply.{table_reply};
+ghost use Rattle.solve_reply.specs.SolveCall.{IsForInput};
+ghost use Rattle.solve_reply.specs.SolveReply.{table_reply};
 
 use crate::solve_line::{solve_document_on_threads, solve_on_threads};
 use bwe_specs::{MAX_INPUT, OutOfMemory};
@@ -15,8 +15,8 @@ use document_reader::read_document_on_threads;
 use input_lengths::document_is_too_long;
 use memchr::memmem;
 use one_run::Answer;
-use plain_solve::refused;
 use plan_doc::{DocError, Document};
+use solve_reply::refused;
 use std::alloc::Global;
 use std::thread::Threads;
 

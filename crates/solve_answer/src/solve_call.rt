@@ -1,6 +1,6 @@
 //! A call that serves the command `solve` alone.
 
-ghost use Rattle.plain_solve.specs.SolveCall.{IsSolved};
+ghost use Rattle.solve_reply.specs.SolveCall.{IsSolved};
 
 use crate::long_input::solve_unless_too_long;
 use bwe_io::{Sink, Source};

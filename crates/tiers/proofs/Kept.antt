@@ -8,7 +8,7 @@ use Rattle.bwe_specs.specs.Paths.{link_load}
 use Rattle.bwe_specs.specs.Filling.{Wan, filling}
 use Rattle.bwe_specs.specs.Reports.{numbers}
 use Rattle.bwe_specs.specs.Values.{NeverFalls}
-use Rattle.mpfa_fill.specs.declared.steps.Filling.{Filling}
+use Rattle.mpfa_fill.specs.declared.filling.Filling.{Filling}
 use Rattle.mpfa_fill.specs.Filling.{IsFilling}
 use Rattle.plain_table.proofs.Filled.{map-numbers}
 use Rattle.tiers.specs.Tiered.{free_under, amounts_below, wan_of_tier, filling_of_tier, tier_closings}

@@ -6,7 +6,7 @@ use Rattle.bwe_specs.specs.Paths.{PathGroups}
 use Rattle.bwe_specs.specs.Filling.{Wan}
 use Rattle.bwe_specs.specs.Reports.{numbers}
 use Rattle.bwe_specs.specs.Values.{AreValues, NeverFalls}
-use Rattle.mpfa_fill.specs.declared.steps.Filling.{Filling}
+use Rattle.mpfa_fill.specs.declared.filling.Filling.{Filling}
 use Rattle.mpfa_fill.specs.Filling.{IsFilling}
 use Rattle.mpfa_fill.specs.GroupValues.{wan_of}
 use Rattle.path_groups.specs.Plan.{IsBuiltOn}

@@ -7,7 +7,7 @@ use Rattle.bwe_specs.specs.Filling.{Wan, group_stop}
 use Rattle.bwe_specs.specs.Reports.{numbers}
 use Rattle.bwe_specs.specs.Allocation.{GroupLine}
 use Rattle.bwe_specs.specs.Lists.{lists_of}
-use Rattle.mpfa_fill.specs.declared.steps.Filling.{Filling}
+use Rattle.mpfa_fill.specs.declared.filling.Filling.{Filling}
 use Rattle.mpfa_fill.specs.GroupValues.{Values, wan_of}
 use Rattle.policy_tree.specs.Trees.{Tree, value_in}
 use Rattle.wan_topology.specs.Network.{Network, IsNetwork}

@@ -11,7 +11,7 @@ use Rattle.audit_law.specs.DocumentRun.{IsDocumentRun, document_verdict}
 use Rattle.top_call.specs.Runs.{IsRunOf}
 use Rattle.one_run.specs.Endings.{Reply}
 use Rattle.doc_parts.specs.Document.{Accepted, document}
-use Rattle.plan_doc.specs.Plans.{plan_of}
+use Rattle.doc_parts.specs.Plans.{plan_of}
 use Rattle.doc_refusals.specs.Refusals.{Refusal}
 use Rattle.run_audit.specs.AuditText.{verdict_line}
 use Rattle.run_audit.specs.declared.verdict.AuditVerdict.{AuditVerdict}

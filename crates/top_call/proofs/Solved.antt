@@ -5,9 +5,9 @@ use Rattle.command_line.specs.declared.CommandLine.{CommandLine}
 use Rattle.command_line.specs.declared.CommandLine.TheVariants.{Solve}
 use Rattle.one_run.specs.Endings.{IsDue, IsInput, Lines, Served, answered, done, far_too_long, no_line, out_of_memory, read_fault, too_long, write_fault}
 use Rattle.input_lengths.specs.Lengths.{document_is_too_long}
-use Rattle.plain_solve.specs.Refused.{document_reply}
-use Rattle.plain_solve.specs.SolveCall.{IsSolved}
-use Rattle.plain_solve.specs.SolveReply.{solve_accepted}
+use Rattle.solve_reply.specs.Refused.{document_reply}
+use Rattle.solve_reply.specs.SolveCall.{IsSolved}
+use Rattle.solve_reply.specs.SolveReply.{solve_accepted}
 use Rattle.top_call.specs.Laws.{SolvedIsServed}
 use Rattle.top_call.specs.TopCall.{IsServed, is_too_long, reads, replies}
 

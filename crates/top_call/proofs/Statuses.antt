@@ -11,7 +11,7 @@ use Rattle.command_line.specs.declared.CommandLine.TheVariants.{Solve, Check, Ru
 use Rattle.enforce_run.specs.declared.event.EventLine.{EventLine}
 use Rattle.one_run.specs.Endings.{IsDue, IsInput, Reply, Served, answered, done, far_too_long, no_line, out_of_memory, read_fault, too_long, write_fault}
 use Rattle.doc_parts.specs.Document.{Accepted, document}
-use Rattle.plan_doc.specs.Plans.{plan_of}
+use Rattle.doc_parts.specs.Plans.{plan_of}
 use Rattle.doc_refusals.specs.Refusals.{Refusal}
 use Rattle.run_audit.specs.declared.verdict.AuditVerdict.{AuditVerdict}
 use Rattle.run_audit.specs.declared.verdict.AuditVerdict.TheVariants as audited
@@ -24,8 +24,8 @@ use Rattle.line_answers.specs.EnforceReply.{enforce_accepted, enforced_by}
 use Rattle.line_answers.specs.EstimateReply.{estimate_accepted, table_behind}
 use Rattle.parted_input.specs.Parted.{IsReplyBehind, behind_reply, no_parts_reply, parts_at, with_part}
 use Rattle.line_answers.specs.Replies.{check_accepted, levels_accepted, verdict_status}
-use Rattle.plain_solve.specs.Refused.{read_reply, refused_reply}
-use Rattle.plain_solve.specs.SolveReply.{solve_accepted}
+use Rattle.solve_reply.specs.Refused.{read_reply, refused_reply}
+use Rattle.solve_reply.specs.SolveReply.{solve_accepted}
 use Rattle.top_call.specs.RunLine.{IsRunReply}
 use Rattle.top_call.specs.Statuses.{AcceptedIsAnswered, AnAnswerIsWhole, IsAnswered, IsOfAnswer, IsSilent, IsTakenIn, IsWithoutFault, NothingIsWritten}
 use Rattle.line_answers.specs.TiersReply.{tiers_accepted, unless_refused}

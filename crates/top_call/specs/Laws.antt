@@ -7,7 +7,7 @@ use Rattle.command_line.specs.Lines.{Text, command_line_of}
 use Rattle.command_line.specs.Ranges.{IsInRange}
 use Rattle.command_line.specs.declared.CommandLine.TheVariants.{Audit, Run, Solve}
 use Rattle.one_run.specs.Endings.{Reply, Served, max_long_input}
-use Rattle.plain_solve.specs.SolveCall.{IsSolved}
+use Rattle.solve_reply.specs.SolveCall.{IsSolved}
 use Rattle.two_part.specs.TwoPart.{IsTwoPart}
 use Rattle.top_call.specs.TopCall.{IsServed, is_too_long, replies}
 

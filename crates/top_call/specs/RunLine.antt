@@ -8,8 +8,8 @@ use Rattle.doc_parts.specs.Document.{Accepted}
 use Rattle.doc_refusals.specs.Refusals.{Refusal}
 use Rattle.run_text.specs.RunText.{run_text_of}
 use Rattle.top_call.specs.Runs.{IsRunOf}
-use Rattle.plan_doc.specs.Plans.{plan_of}
-use Rattle.plain_solve.specs.Refused.{refused_reply}
+use Rattle.doc_parts.specs.Plans.{plan_of}
+use Rattle.solve_reply.specs.Refused.{refused_reply}
 
 -- `run`: the text of a closed run of the script, whose table is that of `solve`; or the row of the
 -- refusal

@@ -5,8 +5,8 @@ use Rattle.command_line.specs.declared.CommandLine.TheVariants.{Solve, Check, Ru
 use Rattle.one_run.specs.Endings.{Ending, Reply, Served}
 use Rattle.doc_parts.specs.Document.{document}
 use Rattle.line_answers.specs.Replies.{check_accepted, levels_accepted}
-use Rattle.plain_solve.specs.SolveReply.{solve_accepted}
-use Rattle.plain_solve.specs.Refused.{document_reply}
+use Rattle.solve_reply.specs.SolveReply.{solve_accepted}
+use Rattle.solve_reply.specs.Refused.{document_reply}
 use Rattle.top_call.specs.RunLine.{IsRunReply}
 use Rattle.line_answers.specs.MadeLines.{bulk_reply, make_reply}
 use Rattle.input_lengths.specs.Lengths.{document_is_too_long}

@@ -27,7 +27,8 @@ pub use laws::{
     limits_by_version_are_those_of_the_format, nothing_is_written, runs_are_legal,
     solved_is_served, what_ran_is_found_legal,
 };
-use one_run::{finish, refuse_input, write_usage};
+use one_run::{finish, refuse_input};
+use program_words::write_usage;
 pub use reading::read_input_of;
 use std::alloc::Global;
 

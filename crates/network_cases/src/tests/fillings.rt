@@ -10,7 +10,7 @@ use bottleneck_cert::{Verdict, check};
 use bwe_specs::OutOfMemory;
 use link_solver::solve_by_links;
 use mono_search::Steps;
-use mpfa_fill::{Closing, Filling, fill_by_steps};
+use mpfa_fill::{Closing, Filling};
 use mpfa_solver::solve;
 use path_groups::GroupSpec;
 use std::alloc::{AllocError, Global};
@@ -18,6 +18,7 @@ use std::marker::Brand;
 use std::process::Abort;
 use std::sync::ledger::{Blank, Ledger};
 use std::test::Fail;
+use step_filling::fill_by_steps;
 use wan_topology::{LinkSpec, Topology};
 
 // The filling by jumps, on a counter of its own.

@@ -1,7 +1,8 @@
 //! Sums and merged shares, run on the code.
 
 use bw_function::BwFunction;
-use function_sum::{Look, ShareFunction, look_at, merged_shares, sum_at};
+use function_sum::{Look, ShareFunction, look_at, sum_at};
+use share_transform::merged_shares;
 use std::test::Fail;
 
 // The case "Merged shares".

@@ -3,9 +3,10 @@
 use super::made::{ask, ask_each, first_value, one_task, two_jobs, two_weights};
 use bw_function::BwFunction;
 use bwe_specs::OutOfMemory;
-use policy_tree::{ClusterSpec, Kind, PolicyTree, TreeError, TreeFault, TreeSpec};
+use policy_tree::{ClusterSpec, PolicyTree, TreeError, TreeFault, TreeSpec};
 use std::alloc::Global;
 use std::test::Fail;
+use tree_nodes::{Kind, NodeNumbers};
 
 // The cases "Configured user" and "Stale pair".
 #[test]

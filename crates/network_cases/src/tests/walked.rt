@@ -7,12 +7,13 @@ use bwe_specs::OutOfMemory;
 use closing_walk::seen_right;
 use link_solver::solve_by_links;
 use mono_search::Steps;
-use mpfa_fill::{Closing, fill_by_steps};
+use mpfa_fill::Closing;
 use std::alloc::Global;
 use std::marker::Brand;
 use std::process::Abort;
 use std::sync::ledger::{Blank, Ledger};
 use std::test::Fail;
+use step_filling::fill_by_steps;
 use wan_topology::Topology;
 
 // Whether the closings are seen to be right, on a counter of its own.

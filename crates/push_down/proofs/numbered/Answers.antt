@@ -3,7 +3,7 @@ use Rattle.std.proofs.lemmas.List.{map_push, take_more}
 use Rattle.push_down.specs.declared.TaskLimit.{TaskLimit}
 use Rattle.push_down.specs.Limits.{tasks_in, limits_in}
 use Rattle.push_down.proofs.numbered.Goals as goal
-use Rattle.policy_tree.proofs.ChildLists.{range-push}
+use Rattle.policy_tree.proofs.TreeFacts.{range-push}
 
 pub loop-limit-preserved : goal.loop-limit-preserved
 loop-limit-preserved c =

@@ -4,7 +4,7 @@ use crate::tests::documents::{EMPTY, EMPTY_IN_TWO_PARTS};
 use crate::tests::words_of;
 use bwe_io::{Sink, Source, read_all};
 use memory_io::{MemorySink, MemorySource, SureSink, SureSource};
-use one_run::USAGE;
+use program_words::USAGE;
 use std::alloc::{AllocError, Global};
 use std::test::Fail;
 use top_call::bwe_once;

@@ -2,7 +2,7 @@ use Rattle.std.proofs.Common.{ap, ◌∙◌}
 use Rattle.doc_names.specs.declared.Names.{Names}
 use Rattle.doc_names.specs.NameTexts.{texts_of}
 use Rattle.plan_doc.specs.Plans.{plan_in}
-use Rattle.plain_solve.specs.SolveReply.{table_reply}
+use Rattle.solve_reply.specs.SolveReply.{table_reply}
 use Rattle.line_answers.proofs.solve_line.solve_document.Goals as goal
 
 pub returns : goal.returns

@@ -4,7 +4,7 @@ use Rattle.bwe_specs.specs.declared.network.Closing.{Closing}
 use Rattle.bwe_specs.specs.Filling.{Wan, filling}
 use Rattle.bwe_specs.specs.RightClosings.{amounts_at, over_at}
 use Rattle.bwe_specs.proofs.Certificates.{right-closings}
-use Rattle.mpfa_fill.specs.declared.steps.Filling.{Filling}
+use Rattle.mpfa_fill.specs.declared.filling.Filling.{Filling}
 use Rattle.mpfa_fill.specs.Growth.{closings_in as growth_closings}
 use Rattle.link_front.specs.Front.{wan_in, closings_in}
 use Rattle.mpfa_fill.proofs.MomentLemmas.{never_falls, right-all-along}

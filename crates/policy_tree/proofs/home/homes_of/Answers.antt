@@ -5,7 +5,7 @@ use Rattle.policy_tree.specs.declared.home.Home.{Home}
 use Rattle.policy_tree.specs.States.{JobState, UserState, ClusterState, job_tasks}
 use Rattle.policy_tree.specs.Kept.{user_counts, cluster_counts, counts_of, users_count, clusters_count, IsHome}
 use Rattle.policy_tree.proofs.Homes.{AreHomesBelow, homes-push, homes-counted, counts-cluster, counts-user, counts-job}
-use Rattle.policy_tree.proofs.ChildLists.{walk-size, clusters-within, users-within, jobs-within}
+use Rattle.policy_tree.proofs.Sizes.{walk-size, clusters-within, users-within, jobs-within}
 use Rattle.policy_tree.proofs.home.homes_of.Goals as goal
 use Rattle.policy_tree.proofs.home.homes_of.Goals.{After-users-user_node-items, After-jobs-job_node-items, After-tasks-task-end}
 

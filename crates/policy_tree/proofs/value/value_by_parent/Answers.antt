@@ -1,5 +1,5 @@
 use Rattle.std.proofs.Common.{ap, ◌∙◌}
-use Rattle.share_transform.proofs.Meets.{inner_share-met}
+use Rattle.share_meeting.proofs.Meets.{inner_share-met}
 use Rattle.policy_tree.proofs.value.value_by_parent.Goals as goal
 
 pub returns-clause-value : goal.returns-clause-value

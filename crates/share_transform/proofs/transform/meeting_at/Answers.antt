@@ -1,6 +1,6 @@
 use Rattle.std.proofs.Common.{nat_le, ◌∙◌, arith}
 use Rattle.bwe_specs.proofs.Bounds.{greatest-le}
-use Rattle.share_transform.proofs.Meets.{inner_share-met}
+use Rattle.share_meeting.proofs.Meets.{inner_share-met}
 use Rattle.share_transform.proofs.transform.meeting_at.Goals as goal
 
 pub met_at-requires-clause-inside : goal.met_at-requires-clause-inside

@@ -3,7 +3,7 @@ use Rattle.std.proofs.lemmas.Bool.{false≢true}
 use Rattle.one_run.specs.declared.InputError.TheVariants.{OutOfMemory}
 use Rattle.one_run.specs.Endings.{answered, too_long}
 use Rattle.one_run.proofs.Ends.{ending-refused, ending-writes}
-use Rattle.plain_solve.specs.SolveCall.{IsForInput}
+use Rattle.solve_reply.specs.SolveCall.{IsForInput}
 use Rattle.solve_answer.proofs.solve_call.solve_once.Goals as goal
 
 -- an input is read

@@ -56,13 +56,13 @@ loop-group-preserved g c =
         };
         by_link = i.parts.by_link;
       };
-      up = walk-next wan.groups c.args.link items are (λ count. (group : ℕ) → group < count → IsUpOver wan c.args.link c.args.share group (growth_standing c.bring_up_over.new.self group)) at c.loop-group-test.true
+      up = walk-next wan.groups c.args.link items are (λ count. (group : ℕ) → group < count → IsUpOver wan c.args.link c.args.share group (growth_standing c.bring_up_over.new.growth group)) at c.loop-group-test.true
           (λ k lt. elim (cases_eq k group) [
-            | inl same ↦ subst (λ j. IsUpOver wan c.args.link c.args.share j (growth_standing c.bring_up_over.new.self j)) (sym same)
-                (subst (λ w. IsUpOver w c.args.link c.args.share group (growth_standing c.bring_up_over.new.self group)) i.wan e.up)
+            | inl same ↦ subst (λ j. IsUpOver wan c.args.link c.args.share j (growth_standing c.bring_up_over.new.growth j)) (sym same)
+                (subst (λ w. IsUpOver w c.args.link c.args.share group (growth_standing c.bring_up_over.new.growth group)) i.wan e.up)
             | inr other ↦ subst (IsUpOver wan c.args.link c.args.share k) (sym (e.others k other)) (here k (omega (arith, lt, other)))
           ])
-          (λ group lt unused up. up-more wan c.args.link c.args.share (growth_standing c.bring_up_over.new.self) group unused up);
+          (λ group lt unused up. up-more wan c.args.link c.args.share (growth_standing c.bring_up_over.new.growth) group unused up);
     }
 
 pub returns-clause-up : goal.returns-clause-up

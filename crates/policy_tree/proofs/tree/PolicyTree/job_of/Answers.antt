@@ -3,7 +3,7 @@ use Rattle.std.proofs.lemmas.List.{get_or_read}
 use Rattle.capped_sum.specs.CappedSum.{task_at}
 use Rattle.policy_tree.specs.States.{JobState, UserState, ClusterState, job_tasks}
 use Rattle.policy_tree.specs.Changes.{job_at, user_at, cluster_at}
-use Rattle.policy_tree.specs.Seen.{value_at, task_value_in}
+use Rattle.policy_tree.specs.TaskValues.{value_at, task_value_in}
 use Rattle.policy_tree.specs.Trees.{Tree, demand_in}
 use Rattle.policy_tree.proofs.Homes.{IsAt, demand-at}
 use Rattle.policy_tree.proofs.TaskValues.{value-at}

@@ -1,5 +1,6 @@
 use Rattle.std.proofs.Common.{◌∙◌, ap}
-use Rattle.share_transform.specs.Transform.{Transformation, inner_share_of}
+use Rattle.share_meeting.specs.Inner.{inner_share_of}
+use Rattle.share_transform.specs.Transform.{Transformation}
 use Rattle.share_transform.proofs.transform.Transform.look.Goals as goal
 
 pub returns-clause-value : goal.returns-clause-value

@@ -1,4 +1,0 @@
-use Rattle.share_transform.proofs.meeting.meeting_of.Given as goal
-
-abbrev pub ghosts-counted_meeting : goal.ghosts-counted_meeting
-ghosts-counted_meeting g a = record { name = a.blank.name; parts = a.blank.parts }

@@ -1,0 +1,3 @@
+mod SeenPlaces
+mod WalkSeen
+mod ChildLists
