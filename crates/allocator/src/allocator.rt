@@ -2,7 +2,7 @@
 
 ghost use Rattle.std.specs.Prelude.{◌≡◌, ◌^◌, ◌<◌, ◌++◌, ◌∷◌, [], List, length, replicate, IfOk, OnOk, OnErr};
 ghost use Rattle.bwe_specs.specs.declared.report.Report.{Report};
-ghost use Rattle.demand_book.specs.Fit.{IsFit};
+ghost use Rattle.bwe_specs.specs.Fit.{IsFit};
 ghost use Rattle.path_groups.specs.Plan.{IsBuiltOn};
 ghost use Rattle.policy_tree.specs.Trees.{task_numbers};
 

@@ -1,7 +1,7 @@
 //! A maker after a script.
 
 ghost use Rattle.std.specs.Prelude.{◌≡◌, ◌≤◌, [], length, All, IfOk};
-ghost use Rattle.demand_book.specs.Fit.{IsFit};
+ghost use Rattle.bwe_specs.specs.Fit.{IsFit};
 
 use bwe_specs::{MAX_REPORTS, OutOfMemory, Report};
 use demand_book::Maker;

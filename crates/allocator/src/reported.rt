@@ -2,7 +2,7 @@
 
 ghost use Rattle.std.specs.Prelude.{◌≡◌, ◌+◌, ◌^◌, ◌<◌, ◌≤◌, ◌++◌, ◌∷◌, [], ℕ, All, List, length, flat_map, zip, slice_index, IfOk, OnOk, OnErr, Some, unwrap_or};
 ghost use Rattle.bwe_specs.specs.declared.report.Report.{Report};
-ghost use Rattle.demand_book.specs.Fit.{IsFit};
+ghost use Rattle.bwe_specs.specs.Fit.{IsFit};
 ghost use Rattle.bwe_specs.specs.Tree.{cluster_limits};
 ghost use Rattle.mpfa_fill.specs.Filling.{IsFilling};
 ghost use Rattle.policy_tree.specs.Trees.{asking, demand_in, value_in, IsTree};

@@ -4,7 +4,7 @@ ghost use Rattle.std.specs.Prelude.{◌≡◌, ◌≤◌, All, [], IfOk, length}
 ghost use Rattle.bwe_specs.specs.declared.limits.TheConstants.{MAX_AMOUNT, MAX_REPORTS};
 ghost use Rattle.bwe_specs.specs.Allocation.{allocation};
 ghost use Rattle.allocator.specs.Frames.{task_count};
-ghost use Rattle.demand_book.specs.Fit.{IsFit};
+ghost use Rattle.bwe_specs.specs.Fit.{IsFit};
 ghost use Rattle.plan_doc.specs.Conditions.{IsUsable, tasks_in};
 ghost use Rattle.doc_names.specs.NameTexts.{texts_of};
 ghost use Rattle.plan_doc.specs.Plans.{plan_in};

@@ -13,7 +13,7 @@ use Rattle.bwe_specs.specs.Reports.{numbers as numbers_below, reports_of}
 use Rattle.crew_log.specs.Scripts.{AreOfReporters}
 use Rattle.bwe_specs.specs.Lists.{lists_of}
 use Rattle.document_scripts.specs.Scripts.{scripts_of}
-use Rattle.demand_book.specs.Fit.{IsFit}
+use Rattle.bwe_specs.specs.Fit.{IsFit}
 use Rattle.document_scripts.proofs.Owned.{are-scripts, few-scripts, history-table, room-scripts}
 use Rattle.document_scripts.proofs.Split.{split-count}
 use Rattle.limit_table.specs.Tables.{total_of as table_total}

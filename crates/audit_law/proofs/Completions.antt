@@ -7,7 +7,7 @@ use Rattle.std.proofs.lemmas.List.{length-take-le, length_push}
 use Rattle.std.proofs.lemmas.List.Elements.{All-cons, All-nil, All-take, All-weaker}
 use Rattle.std.proofs.lemmas.Option.{slice_get_within}
 use Rattle.bwe_specs.specs.declared.report.Report.{Report}
-use Rattle.demand_book.specs.Fit.{IsFit}
+use Rattle.bwe_specs.specs.Fit.{IsFit}
 use Rattle.crew_log.specs.declared.log.ReadLine.{ReadLine}
 use Rattle.text_scan.specs.Words.{words_of}
 use Rattle.doc_names.specs.NameTexts.{NameTexts, entry_at}

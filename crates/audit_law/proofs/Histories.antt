@@ -11,7 +11,7 @@ use Rattle.bwe_specs.specs.declared.report.Report.{Report}
 use Rattle.bwe_specs.specs.declared.report.Target.{Target}
 use Rattle.bwe_specs.specs.declared.report.Target.TheVariants.{Task, Link}
 use Rattle.bwe_specs.specs.Reports.{reports_of}
-use Rattle.demand_book.specs.Fit.{IsFit, IsInRange}
+use Rattle.bwe_specs.specs.Fit.{IsFit, IsInRange}
 use Rattle.text_scan.specs.Words.{words_of}
 use Rattle.doc_names.specs.NameTexts.{NameTexts}
 use Rattle.run_audit.specs.Forms.{history_of, report_of}

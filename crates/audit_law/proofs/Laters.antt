@@ -4,7 +4,7 @@ use Rattle.std.proofs.lemmas.Bool.{eq-eqb, ne_eqb}
 use Rattle.std.proofs.lemmas.List.Elements.{All-append, All-drop, All-head, All-nil, All-tail, filter-append}
 use Rattle.bwe_specs.specs.declared.report.Report.{Report}
 use Rattle.bwe_specs.specs.Reports.{reports_of}
-use Rattle.demand_book.specs.Fit.{IsFit}
+use Rattle.bwe_specs.specs.Fit.{IsFit}
 use Rattle.doc_names.specs.NameTexts.{NameTexts}
 use Rattle.audit_law.specs.ClosedRun.{AreScripts, IsInterleaving}
 use Rattle.audit_law.proofs.Histories.{Begin, HasTaken}

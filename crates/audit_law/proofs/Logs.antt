@@ -7,7 +7,7 @@ use Rattle.bwe_specs.specs.declared.report.Report.{Report}
 use Rattle.bwe_specs.specs.Allocation.{Table}
 use Rattle.bwe_specs.specs.Reports.{reports_of}
 use Rattle.board_core.specs.Core.{IsAllowed}
-use Rattle.demand_book.specs.Fit.{IsFit}
+use Rattle.bwe_specs.specs.Fit.{IsFit}
 use Rattle.limit_table.specs.Tables.{total_of as table_total}
 use Rattle.crew_log.specs.declared.log.ReadLine.{ReadLine}
 use Rattle.crew_log.specs.declared.log.ReaderLog.{ReaderLog}

@@ -5,7 +5,7 @@ use Rattle.std.proofs.lemmas.List.Elements.{All-append, All-cons, All-nil, All-t
 use Rattle.std.proofs.lemmas.List.Sums.{sum_by-cons}
 use Rattle.bwe_specs.specs.declared.report.Report.{Report}
 use Rattle.bwe_specs.specs.Allocation.{Table}
-use Rattle.demand_book.specs.Fit.{IsFit}
+use Rattle.bwe_specs.specs.Fit.{IsFit}
 use Rattle.table_text.specs.TableText.{text_of}
 use Rattle.text_scan.specs.Lines.{left_of, lines_of}
 use Rattle.doc_names.specs.NameTexts.{NameTexts}

@@ -6,7 +6,7 @@ use Rattle.bwe_specs.specs.declared.limits.TheConstants.{MAX_READERS, MAX_READS,
 use Rattle.bwe_specs.specs.declared.report.Report.{Report}
 use Rattle.bwe_specs.specs.Allocation.{Table}
 use Rattle.bwe_specs.specs.Reports.{reports_of}
-use Rattle.demand_book.specs.Fit.{IsFit}
+use Rattle.bwe_specs.specs.Fit.{IsFit}
 use Rattle.limit_table.specs.Tables.{total_of as table_total}
 use Rattle.crew_log.specs.declared.log.CrewLog.{CrewLog}
 use Rattle.crew_log.specs.LegalCrewLog.{IsClosed, IsLegalCrewLog}

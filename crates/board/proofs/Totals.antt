@@ -6,7 +6,7 @@ use Rattle.std.proofs.lemmas.List.Sums.{sum_by-append}
 use Rattle.bwe_specs.specs.declared.report.Report.{Report}
 use Rattle.board_log.specs.Roll.{own_of, sent_of_first}
 use Rattle.board_log.proofs.Placing.{own_lists_add}
-use Rattle.demand_book.specs.Fit.{IsFit}
+use Rattle.bwe_specs.specs.Fit.{IsFit}
 use Rattle.board_core.specs.Core.{IsAllowed}
 use Rattle.board.specs.Reporting.{Reporting, AreInOrder, fresh_pass}
 

@@ -6,7 +6,7 @@ use Rattle.bwe_specs.specs.declared.limits.TheConstants.{MAX_REPORTS}
 use Rattle.board_log.specs.Roll.{Rolled}
 use Rattle.board_pair.specs.declared.pair.Posting.{Posting}
 use Rattle.board_pair.specs.Desk.{Desk, last_of}
-use Rattle.demand_book.specs.Fit.{IsFit}
+use Rattle.bwe_specs.specs.Fit.{IsFit}
 use Rattle.board_core.specs.Core.{IsAllowed}
 
 -- what contracts see of the locked state: the log, how many reports the posted table covers, and

@@ -4,7 +4,7 @@ ghost use Rattle.std.specs.List.{All, sum_by};
 ghost use mathlib.Core.List.{IsPrefix};
 ghost use Rattle.board_log.specs.Laws.{StandIn};
 ghost use Rattle.board_log.specs.Roll.{IsBy, placed, own_of};
-ghost use Rattle.demand_book.specs.Fit.{IsFit};
+ghost use Rattle.bwe_specs.specs.Fit.{IsFit};
 ghost use Rattle.board_core.specs.Core.{IsAllowed};
 ghost use Rattle.board.specs.Refusals.{IsRefusalAt};
 ghost use Rattle.board.specs.Reporting.{AreInOrder};

@@ -2,7 +2,7 @@
 ghost use Rattle.std.specs.Prelude.{ℕ, ◌≡◌, ◌<◌, ◌≤◌, ◌↔◌, [], List, length, take, slice_get, slice_index, min, max, IfOk, IfSome, OnOk};
 ghost use Rattle.std.specs.List.{All};
 ghost use Rattle.bwe_specs.specs.declared.report.Report.{Report};
-ghost use Rattle.demand_book.specs.Fit.{IsFit};
+ghost use Rattle.bwe_specs.specs.Fit.{IsFit};
 ghost use Rattle.board_core.specs.CoreRun.{first_state, prefix_to_post, told_floor, IsMeant, IsOverfull, Steps};
 ghost use Rattle.board_core.specs.Core.{IsAllowed, with_floor};
 
@@ -27,7 +27,7 @@ pub struct CoreState<M: Maker> {
 impl<M: Maker> Model for CoreState<M> {
     ghost use Rattle.std.specs.Prelude.{List};
     ghost use Rattle.bwe_specs.specs.declared.report.Report.{Report};
-    ghost use Rattle.demand_book.specs.Fit.{IsFit};
+    ghost use Rattle.bwe_specs.specs.Fit.{IsFit};
     ghost use Rattle.board_core.specs.CoreRun.{State};
     ghost use Rattle.board_core.specs.Core.{Core, IsAllowed, IsKept};
 

@@ -2,7 +2,7 @@
 ghost use Rattle.std.specs.Prelude.{◌≡◌, ◌+◌, ◌-◌, ◌^◌, ◌<◌, ◌≤◌, ◌↔◌, length, take, max, min, slice_get, IfSome, IsNone, OnOk, OnErr};
 ghost use Rattle.std.specs.List.{All};
 ghost use mathlib.Core.List.{IsPrefix};
-ghost use Rattle.demand_book.specs.Fit.{IsFit};
+ghost use Rattle.bwe_specs.specs.Fit.{IsFit};
 ghost use Rattle.board_core.specs.Core.{IsAllowed};
 ghost use Rattle.std.specs.Bool.{OnTrue, OnFalse};
 ghost use Rattle.left_right.specs.Sides.{view};
@@ -67,7 +67,7 @@ impl<T: Posted, N: Profile<T>, B: Bases> ReaderPass<T, N, B> {
     ghost use mathlib.Core.List.{IsPrefix};
     ghost use mathlib.Core.Option.{none};
     ghost use denote.Follow.{follows_so};
-    ghost use Rattle.demand_book.specs.Fit.{IsFit};
+    ghost use Rattle.bwe_specs.specs.Fit.{IsFit};
     ghost use Rattle.board_core.specs.Core.{IsAllowed};
     ghost use Rattle.left_right.specs.Sides.{view};
     ghost use Rattle.board_pair.specs.Reading.{no_visits};

@@ -6,7 +6,7 @@ use Rattle.std.specs.List.{All}
 use Rattle.std.proofs.lemmas.List.{drop_at}
 use Rattle.std.proofs.lemmas.List.Elements.{All-drop}
 use Rattle.bwe_specs.specs.declared.report.Report.{Report}
-use Rattle.demand_book.specs.Fit.{IsFit}
+use Rattle.bwe_specs.specs.Fit.{IsFit}
 use Rattle.board_core.specs.Core.{IsAllowed}
 
 pub fit_waiting : (reporters tasks links plan_tasks plan_links : ℕ) (taken waiting seen : List Report) → seen ≡ taken ++ waiting → All (IsAllowed reporters (IsFit tasks links)) seen

@@ -1,6 +1,6 @@
 -- What `bwe-live` writes: the table text of a document, and the answers to the lines behind it.
 use Rattle.live_run.specs.Follow.{Follow}
-use Rattle.input_lengths.specs.Lengths.{document_is_too_long}
+use Rattle.one_run.specs.Lengths.{document_is_too_long}
 use Rattle.live_session.specs.Answers.{accepts, answer_of, first_text}
 
 abbrev pub live : Follow

@@ -5,10 +5,10 @@ ghost use Rattle.live_run.specs.Endings.{IsServed};
 ghost use Rattle.bwe_live.specs.Live.{live};
 
 use bwe_specs::OutOfMemory;
-use input_lengths::document_is_too_long;
 use live_run::{Follower, OpenedFollower, serve};
 use live_session::LiveSession;
 use live_stream::Stream;
+use one_run::document_is_too_long;
 use std::alloc::Global;
 use std::marker::Model;
 

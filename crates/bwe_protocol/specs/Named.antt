@@ -1,6 +1,6 @@
 -- Events of lines.
 use Rattle.std.specs.Prelude.{ℕ}
-use Rattle.demand_book.specs.Fit.{IsFit}
+use Rattle.bwe_specs.specs.Fit.{IsFit}
 use Rattle.control_core.specs.declared.event.ControlEvent.{ControlEvent}
 use Rattle.control_core.specs.declared.event.ControlEvent.TheVariants as event
 

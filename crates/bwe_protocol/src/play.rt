@@ -2,7 +2,7 @@
 
 ghost use Rattle.std.specs.Prelude.{◌≡◌, ◌+◌, ◌<◌, ◌^◌, true, IfOk, IfSome, OnSome};
 ghost use Rattle.bwe_protocol.specs.Named.{IsNamed};
-ghost use Rattle.demand_book.specs.Fit.{IsFit};
+ghost use Rattle.bwe_specs.specs.Fit.{IsFit};
 ghost use Rattle.control_core.specs.World.{IsMeant};
 
 use crate::echo::EchoMaker;

@@ -9,8 +9,7 @@ ghost use Rattle.solve_reply.specs.SolveCall.{IsForInput};
 ghost use Rattle.solve_reply.specs.SolveReply.{solve_accepted, table_reply};
 
 use bwe_specs::OutOfMemory;
-use input_lengths::document_is_too_long;
-use one_run::Answer;
+use one_run::{Answer, document_is_too_long};
 use plain_table::table_after;
 use plan_doc::{Document, read_document_by_tree};
 use solve_reply::refused;

@@ -14,7 +14,7 @@ use Rattle.bwe_specs.specs.declared.limits.TheConstants.{MAX_AMOUNT}
 use Rattle.bwe_specs.specs.declared.report.Report.{Report}
 use Rattle.bwe_specs.specs.declared.report.Target.{Target}
 use Rattle.bwe_specs.specs.declared.report.Target.TheVariants.{Task, Link}
-use Rattle.demand_book.specs.Fit.{IsInRange}
+use Rattle.bwe_specs.specs.Fit.{IsInRange}
 use Rattle.text_scan.specs.Names.{number_of_name}
 use Rattle.text_scan.specs.Numbers.{is_number, number_of}
 use Rattle.text_scan.specs.Words.{Text, words_of}

@@ -2,7 +2,7 @@
 use Rattle.std.specs.Prelude.{◌≡◌, ℕ, ◌<◌, ◌≤◌, ◌&&◌, Bool, true, List, length, nat_lt, Some}
 use Rattle.std.specs.List.{list_all}
 use Rattle.bwe_specs.specs.declared.report.Report.{Report}
-use Rattle.demand_book.specs.Fit.{IsFit}
+use Rattle.bwe_specs.specs.Fit.{IsFit}
 use Rattle.text_scan.specs.Names.{number_of_name}
 use Rattle.doc_names.specs.NameTexts.{entry_at}
 use Rattle.live_lines.specs.declared.line.LineMeaning.TheVariants.{NewReport}

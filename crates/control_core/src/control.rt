@@ -2,7 +2,7 @@
 
 ghost use Rattle.std.specs.Prelude.{◌≡◌, ◌+◌, ◌<◌, ◌^◌, [], IfOk, None, OnErr, OnOk, Some, if◌then◌else◌, length, option_map, replicate};
 ghost use Rattle.std.specs.List.{All};
-ghost use Rattle.demand_book.specs.Fit.{IsFit};
+ghost use Rattle.bwe_specs.specs.Fit.{IsFit};
 ghost use Rattle.bwe_specs.specs.Lists.{lists_of};
 ghost use Rattle.control_core.specs.World.{IsMeant, allocator_at, campaigned, created_of, done, expired, first_world, fresh, given_up, having_looked, having_read, known_of, leader_revision, learned, lost, posted_prefix as prefix_of, reported, reports_of, rows_of, seen_by, sendable, sent_at, sent_by, since_after, slice_at as slice_of, taken, told_of, with_allocator, world_after};
 

@@ -13,7 +13,7 @@ use Rattle.board_log.specs.Laws.{without_places}
 use Rattle.board_log.specs.Roll.{own_of}
 use Rattle.board_log.proofs.Placing.{own_reports}
 use Rattle.board_core.specs.Core.{IsAllowed}
-use Rattle.demand_book.specs.Fit.{IsFit}
+use Rattle.bwe_specs.specs.Fit.{IsFit}
 use Rattle.board.specs.Reporting.{Reporting, AreFresh, fresh_pass}
 use Rattle.board.specs.declared.refusal.ReportError.{ReportError}
 use Rattle.board.specs.declared.refusal.ReportError.TheVariants.{Full, OutOfMemory}

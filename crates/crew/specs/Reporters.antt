@@ -6,7 +6,7 @@ use Rattle.bwe_specs.specs.declared.report.Report.{Report}
 use Rattle.board_log.specs.Laws.{without_places}
 use Rattle.board_log.specs.Roll.{IsBy}
 use Rattle.board_core.specs.Core.{IsAllowed}
-use Rattle.demand_book.specs.Fit.{IsFit}
+use Rattle.bwe_specs.specs.Fit.{IsFit}
 use Rattle.board.specs.Reporting.{Reporting}
 use Rattle.board.specs.declared.refusal.ReportError.{ReportError}
 use Rattle.crew_actors.specs.Reporters.{IsCutShort}

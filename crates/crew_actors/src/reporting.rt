@@ -4,7 +4,7 @@ ghost use Rattle.std.specs.List.{All};
 ghost use Rattle.board_log.specs.Laws.{StandIn, without_places};
 ghost use Rattle.board_log.specs.Roll.{IsBy};
 ghost use Rattle.board_core.specs.Core.{IsAllowed};
-ghost use Rattle.demand_book.specs.Fit.{IsFit};
+ghost use Rattle.bwe_specs.specs.Fit.{IsFit};
 ghost use Rattle.board.specs.Refusals.{IsRefusalAt};
 ghost use Rattle.crew_actors.specs.Reporters.{IsCutShort};
 

@@ -3,7 +3,7 @@ use Rattle.std.specs.Prelude.{◌≡◌, ℕ, ◌<◌, List, Vec, length, slice_
 use Rattle.std.specs.List.{All, sum_by}
 use Rattle.std.specs.declared.alloc.Global.{Global}
 use Rattle.bwe_specs.specs.declared.report.Report.{Report}
-use Rattle.demand_book.specs.Fit.{IsFit}
+use Rattle.bwe_specs.specs.Fit.{IsFit}
 
 -- the script at each place has reports of that number alone, of so many tasks and links
 abbrev pub AreOfReporters : ℕ → ℕ → List (Vec Report Global) → Type 0

@@ -2,7 +2,7 @@
 ghost use Rattle.std.specs.Prelude.{◌≡◌, ◌^◌, ◌<◌, ◌≤◌, length, IfOk};
 ghost use Rattle.std.specs.List.{All};
 ghost use Rattle.board_core.specs.Core.{IsAllowed};
-ghost use Rattle.demand_book.specs.Fit.{IsFit};
+ghost use Rattle.bwe_specs.specs.Fit.{IsFit};
 ghost use Rattle.crew_log.specs.LegalCrewLog.{IsReaderOf};
 ghost use Rattle.crew_readers.specs.Gates.{EndsAreShown};
 ghost use Rattle.crew_readers.specs.Readers.{HaveLines, HaveEnded};

@@ -3,7 +3,7 @@ ghost use Rattle.std.specs.Prelude.{◌≡◌, ◌+◌, ◌-◌, ◌^◌, ◌<�
 ghost use Rattle.std.specs.List.{All};
 ghost use mathlib.Core.List.{IsPrefix};
 ghost use Rattle.board_core.specs.Core.{IsAllowed};
-ghost use Rattle.demand_book.specs.Fit.{IsFit};
+ghost use Rattle.bwe_specs.specs.Fit.{IsFit};
 ghost use Rattle.crew_log.specs.Lines.{IsLineOf, NeverGoBack};
 ghost use Rattle.crew_readers.specs.Gates.{IsShown, AreShown};
 ghost use Rattle.crew_readers.specs.Reads.{HasRead};

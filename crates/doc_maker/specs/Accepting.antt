@@ -6,7 +6,7 @@ use Rattle.bwe_specs.specs.Reports.{numbers}
 use Rattle.bwe_specs.specs.declared.report.Report.{Report}
 use Rattle.bwe_specs.specs.declared.report.Target.TheVariants.{Task}
 use Rattle.tree_spec.specs.Trees.{task_numbers}
-use Rattle.path_groups.specs.Given.{Group}
+use Rattle.bwe_specs.specs.Given.{Group}
 use Rattle.doc_names.specs.NameTexts.{NameTexts}
 use Rattle.doc_passes.specs.Numbers.{Numbers}
 use Rattle.doc_parts.specs.Document.{Accepted, accepted, document}

@@ -8,7 +8,7 @@ use Rattle.bwe_specs.specs.Tree.{Cluster}
 use Rattle.bwe_specs.specs.DocumentLimits.{limits_of}
 use Rattle.wan_topology.specs.Network as networks
 use Rattle.wan_topology.specs.declared.fault.TopologyFault.{TopologyFault}
-use Rattle.path_groups.specs.Given as groups
+use Rattle.bwe_specs.specs.Given as groups
 use Rattle.path_groups.specs.Faults.{plan_fault}
 use Rattle.tree_spec.specs.Numbering.{numbered_clusters}
 use Rattle.tree_spec.specs.declared.fault.TreeFault.{TreeFault}

@@ -1,7 +1,7 @@
 -- The plan of an accepted document.
 use Rattle.bwe_specs.specs.Allocation.{Plan}
 use Rattle.wan_topology.specs.Network.{network_of}
-use Rattle.path_groups.specs.Given.{path_groups_of}
+use Rattle.bwe_specs.specs.Given.{path_groups_of}
 use Rattle.doc_parts.specs.Document.{Accepted}
 
 -- the plan, as the definition reads it; `plan_in` of `plan_doc` is as the parts of the code have it

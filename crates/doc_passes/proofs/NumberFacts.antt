@@ -10,8 +10,8 @@ use Rattle.bwe_specs.specs.declared.report.Target.{Target}
 use Rattle.bwe_specs.specs.declared.report.Target.TheVariants as targets
 use Rattle.bwe_specs.specs.declared.report.Report.{Report}
 use Rattle.bwe_specs.specs.Paths.{Path, PathGroup, PathGroups}
-use Rattle.demand_book.specs.Fit.{IsInRange}
-use Rattle.path_groups.specs.Given.{Group, AreInRange}
+use Rattle.bwe_specs.specs.Fit.{IsInRange}
+use Rattle.bwe_specs.specs.Given.{Group, AreInRange}
 use Rattle.raw_document.specs.declared.key.DocKey.{DocKey}
 use Rattle.raw_document.specs.declared.key.DocKey.TheVariants as keys
 use Rattle.raw_document.specs.declared.doc_path.PathStep.{PathStep}

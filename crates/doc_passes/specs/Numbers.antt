@@ -10,7 +10,7 @@ use Rattle.bwe_specs.specs.declared.report.Target.{Target}
 use Rattle.bwe_specs.specs.declared.report.Target.TheVariants as targets
 use Rattle.bwe_specs.specs.declared.report.Report.{Report}
 use Rattle.bwe_specs.specs.Paths.{Path, PathGroups}
-use Rattle.path_groups.specs.Given.{Group}
+use Rattle.bwe_specs.specs.Given.{Group}
 use Rattle.doc_passes.specs.Names.{number_in, fold_member}
 
 -- the owners are by number: of each link, where it has one, and of each task in the order of the

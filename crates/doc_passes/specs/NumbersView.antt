@@ -3,7 +3,7 @@ use Rattle.std.specs.Prelude.{ℕ, List}
 use Rattle.raw_document.specs.Reading.{each_view}
 use Rattle.doc_passes.specs.declared.numbers.DocumentNumbers.{DocumentNumbers}
 use Rattle.doc_passes.specs.declared.groups.GroupNumbers.{GroupNumbers}
-use Rattle.path_groups.specs.Given.{Group, group_of}
+use Rattle.bwe_specs.specs.Given.{Group, group_of}
 use Rattle.doc_passes.specs.Numbers.{Numbers}
 
 abbrev pub numbers_view : DocumentNumbers → Numbers

@@ -3,8 +3,8 @@ use Rattle.std.specs.Prelude.{◌≡◌, ℕ, ◌<◌, ◌≤◌, length, Option
 use Rattle.bwe_specs.specs.declared.limits.TheConstants.{MAX_CLOSINGS, MAX_GROUPS, MAX_REPORTERS, MAX_REPORTS, MAX_SHARE}
 use Rattle.bwe_specs.specs.declared.network.Closing.{Closing}
 use Rattle.bwe_specs.specs.declared.report.Report.{Report}
-use Rattle.demand_book.specs.Fit.{IsFit}
-use Rattle.path_groups.specs.Given.{AreInRange}
+use Rattle.bwe_specs.specs.Fit.{IsFit}
+use Rattle.bwe_specs.specs.Given.{AreInRange}
 use Rattle.raw_document.specs.Raw.{Raw}
 use Rattle.doc_passes.specs.Counts.{task_count}
 use Rattle.doc_passes.specs.InRange.{IsInRange}

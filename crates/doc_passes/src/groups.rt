@@ -7,7 +7,7 @@ ghost use Rattle.bwe_specs.specs.Paths as paths;
 ghost use Rattle.raw_document.specs.Raw.{name_view, path_view, path_group_view, task_view, job_view, user_view, group_view};
 ghost use Rattle.raw_document.specs.declared.key.DocKey.TheVariants as keys;
 ghost use Rattle.raw_document.specs.declared.doc_path.PathStep.TheVariants.{Key};
-ghost use Rattle.path_groups.specs.Given.{path_of, path_group_of, group_of};
+ghost use Rattle.bwe_specs.specs.Given.{path_of, path_group_of, group_of};
 ghost use Rattle.doc_passes.specs.Names.{number_in, fold_member};
 ghost use Rattle.doc_passes.specs.Numbers as spec;
 ghost use Rattle.doc_passes.specs.NumbersView.{group_numbers_view};
@@ -15,7 +15,7 @@ ghost use Rattle.doc_passes.specs.NumbersView.{group_numbers_view};
 use crate::name_table::NameTable;
 use crate::numbered::{Numbered, each_numbers, number_near_in_member};
 use crate::walk::{Walked, walk_member};
-use path_groups::{GroupSpec, PathSpec};
+use bwe_specs::{GroupSpec, PathSpec};
 use raw_document::{DocKey, Fault, PathStep, RawGroup, RawJob, RawPath, RawTask, RawUser, under};
 use std::alloc::Global;
 
@@ -174,7 +174,7 @@ pub struct GroupTables<'t, 'a> {
 /// owners.
 impl<'a, 't, 'b> Walked<GroupTables<'t, 'b>, Vec<GroupSpec>, Vec<u32>> for RawGroup<'a> {
     ghost use Rattle.std.specs.Prelude.{ℕ, List};
-    ghost use Rattle.path_groups.specs.Given.{Group};
+    ghost use Rattle.bwe_specs.specs.Given.{Group};
 
     ghost Shown = { raw.Group };
 

@@ -14,8 +14,7 @@ use crate::groups::{GroupNumbers, group_numbers};
 use crate::name_table::NameTable;
 use crate::numbered::{Numbered, each_numbers, number_in_member};
 use crate::script::script_numbers;
-use bwe_specs::{Closing, Report};
-use path_groups::GroupSpec;
+use bwe_specs::{Closing, GroupSpec, Report};
 use raw_document::{DocKey, Fault, PathStep, RawClosing, RawDocument, RawLink, under};
 use std::alloc::Global;
 

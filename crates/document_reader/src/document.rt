@@ -2,7 +2,7 @@
 
 ghost use Rattle.std.specs.Prelude.{◌≡◌, ◌≤◌, ◌<◌, ◌^◌, ◌&&◌, not, nat_lt, length, IfOk, IfSome};
 ghost use Rattle.bwe_specs.specs.DocumentLimits.{limits_of};
-ghost use Rattle.path_groups.specs.Given.{AreInRange, groups_of, path_groups_of};
+ghost use Rattle.bwe_specs.specs.Given.{AreInRange, groups_of, path_groups_of};
 ghost use Rattle.path_groups.specs.Plan.{IsBuiltOn};
 ghost use Rattle.path_groups.specs.Faults.{plan_fault};
 ghost use Rattle.policy_tree.specs.Walk.{tree_fault};
@@ -19,10 +19,10 @@ ghost use Rattle.doc_parts.specs.Gathering.{AreTreeParts, IsGathered, Gathers};
 ghost use Rattle.plan_doc.specs.Conditions.{IsUsable};
 
 use crate::gathered::{gathered_by_tokens, gathered_on_threads};
-use bwe_specs::MAX_GROUPS;
+use bwe_specs::{GroupSpec, MAX_GROUPS};
 use doc_names::find_not_owned;
 use fault_scan::find_fault;
-use path_groups::{GroupSpec, PathPlan};
+use path_groups::PathPlan;
 use plan_doc::{
     Built, DocError, Document, Gathered, Named, TreeParts, build_plan, build_tree, check_owners,
     finish, read_document_by_tree,

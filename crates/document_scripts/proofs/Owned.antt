@@ -8,7 +8,7 @@ use Rattle.bwe_specs.specs.Reports.{reports_of, AreOwned}
 use Rattle.bwe_specs.specs.Allocation.{Plan, allocation}
 use Rattle.allocation_laws.proofs.Allocations.{allocation-interleaved}
 use Rattle.bwe_specs.specs.declared.limits.TheConstants.{MAX_REPORTERS, MAX_REPORTS}
-use Rattle.demand_book.specs.Fit.{IsFit}
+use Rattle.bwe_specs.specs.Fit.{IsFit}
 use Rattle.plan_doc.specs.declared.document.Document.{Document}
 use Rattle.plan_doc.specs.Conditions.{IsUsable, link_count, reporter_count, tasks_in}
 use Rattle.plan_doc.specs.Owners.{owner_of}

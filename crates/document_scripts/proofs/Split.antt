@@ -11,7 +11,7 @@ use Rattle.bwe_specs.specs.declared.report.Report.{Report}
 use Rattle.bwe_specs.specs.Reports.{reports_of}
 use Rattle.bwe_specs.proofs.Bounds.{sum_below-add, sum_below-zero, sum_below-same}
 use Rattle.bwe_specs.proofs.Sums.{sum_by-numbers}
-use Rattle.demand_book.specs.Fit.{IsFit}
+use Rattle.bwe_specs.specs.Fit.{IsFit}
 use Rattle.crew_log.specs.Scripts.{AreOfReporters, reports_in}
 use Rattle.bwe_specs.specs.Lists.{lists_of}
 use Rattle.document_scripts.specs.Scripts.{scripts_of}

@@ -2,7 +2,7 @@
 
 ghost use Rattle.std.specs.Prelude.{◌≡◌, ◌<◌, ◌≤◌, ◌^◌, [], IfOk, OnOk, length, take};
 ghost use Rattle.std.specs.List.{All};
-ghost use Rattle.demand_book.specs.Fit.{IsFit};
+ghost use Rattle.bwe_specs.specs.Fit.{IsFit};
 ghost use Rattle.bwe_specs.specs.Lists.{lists_of};
 ghost use Rattle.enforcer_core.specs.World.{IsMeant, answer_to, world_after};
 ghost use Rattle.enforce_run.specs.EventLines.{AreThere};

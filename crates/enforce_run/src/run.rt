@@ -2,7 +2,7 @@
 
 ghost use Rattle.std.specs.Prelude.{◌≡◌, ◌<◌, ◌≤◌, ◌^◌, [], IfOk, length};
 ghost use Rattle.std.specs.List.{All};
-ghost use Rattle.demand_book.specs.Fit.{IsFit};
+ghost use Rattle.bwe_specs.specs.Fit.{IsFit};
 ghost use Rattle.enforce_run.specs.EventLines.{AreThere};
 ghost use Rattle.enforce_run.specs.EnforceText.{enforced_text};
 ghost use Rattle.enforce_run.specs.Lawful.{AreLawful, DoSettle};

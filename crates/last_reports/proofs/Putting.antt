@@ -10,8 +10,8 @@ use Rattle.bwe_specs.specs.declared.report.Report.{Report}
 use Rattle.bwe_specs.specs.declared.report.Target.{Target}
 use Rattle.bwe_specs.specs.declared.report.Target.TheVariants.{Task, Link}
 use Rattle.bwe_specs.specs.Reports.{numbers, is_task, is_link}
-use Rattle.demand_book.specs.Fit.{IsInRange}
-use Rattle.demand_book.proofs.LastReports.{is_task-same, is_task-other, is_task-link, is_link-same, is_link-other, is_link-task}
+use Rattle.bwe_specs.specs.Fit.{IsInRange}
+use Rattle.bwe_specs.proofs.LastReports.{is_task-same, is_task-other, is_task-link, is_link-same, is_link-other, is_link-task}
 use Rattle.last_reports.specs.Compaction.{last_report}
 use Rattle.last_reports.specs.Snapshot.{Told, told_after, snapshot}
 use Rattle.last_reports.proofs.Last.{last_report-told, last_report-other}

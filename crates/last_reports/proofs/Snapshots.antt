@@ -7,7 +7,7 @@ use Rattle.bwe_specs.specs.declared.report.Report.{Report}
 use Rattle.bwe_specs.specs.declared.report.Target.{Target}
 use Rattle.bwe_specs.specs.declared.report.Target.TheVariants.{Task, Link}
 use Rattle.bwe_specs.specs.Reports.{numbers, is_task, is_link}
-use Rattle.demand_book.specs.Fit.{IsInRange}
+use Rattle.bwe_specs.specs.Fit.{IsInRange}
 use Rattle.last_reports.specs.Compaction.{AreAlike, last_report}
 use Rattle.last_reports.specs.Snapshot.{SnapshotLaw, snapshot}
 use Rattle.last_reports.proofs.Last.{last_report-append, last_report-cons}

@@ -3,7 +3,7 @@ use Rattle.std.specs.Prelude.{◌≡◌, ℕ, ◌++◌, List, Option, length, ma
 use Rattle.bwe_specs.specs.declared.report.Report.{Report}
 use Rattle.bwe_specs.specs.Reports.{numbers, is_task, is_link}
 use Rattle.bwe_specs.specs.Allocation.{Plan, allocation}
-use Rattle.demand_book.specs.Fit.{IsInRange}
+use Rattle.bwe_specs.specs.Fit.{IsInRange}
 use Rattle.last_reports.specs.Compaction.{last_report}
 
 -- of each task and each link its last report, where it has one

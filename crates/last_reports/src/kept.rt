@@ -2,7 +2,7 @@
 
 ghost use Rattle.std.specs.Prelude.{◌≡◌, ◌++◌, ◌∷◌, [], ℕ, List, None, All, length, filter_map, replicate, IfOk, OnOk};
 ghost use Rattle.bwe_specs.specs.declared.report.Report.{Report};
-ghost use Rattle.demand_book.specs.Fit.{IsInRange};
+ghost use Rattle.bwe_specs.specs.Fit.{IsInRange};
 ghost use Rattle.last_reports.specs.Snapshot.{snapshot, told_after};
 
 use bwe_specs::{OutOfMemory, Report, Target};

@@ -2,7 +2,7 @@
 use Rattle.std.specs.Prelude.{◌≡◌, ℕ, List, length, All}
 use Rattle.bwe_specs.specs.declared.report.Report.{Report}
 use Rattle.bwe_specs.specs.Allocation.{Plan, Table, allocation}
-use Rattle.demand_book.specs.Fit.{IsFit}
+use Rattle.bwe_specs.specs.Fit.{IsFit}
 use Rattle.last_reports.specs.Snapshot.{Told, told_after}
 use Rattle.allocator.specs.Allocators.{Allocating, plan_in}
 use Rattle.allocator.specs.Frames.{task_count}

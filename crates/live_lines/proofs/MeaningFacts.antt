@@ -8,7 +8,7 @@ use Rattle.std.proofs.lemmas.Option.{slice_get_past}
 use Rattle.bwe_specs.specs.declared.report.Report.{Report}
 use Rattle.bwe_specs.specs.declared.report.Target.{Target}
 use Rattle.bwe_specs.specs.declared.report.Target.TheVariants.{Task, Link}
-use Rattle.demand_book.specs.Fit.{IsInRange}
+use Rattle.bwe_specs.specs.Fit.{IsInRange}
 use Rattle.live_lines.specs.declared.line.LineCause.TheVariants.{NoLine}
 use Rattle.live_lines.specs.declared.line.LineMeaning.TheVariants.{Post, State, Refused}
 use Rattle.text_scan.specs.Words.{Text, words_of}

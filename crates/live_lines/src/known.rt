@@ -3,7 +3,7 @@
 ghost use Rattle.std.specs.Prelude.{◌≡◌, ◌≤◌, codes, length, option_map, IfOk, IfSome};
 ghost use Rattle.std.specs.Str.{bytes_eq};
 ghost use Rattle.bwe_specs.specs.declared.limits.TheConstants.{MAX_AMOUNT};
-ghost use Rattle.demand_book.specs.Fit.{IsFit};
+ghost use Rattle.bwe_specs.specs.Fit.{IsFit};
 ghost use Rattle.doc_names.specs.NameTexts.{texts_of};
 ghost use Rattle.text_scan.specs.Words.{words_of};
 ghost use Rattle.doc_names.specs.Owners as owners;

@@ -10,9 +10,9 @@ use Rattle.std.proofs.lemmas.List.Quantifiers.{position-Some}
 use Rattle.std.proofs.lemmas.List.Sums.{fails_before_first}
 use Rattle.std.proofs.lemmas.Slice.Eq.{bytes_eq-Decides}
 use Rattle.bwe_specs.specs.declared.report.Report.{Report}
-use Rattle.demand_book.specs.Fit.{IsFit}
+use Rattle.bwe_specs.specs.Fit.{IsFit}
 use Rattle.allocator.specs.Frames.{task_count}
-use Rattle.path_groups.specs.Given.{Group}
+use Rattle.bwe_specs.specs.Given.{Group}
 use Rattle.path_groups.specs.Faults.{plan_fault}
 use Rattle.wan_topology.specs.Network.{network_of}
 use Rattle.doc_names.specs.Owners.{not_owned}

@@ -5,7 +5,7 @@ use Rattle.std.specs.Option.{option_or}
 use Rattle.bwe_specs.specs.DocumentLimits.{limits_of}
 use Rattle.bwe_specs.specs.declared.limits.TheConstants.{MAX_SHARE}
 use Rattle.bwe_specs.specs.declared.report.Report.{Report}
-use Rattle.path_groups.specs.Given.{Group}
+use Rattle.bwe_specs.specs.Given.{Group}
 use Rattle.raw_document.specs.declared.key.DocKey.TheVariants as keys
 use Rattle.raw_document.specs.declared.doc_path.PathStep.{PathStep}
 use Rattle.raw_document.specs.declared.doc_path.PathStep.TheVariants.{Key}

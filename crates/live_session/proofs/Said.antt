@@ -9,7 +9,7 @@ use Rattle.bwe_specs.specs.declared.limits.TheConstants.{MAX_AMOUNT}
 use Rattle.bwe_specs.specs.declared.report.Report.{Report}
 use Rattle.bwe_specs.specs.declared.report.Target.{Target}
 use Rattle.bwe_specs.specs.declared.report.Target.TheVariants.{Task, Link}
-use Rattle.demand_book.specs.Fit.{IsFit, IsInRange}
+use Rattle.bwe_specs.specs.Fit.{IsFit, IsInRange}
 use Rattle.doc_names.specs.Owners.{is_owner, owner_of}
 use Rattle.doc_names.proofs.OwnerFacts.{owner_is}
 use Rattle.text_scan.specs.Names.{number_of_name}

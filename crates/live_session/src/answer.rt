@@ -2,7 +2,7 @@
 
 ghost use Rattle.std.specs.Prelude.{◌≡◌, ◌<◌, length, IfOk, OnOk};
 ghost use Rattle.bwe_specs.specs.Allocation.{allocation};
-ghost use Rattle.demand_book.specs.Fit.{IsFit};
+ghost use Rattle.bwe_specs.specs.Fit.{IsFit};
 ghost use Rattle.last_reports.specs.Snapshot.{snapshot};
 ghost use Rattle.live_lines.specs.Meaning.{IfNewReport};
 ghost use Rattle.change_text.specs.ChangeText.{change_text_of};

@@ -2,8 +2,8 @@
 use Rattle.std.specs.Prelude.{ℕ, ◌<◌, List, All}
 use Rattle.std.proofs.lemmas.List.Elements.{All-map}
 use Rattle.bwe_specs.specs.Paths.{Path, PathGroup}
-use Rattle.path_groups.specs.declared.given.GroupSpec.{GroupSpec}
-use Rattle.path_groups.specs.Given.{Group, AreInRange, groups_of, group_of, path_group_of, path_of}
+use Rattle.bwe_specs.specs.declared.given.GroupSpec.{GroupSpec}
+use Rattle.bwe_specs.specs.Given.{Group, AreInRange, groups_of, group_of, path_group_of, path_of}
 
 -- each link number is below this one, where the groups are given
 abbrev pub AreGivenInRange : ℕ → List GroupSpec → Type 0

@@ -4,8 +4,9 @@ ghost use Rattle.std.specs.Prelude.{◌≡◌, ◌<◌, ◌↔◌, length, All, 
 ghost use Rattle.path_groups.specs.Plan.{IsBuiltOn};
 
 use crate::slopes::Slopes;
+use bwe_specs::{GroupSpec, PathSpec};
 use mpfa_fill::GroupValues;
-use path_groups::{GroupSpec, PathError, PathPlan, PathSpec};
+use path_groups::{PathError, PathPlan};
 use std::alloc::Global;
 use wan_topology::Topology;
 

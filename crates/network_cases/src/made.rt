@@ -4,7 +4,7 @@ ghost use Rattle.std.specs.Prelude.{◌≡◌, ◌+◌, ◌<◌, ◌≤◌, leng
 
 use crate::numbers::Numbers;
 use crate::slopes::{Slope, Slopes};
-use path_groups::{GroupSpec, PathSpec};
+use bwe_specs::{GroupSpec, PathSpec};
 use std::alloc::{AllocError, Global};
 use wan_topology::LinkSpec;
 

@@ -1,11 +1,17 @@
 //! One call: what it may read, what it writes, and its exit status.
 //!
 //! The top call reads by `read_input`, asks of an input above 67,108,864 bytes whether its document
-//! is of version 4, and ends by `finish` or by `refuse_input`, or writes the usage line
-//! (`program_words`) by `write_text`; `Ending` says of a whole call how it may end, for the command
-//! that its arguments are. The whole text is made before its first byte is written. Nothing is
-//! promised of which answer a command has, nor that memory is there.
+//! is of version 4 (`document_is_too_long`, exact by `specs/Lengths.antt`), and ends by `finish` or
+//! by `refuse_input`, or writes the usage line (`program_words`) by `write_text`; `Ending` says of a
+//! whole call how it may end, for the command that its arguments are. `solve` alone may read a
+//! document first, and ask for its length where that is refused. The whole text is made before its
+//! first byte is written. Nothing is promised of which answer a command has, nor that memory is
+//! there.
 #![tactic(auto)]
+
+mod lengths;
+
+pub use lengths::document_is_too_long;
 
 ghost use Rattle.std.specs.Prelude.{◌≡◌, ◌≢◌, ◌+◌, Err, true, false, IfOk, IsErrOf, MatchResult};
 ghost use Rattle.bwe_io.specs.Bytes.{Takes};

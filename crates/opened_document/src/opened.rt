@@ -2,7 +2,7 @@
 
 ghost use Rattle.std.specs.Prelude.{◌≡◌, ◌≤◌, [], All, IfOk, length};
 ghost use Rattle.bwe_specs.specs.declared.limits.TheConstants.{MAX_REPORTS};
-ghost use Rattle.demand_book.specs.Fit.{IsFit};
+ghost use Rattle.bwe_specs.specs.Fit.{IsFit};
 ghost use Rattle.plan_doc.specs.Conditions.{IsUsable};
 ghost use Rattle.plan_doc.specs.Plans.{plan_in};
 

@@ -4,9 +4,9 @@ use Rattle.std.proofs.lemmas.List.{length-map}
 use Rattle.bwe_specs.specs.Paths.{Path, PathGroup}
 use Rattle.wan_topology.specs.Network.{Network}
 use Rattle.path_groups.specs.declared.fault.PathFault.TheVariants.{TooManyPathGroups, NoPath, TooManyPaths, TooManyHops, WeightRange, BrokenPath, RepeatedHop}
-use Rattle.path_groups.specs.declared.given.PathSpec.{PathSpec}
-use Rattle.path_groups.specs.declared.given.GroupSpec.{GroupSpec}
-use Rattle.path_groups.specs.Given.{Group, path_of, path_group_of, group_of}
+use Rattle.bwe_specs.specs.declared.given.PathSpec.{PathSpec}
+use Rattle.bwe_specs.specs.declared.given.GroupSpec.{GroupSpec}
+use Rattle.bwe_specs.specs.Given.{Group, path_of, path_group_of, group_of}
 use Rattle.path_groups.specs.Faults.{first_fault, is_chain, repeats, path_fault, path_group_fault, group_fault}
 
 module _ (network : Network) (number : ℕ) (group : Group) (place path_number : ℕ) (path : Path) where

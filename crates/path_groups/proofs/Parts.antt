@@ -12,9 +12,9 @@ use Rattle.bwe_specs.specs.Paths.{PathGroup, goes_over, uses, weight_of, weight_
 use Rattle.bwe_specs.proofs.Lists.{sum_by-map}
 use Rattle.bwe_specs.proofs.Loads.{weight_over-le}
 use Rattle.std.specs.Int.{div_ceil}
-use Rattle.path_groups.specs.declared.given.PathSpec.{PathSpec}
+use Rattle.bwe_specs.specs.declared.given.PathSpec.{PathSpec}
 use Rattle.path_groups.specs.declared.part.LinkPart.{LinkPart}
-use Rattle.path_groups.specs.Given.{path_of, weight_on}
+use Rattle.bwe_specs.specs.Given.{path_of, weight_on}
 use Rattle.path_groups.specs.Parts.{IsPart, IsPartOf, IsPartOn, has_part, AreSomeParts, AreParts, HasPartToo}
 
 -- ---- the weights, over the paths as the code has them

@@ -7,8 +7,8 @@ use Rattle.std.proofs.lemmas.Bool.{and_parts, cases_lt}
 use Rattle.std.proofs.lemmas.List.{length-map, map_push}
 use Rattle.bwe_specs.specs.Paths.{PathGroup, path_group_at, path_group_count, weight_of}
 use Rattle.wan_topology.specs.Network.{Network, sites_of}
-use Rattle.path_groups.specs.declared.given.GroupSpec.{GroupSpec}
-use Rattle.path_groups.specs.Given.{Group, path_groups_of, AreInRange, path_group_of, group_of}
+use Rattle.bwe_specs.specs.declared.given.GroupSpec.{GroupSpec}
+use Rattle.bwe_specs.specs.Given.{Group, path_groups_of, AreInRange, path_group_of, group_of}
 use Rattle.path_groups.specs.Faults.{leads, is_chain}
 use Rattle.path_groups.specs.Plan.{IsPlan, is_linked, IsPathOf, IsBuiltOn}
 use Rattle.path_groups.proofs.Lists.{get_map}

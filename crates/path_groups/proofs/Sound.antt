@@ -7,7 +7,7 @@ use Rattle.bwe_specs.proofs.Lists.{neither}
 use Rattle.bwe_specs.specs.Paths.{Path, PathGroup, weight_of}
 use Rattle.wan_topology.specs.Network.{Network}
 use Rattle.path_groups.specs.declared.fault.PathFault.{PathFault}
-use Rattle.path_groups.specs.Given.{Group}
+use Rattle.bwe_specs.specs.Given.{Group}
 use Rattle.path_groups.specs.Faults.{first_fault, is_chain, path_fault, path_group_fault, group_fault, plan_fault}
 use Rattle.path_groups.proofs.CauseOrder.{path_fault-long, path_fault-light, path_fault-heavy, path_fault-broken, path_group_fault-many, path_group_fault-empty, path_group_fault-first, group_fault-many, group_fault-empty, group_fault-first}
 

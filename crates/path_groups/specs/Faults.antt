@@ -9,7 +9,7 @@ use Rattle.path_groups.specs.declared.fault.PathFault.{PathFault}
 use Rattle.path_groups.specs.declared.fault.PathFault.TheVariants.{TooManyPathGroups, NoPath, TooManyPaths, TooManyHops, WeightRange, BrokenPath, RepeatedHop}
 use Rattle.path_groups.specs.declared.fault.PathError.{PathError}
 use Rattle.path_groups.specs.declared.fault.PathError.TheVariants.{Refused, OutOfMemory}
-use Rattle.path_groups.specs.Given.{Group}
+use Rattle.bwe_specs.specs.Given.{Group}
 
 -- the fault of the first item that has one; the first item has this number
 unfoldable pub first_fault : {A : Type 0} → (ℕ → A → Option PathFault) → ℕ → List A

@@ -3,7 +3,7 @@ use Rattle.std.specs.Prelude.{List, map, All, Vec}
 use Rattle.std.proofs.Common.{Global}
 use Rattle.bwe_specs.specs.Paths as paths
 use Rattle.path_groups.specs.declared.plan.PathGroup.{PathGroup}
-use Rattle.path_groups.specs.Given.{path_group_of}
+use Rattle.bwe_specs.specs.Given.{path_group_of}
 use Rattle.path_groups.specs.Parts.{AreParts}
 
 -- the path group that is held

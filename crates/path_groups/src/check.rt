@@ -2,13 +2,14 @@
 
 ghost use Rattle.std.specs.Prelude.{◌≡◌, ℕ, ◌==◌, ◌<◌, ◌≤◌, All, List, length, map, string_bytes};
 ghost use Rattle.std.specs.List.{list_any};
-ghost use Rattle.path_groups.specs.Given.{AreInRange, path_of, path_group_of, group_of, groups_of};
+ghost use Rattle.bwe_specs.specs.Given.{AreInRange, path_of, path_group_of, group_of, groups_of};
 ghost use Rattle.path_groups.specs.Faults.{leads as leads_of, is_chain as is_chain_of, repeats as repeats_of, path_fault, path_group_fault, group_fault, plan_fault};
 ghost use Rattle.path_groups.specs.Faults.{first_fault as first_fault_of};
 
 use crate::fault::PathFault;
-use crate::given::{GroupSpec, PathSpec};
-use bwe_specs::{MAX_GROUPS, MAX_HOPS, MAX_PATH_GROUPS, MAX_PATHS, MAX_WEIGHT};
+use bwe_specs::{
+    GroupSpec, MAX_GROUPS, MAX_HOPS, MAX_PATH_GROUPS, MAX_PATHS, MAX_WEIGHT, PathSpec,
+};
 use wan_topology::Topology;
 
 /// The first fault of the groups.

@@ -3,11 +3,10 @@
 ghost use Rattle.std.specs.Prelude.{◌≡◌, ℕ, ◌+◌, ◌*◌, ◌^◌, ◌<◌, ◌≤◌, true, false, List, ◌∷◌, length, map, sum_by, Contains, IfOk, MatchOption};
 ghost use Rattle.std.specs.Int.{div_ceil};
 ghost use Rattle.bwe_specs.specs.Paths.{weight_of, weight_over, uses};
-ghost use Rattle.path_groups.specs.Given.{path_of, weight_on};
+ghost use Rattle.bwe_specs.specs.Given.{path_of, weight_on};
 ghost use Rattle.path_groups.specs.Parts.{IsPart, AreParts, HasPartToo, has_part as has_part_of};
 
-use crate::given::PathSpec;
-use bwe_specs::MAX_TOTAL;
+use bwe_specs::{MAX_TOTAL, PathSpec};
 use std::alloc::{AllocError, Global};
 
 /// What one link carries of an amount on a path group: as much of it as `weight` is of `whole`.

@@ -2,16 +2,15 @@
 
 ghost use Rattle.std.specs.Prelude.{◌≡◌, ℕ, ◌*◌, ◌<◌, ◌≤◌, List, false, length, map, All, IfOk, IfErr, OnOk, MatchOption, None, vec_len};
 ghost use Rattle.bwe_specs.specs.Paths.{path_group_at, path_group_count, load_on, uses, weight_of};
-ghost use Rattle.path_groups.specs.Given.{path_groups_of, AreInRange, path_group_of, groups_of};
+ghost use Rattle.bwe_specs.specs.Given.{path_groups_of, AreInRange, path_group_of, groups_of};
 ghost use Rattle.path_groups.specs.Faults.{plan_fault, TellsFault};
 ghost use Rattle.path_groups.specs.Plan.{IsPlan, IsBuiltOn};
 ghost use Rattle.path_groups.specs.Parts.{IsPart, IsPartOn, AreParts};
 
 use crate::check::first_fault;
 use crate::fault::PathError;
-use crate::given::{GroupSpec, PathSpec};
 use crate::part::{LinkPart, has_part, part_on, parts_of};
-use bwe_specs::{MAX_GROUPS, MAX_PATHS, MAX_TOTAL, MAX_WEIGHT};
+use bwe_specs::{GroupSpec, MAX_GROUPS, MAX_PATHS, MAX_TOTAL, MAX_WEIGHT, PathSpec};
 use std::alloc::{AllocError, Global};
 use std::marker::Model;
 use wan_topology::Topology;

@@ -8,8 +8,8 @@ use Rattle.bwe_specs.specs.declared.report.Target.{Target}
 use Rattle.bwe_specs.specs.declared.report.Target.TheVariants.{Task, Link}
 use Rattle.bwe_specs.specs.Reports.{demand_after, capacity_after, capacities_after}
 use Rattle.bwe_specs.proofs.Plans.{capacities_after-at, length-capacities_after}
-use Rattle.demand_book.specs.Fit.{IsInRange}
-use Rattle.demand_book.proofs.LastReports.{demand_after-told, demand_after-other, is_task-same, is_task-other, is_task-link, is_link-same, is_link-other, is_link-task, capacity_after-told, capacity_after-other}
+use Rattle.bwe_specs.specs.Fit.{IsInRange}
+use Rattle.bwe_specs.proofs.LastReports.{demand_after-told, demand_after-other, is_task-same, is_task-other, is_task-link, is_link-same, is_link-other, is_link-task, capacity_after-told, capacity_after-other}
 use Rattle.plain_table.specs.Reported.{Reported, IsAfter, with_report}
 
 -- the capacities after reports, link by link

@@ -4,7 +4,7 @@ use Rattle.std.proofs.lemmas.List.{length-set}
 use Rattle.bwe_specs.specs.declared.report.Report.{Report}
 use Rattle.bwe_specs.specs.declared.report.Target.{Target}
 use Rattle.bwe_specs.specs.declared.report.Target.TheVariants.{Task, Link}
-use Rattle.demand_book.specs.Fit.{IsInRange}
+use Rattle.bwe_specs.specs.Fit.{IsInRange}
 use Rattle.policy_tree.specs.Trees.{Tree}
 use Rattle.wan_topology.specs.Network.{Network}
 use Rattle.plain_table.specs.Reported.{Reported, reported_in, told, with_report}

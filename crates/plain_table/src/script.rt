@@ -1,7 +1,7 @@
 //! A tree and a network after a script.
 
 ghost use Rattle.std.specs.Prelude.{◌≡◌, ◌+◌, ℕ, List, length, replicate, All, OnOk};
-ghost use Rattle.demand_book.specs.Fit.{IsFit};
+ghost use Rattle.bwe_specs.specs.Fit.{IsFit};
 ghost use Rattle.plain_table.specs.Reported.{reported_in, reported_with, with_report};
 ghost use Rattle.plain_table.specs.Scripts.{IsAfterScript};
 

@@ -4,7 +4,7 @@ use Rattle.std.specs.Prelude.{All}
 use Rattle.std.proofs.lemmas.List.{length-map, length-replicate}
 use Rattle.std.proofs.lemmas.List.Elements.{All-same}
 use Rattle.wan_topology.specs.Network.{Network, network_of}
-use Rattle.path_groups.specs.Given.{Group, path_groups_of}
+use Rattle.bwe_specs.specs.Given.{Group, path_groups_of}
 use Rattle.path_groups.specs.Plan.{IsBuiltOn}
 use Rattle.bwe_specs.specs.Paths.{PathGroups}
 use Rattle.tree_spec.specs.States.{cluster_tasks}

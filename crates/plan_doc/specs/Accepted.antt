@@ -1,7 +1,7 @@
 -- What of the definition Document the code answers.
 use Rattle.std.specs.Prelude.{◌≡◌, length, replicate, Result, Ok, Err}
 use Rattle.wan_topology.specs.Network.{network_of}
-use Rattle.path_groups.specs.Given.{path_groups_of}
+use Rattle.bwe_specs.specs.Given.{path_groups_of}
 use Rattle.tree_spec.specs.Trees.{Tree, task_numbers}
 use Rattle.plan_doc.specs.declared.document.Document.{Document}
 use Rattle.doc_refusals.specs.declared.doc_error.DocError.{DocError}

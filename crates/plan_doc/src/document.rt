@@ -3,7 +3,7 @@
 
 ghost use Rattle.std.specs.Prelude.{◌≡◌, ◌≤◌, ◌<◌, ◌^◌, ◌&&◌, not, nat_lt, length, IfOk, IfErr, IfSome};
 ghost use Rattle.bwe_specs.specs.DocumentLimits.{limits_of};
-ghost use Rattle.path_groups.specs.Given.{AreInRange, groups_of, path_groups_of};
+ghost use Rattle.bwe_specs.specs.Given.{AreInRange, groups_of, path_groups_of};
 ghost use Rattle.path_groups.specs.Plan.{IsBuiltOn};
 ghost use Rattle.path_groups.specs.Faults.{plan_fault};
 ghost use Rattle.tree_spec.specs.Walk.{tree_fault};
@@ -20,12 +20,12 @@ ghost use Rattle.doc_parts.specs.Gathering.{AreTreeParts, IsGathered, Gathers};
 ghost use Rattle.plan_doc.specs.Conditions.{IsUsable};
 ghost use Rattle.plan_doc.specs.Last.{last_refusals, AreFaultless};
 
-use bwe_specs::{Closing, DocumentLimits, MAX_GROUPS, Report};
+use bwe_specs::{Closing, DocumentLimits, GroupSpec, MAX_GROUPS, Report};
 use doc_names::{Names, find_not_owned};
 use doc_parts::{Built, Gathered, Named, TreeParts, gathered_by_tree};
 use doc_passes::DocumentNumbers;
 use doc_refusals::DocError;
-use path_groups::{GroupSpec, PathError, PathPlan};
+use path_groups::{PathError, PathPlan};
 use policy_tree::PolicyTree;
 use std::alloc::Global;
 use tree_spec::{TreeError, TreeFault};

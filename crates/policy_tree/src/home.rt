@@ -10,7 +10,7 @@ use bwe_specs::OutOfMemory;
 use std::alloc::Global;
 
 /// The places of a task's cluster, user and job, and its own place in the job.
-#[derive(Clone, Copy, Debug, PartialEq, Eq, Drop)]
+#[derive(Clone, Copy, Drop)]
 pub(crate) struct Home {
     pub(crate) cluster: u32,
     pub(crate) user: u32,

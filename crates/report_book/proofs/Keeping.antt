@@ -8,11 +8,11 @@ use Rattle.bwe_specs.specs.declared.report.Report.{Report}
 use Rattle.bwe_specs.specs.Reports.{demand_after, capacity_after}
 use Rattle.bwe_specs.specs.declared.limits.TheConstants.{MAX_REPORTS}
 use Rattle.report_book.specs.declared.told.Told.{Told}
-use Rattle.demand_book.specs.Fit.{IsInRange}
+use Rattle.bwe_specs.specs.Fit.{IsInRange}
 use Rattle.report_book.specs.Told.{Tells}
 use Rattle.report_book.specs.Book.{Book, AreKept, with_report, row_at, task_rows_after, link_rows_after}
 use Rattle.report_book.proofs.Amounts.{Tells-none, Tells-told, Tells-kept}
-use Rattle.demand_book.proofs.LastReports.{demand_after-none, demand_after-told, demand_after-other, is_task-same, is_task-other, is_task-link, is_link-same, is_link-other, is_link-task, capacity_after-none, capacity_after-told, capacity_after-other}
+use Rattle.bwe_specs.proofs.LastReports.{demand_after-none, demand_after-told, demand_after-other, is_task-same, is_task-other, is_task-link, is_link-same, is_link-other, is_link-task, capacity_after-none, capacity_after-told, capacity_after-other}
 
 -- nothing was reported
 pub AreKept-empty : (tasks : ℕ) (capacities : List ℕ) (task_rows link_rows : List (List Told)) → length task_rows ≡ tasks → length link_rows ≡ length capacities

@@ -2,7 +2,7 @@
 ghost use Rattle.std.specs.Prelude.{ℕ, ◌≡◌, ◌<◌, ◌≤◌, ◌++◌, ◌∷◌, ◌↔◌, [], length, take, slice_get, slice_set, slice_index, IfOk, IfErr, OnOk, OnErr};
 ghost use Rattle.bwe_specs.specs.Reports.{demand_after, capacity_after};
 ghost use Rattle.report_book.specs.declared.book.BookError.TheVariants.{OutOfMemory};
-ghost use Rattle.demand_book.specs.Fit.{IsFit, IsInRange};
+ghost use Rattle.bwe_specs.specs.Fit.{IsFit, IsInRange};
 ghost use Rattle.bwe_specs.specs.Lists.{lists_of};
 ghost use Rattle.report_book.specs.Book.{Book, IsRefusal, with_report, row_at, task_rows_after, link_rows_after};
 

@@ -2,7 +2,7 @@
 ghost use Rattle.std.specs.Prelude.{◌≡◌, ◌<◌, ◌≤◌, List, [], length, take, IfOk};
 ghost use Rattle.std.specs.List.{All};
 ghost use Rattle.bwe_specs.specs.declared.report.Report.{Report};
-ghost use Rattle.demand_book.specs.Fit.{IsFit};
+ghost use Rattle.bwe_specs.specs.Fit.{IsFit};
 ghost use Rattle.doc_names.specs.NameTexts.{texts_of};
 ghost use Rattle.bwe_specs.specs.Lists.{lists_of};
 ghost use Rattle.run_audit.specs.History.{total_of};

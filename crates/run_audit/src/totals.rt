@@ -2,7 +2,7 @@
 ghost use Rattle.std.specs.Prelude.{◌≡◌, ◌+◌, ◌<◌, ◌≤◌, ℕ, List, [], true, false, length, slice_index, slice_index_or, take, IfOk, OnOk};
 ghost use Rattle.std.specs.List.{All};
 ghost use Rattle.bwe_specs.specs.declared.report.Report.{Report};
-ghost use Rattle.demand_book.specs.Fit.{IsFit};
+ghost use Rattle.bwe_specs.specs.Fit.{IsFit};
 ghost use Rattle.run_audit.specs.Checks.{AreTotals, first_wrong as first_wrong_of};
 
 use crate::verdict::{AuditCause, AuditVerdict};

@@ -7,7 +7,7 @@ use Rattle.std.proofs.lemmas.List.Elements.{All-nil, All-push, All-cons, All-hea
 use Rattle.std.proofs.lemmas.List.Quantifiers.{position-Some}
 use Rattle.bwe_specs.specs.declared.limits.TheConstants.{MAX_AMOUNT}
 use Rattle.bwe_specs.specs.declared.report.Report.{Report}
-use Rattle.demand_book.specs.Fit.{IsFit}
+use Rattle.bwe_specs.specs.Fit.{IsFit}
 use Rattle.demand_estimate.specs.Estimate.{estimate, with_headroom}
 use Rattle.sample_lines.specs.declared.sample.Sample.{Sample}
 use Rattle.text_scan.specs.Items.{items_of}

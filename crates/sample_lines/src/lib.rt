@@ -9,7 +9,7 @@
 #![tactic(auto)]
 
 ghost use Rattle.std.specs.Prelude.{◌≡◌, ◌≤◌, ℕ, All, IfOk, length};
-ghost use Rattle.demand_book.specs.Fit.{IsFit};
+ghost use Rattle.bwe_specs.specs.Fit.{IsFit};
 ghost use Rattle.bwe_specs.specs.declared.limits.TheConstants.{MAX_WINDOW, MIN_HEADROOM, MAX_HEADROOM};
 ghost use Rattle.sample_lines.specs.Held.{IsByOwner};
 ghost use Rattle.sample_lines.specs.Known.{known_by};

@@ -5,7 +5,7 @@ use Rattle.std.proofs.lemmas.Bool.{lt-ltb, ne_eqb}
 use Rattle.bwe_specs.specs.declared.report.Report.{Report}
 use Rattle.bwe_specs.specs.Allocation.{Plan}
 use Rattle.one_run.specs.Endings.{Reply, is_above, max_input}
-use Rattle.input_lengths.specs.Lengths.{document_is_too_long}
+use Rattle.one_run.specs.Lengths.{document_is_too_long}
 use Rattle.version_scan.specs.Version.{is_of_version_4}
 use Rattle.doc_names.specs.NameTexts.{NameTexts, texts_of}
 use Rattle.plan_doc.specs.declared.document.Document.{Document}

@@ -1,7 +1,7 @@
 -- A call that serves the command `solve` alone.
 use Rattle.std.specs.Prelude.{◌≡◌, ℕ, ⊤, true, false, List, Option, Some, None}
 use Rattle.one_run.specs.Endings.{Ending, Reply, Served}
-use Rattle.input_lengths.specs.Lengths.{document_is_too_long}
+use Rattle.one_run.specs.Lengths.{document_is_too_long}
 use Rattle.solve_reply.specs.Refused.{document_reply}
 use Rattle.solve_reply.specs.SolveReply.{solve_accepted}
 

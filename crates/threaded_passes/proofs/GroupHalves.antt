@@ -10,7 +10,7 @@ use Rattle.raw_document.specs.declared.doc_path.Fault.{Fault}
 use Rattle.raw_document.specs.declared.doc_path.Fault.TheVariants.{OutOfMemory, At}
 use Rattle.raw_document.specs.Reading.{◌>>=◌, under, fold_each, Fails, Gives}
 use Rattle.raw_document.specs.Raw as raw
-use Rattle.path_groups.specs.Given.{Group}
+use Rattle.bwe_specs.specs.Given.{Group}
 use Rattle.bwe_specs.specs.Paths.{PathGroups}
 use Rattle.doc_passes.specs.Names.{number_in, fold_member}
 use Rattle.threaded_passes.specs.Parts.{fold_member_from}

@@ -5,7 +5,7 @@ ghost use Rattle.raw_document.specs.declared.doc_path.Fault.TheVariants.{OutOfMe
 ghost use Rattle.raw_document.specs.Reading.{Gives, each_view};
 ghost use Rattle.raw_document.specs.Raw.{group_view};
 ghost use Rattle.raw_document.specs.declared.key.DocKey.TheVariants as keys;
-ghost use Rattle.path_groups.specs.Given.{group_of};
+ghost use Rattle.bwe_specs.specs.Given.{group_of};
 ghost use Rattle.doc_passes.specs.Names.{fold_member};
 ghost use Rattle.doc_passes.specs.Numbers as spec;
 ghost use Rattle.doc_passes.specs.NumbersView.{group_numbers_view};

@@ -4,7 +4,7 @@ use Rattle.std.specs.Prelude.{⊤}
 use Rattle.command_line.specs.declared.CommandLine.{CommandLine}
 use Rattle.command_line.specs.declared.CommandLine.TheVariants.{Solve}
 use Rattle.one_run.specs.Endings.{IsDue, IsInput, Lines, Served, answered, done, far_too_long, no_line, out_of_memory, read_fault, too_long, write_fault}
-use Rattle.input_lengths.specs.Lengths.{document_is_too_long}
+use Rattle.one_run.specs.Lengths.{document_is_too_long}
 use Rattle.solve_reply.specs.Refused.{document_reply}
 use Rattle.solve_reply.specs.SolveCall.{IsSolved}
 use Rattle.solve_reply.specs.SolveReply.{solve_accepted}

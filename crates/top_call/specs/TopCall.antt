@@ -9,7 +9,7 @@ use Rattle.solve_reply.specs.SolveReply.{solve_accepted}
 use Rattle.solve_reply.specs.Refused.{document_reply}
 use Rattle.top_call.specs.RunLine.{IsRunReply}
 use Rattle.line_answers.specs.MadeLines.{bulk_reply, make_reply}
-use Rattle.input_lengths.specs.Lengths.{document_is_too_long}
+use Rattle.one_run.specs.Lengths.{document_is_too_long}
 use Rattle.parted_input.specs.Lengths.{parts_are_too_long}
 use Rattle.parted_input.specs.Parted.{IsReplyBehind, accepted_parts, parts_reply}
 use Rattle.audit_answer.specs.AuditReply.{IsAuditReply}

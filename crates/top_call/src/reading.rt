@@ -9,8 +9,7 @@ ghost use Rattle.top_call.specs.TopCall.{is_too_long, reads};
 use bwe_io::Source;
 use bwe_specs::OutOfMemory;
 use command_line::CommandLine;
-use input_lengths::document_is_too_long;
-use one_run::{InputError, read_input};
+use one_run::{InputError, document_is_too_long, read_input};
 use parted_input::parts_are_too_long;
 use std::alloc::Global;
 

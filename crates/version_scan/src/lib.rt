@@ -1,7 +1,7 @@
 //! Whether bytes are JSON, and whether they are a document of version 4, each found in one pass
 //! over the tokens.
 //!
-//! `input_lengths` asks for version 4 where a document is longer than one of versions 1 to 3 may
+//! `one_run` asks for version 4 where a document is longer than one of versions 1 to 3 may
 //! be. The answer is exact (`specs/Version.antt`): the bytes are a JSON object, and its last member
 //! `version` is the whole number 4. `raw_shape` asks whether bytes are JSON before it makes a tree
 //! of them. `fault_scan` passes over values by `pass` and reads numbers by `number`, `raw_reader`

@@ -5,7 +5,7 @@ use Rattle.std.proofs.lemmas.Grind.{flat_map-append}
 use Rattle.std.proofs.lemmas.List.{map-append, map_push}
 use Rattle.std.proofs.lemmas.List.Elements.{All-nil, All-weaker}
 use Rattle.bwe_specs.specs.Reports.{numbers}
-use Rattle.path_groups.specs.Given.{Group}
+use Rattle.bwe_specs.specs.Given.{Group}
 use Rattle.raw_document.specs.Reading.{each, fold_each}
 use Rattle.doc_passes.specs.Names.{number_in}
 use Rattle.doc_passes.specs.Numbers as numbers

@@ -7,12 +7,11 @@ use crate::{
     made_slopes, one_path,
 };
 use bottleneck_cert::{Verdict, check};
-use bwe_specs::OutOfMemory;
+use bwe_specs::{GroupSpec, OutOfMemory};
 use link_solver::solve_by_links;
 use mono_search::Steps;
 use mpfa_fill::{Closing, Filling};
 use mpfa_solver::solve;
-use path_groups::GroupSpec;
 use std::alloc::{AllocError, Global};
 use std::marker::Brand;
 use std::process::Abort;

@@ -2,7 +2,7 @@
 
 ghost use Rattle.std.specs.Prelude.{◌≡◌, ◌<◌, ◌≤◌, ◌+◌, ◌^◌, [], ℕ, length, List, IfOk};
 ghost use Rattle.bwe_specs.specs.declared.report.Report.{Report};
-ghost use Rattle.demand_book.specs.Fit.{IsFit};
+ghost use Rattle.bwe_specs.specs.Fit.{IsFit};
 
 use bwe_specs::{MAX_AMOUNT, MAX_REPORTS, OutOfMemory};
 use demand_book::{Maker, Posted, Report, Target};

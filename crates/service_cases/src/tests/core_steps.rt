@@ -1,6 +1,6 @@
 //! Steps of the core: the board as one list and a few numbers.
 ghost use Rattle.std.specs.Prelude.{◌≡◌, ◌<◌, ◌≤◌, length, IfOk};
-ghost use Rattle.demand_book.specs.Fit.{IsFit};
+ghost use Rattle.bwe_specs.specs.Fit.{IsFit};
 ghost use Rattle.board_core.specs.CoreRun.{IsMeant};
 
 use crate::tests::balky::BalkyMaker;

@@ -3,7 +3,7 @@ use Rattle.std.specs.List.{All}
 use Rattle.std.proofs.lemmas.List.{take_rest}
 use mathlib.Core.List.{IsPrefix}
 use Rattle.bwe_specs.specs.declared.report.Report.{Report}
-use Rattle.demand_book.specs.Fit.{IsFit}
+use Rattle.bwe_specs.specs.Fit.{IsFit}
 use Rattle.board_core.specs.Core.{IsAllowed}
 use Rattle.board_log.proofs.Prefixes.{followed}
 use Rattle.board_workshop.proofs.Workshop.look.Goals as goal

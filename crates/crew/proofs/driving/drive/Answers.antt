@@ -12,7 +12,7 @@ use Rattle.board.specs.declared.refusal.ReportError.TheVariants.{OutOfMemory}
 use Rattle.crew.specs.Reporters.{AreReady, HaveReported, sent_by}
 use Rattle.crew.proofs.Legal.{all_ready, in_order, never_full, is_legal}
 use Rattle.board_core.specs.Core.{IsAllowed}
-use Rattle.demand_book.specs.Fit.{IsFit}
+use Rattle.bwe_specs.specs.Fit.{IsFit}
 use Rattle.crew.proofs.Showing.{log_shown}
 use Rattle.crew.proofs.driving.drive.Goals as goal
 

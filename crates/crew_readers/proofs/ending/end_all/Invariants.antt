@@ -1,7 +1,7 @@
 use Rattle.std.proofs.Common.{◌≡◌, ℕ, ◌<◌, ◌≤◌, length, get_or}
 use Rattle.std.specs.List.{All}
 use Rattle.board_core.specs.Core.{IsAllowed}
-use Rattle.demand_book.specs.Fit.{IsFit}
+use Rattle.bwe_specs.specs.Fit.{IsFit}
 use Rattle.crew_log.specs.LegalCrewLog.{IsReaderOf}
 use Rattle.crew_readers.specs.Gates.{EndsAreShown}
 use Rattle.crew_readers.specs.Readers.{HasEnded}

@@ -3,7 +3,7 @@ use Rattle.raw_document.specs.declared.key.DocKey.TheVariants as keys
 use Rattle.raw_document.specs.declared.doc_path.PathStep.TheVariants.{Key}
 use Rattle.raw_document.specs.Reading.{each, each_view}
 use Rattle.raw_document.specs.Raw.{path_group_view}
-use Rattle.path_groups.specs.Given.{path_group_of}
+use Rattle.bwe_specs.specs.Given.{path_group_of}
 use Rattle.doc_passes.specs.Numbers.{path_numbers}
 use Rattle.raw_document.proofs.Lists.{under_gives}
 use Rattle.doc_passes.proofs.groups.path_groups_numbers.Goals as goal

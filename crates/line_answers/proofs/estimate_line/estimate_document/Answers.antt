@@ -1,7 +1,7 @@
 use Rattle.std.proofs.Common.{List, length, subst, sym}
 use Rattle.std.specs.Prelude.{All}
 use Rattle.bwe_specs.specs.declared.report.Report.{Report}
-use Rattle.demand_book.specs.Fit.{IsFit}
+use Rattle.bwe_specs.specs.Fit.{IsFit}
 use Rattle.line_answers.proofs.estimate_line.estimate_document.Goals as goal
 
 pub solve_behind-requires-clause-fit : goal.solve_behind-requires-clause-fit

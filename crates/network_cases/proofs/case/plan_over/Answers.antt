@@ -1,5 +1,5 @@
 use Rattle.std.proofs.Common.{subst}
-use Rattle.path_groups.specs.Given.{AreInRange, groups_of}
+use Rattle.bwe_specs.specs.Given.{AreInRange, groups_of}
 use Rattle.network_cases.proofs.InRange.{AreGivenInRange, in_range-given}
 use Rattle.network_cases.proofs.case.plan_over.Goals as goal
 

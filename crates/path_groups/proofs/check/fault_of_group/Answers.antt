@@ -1,7 +1,7 @@
 use Rattle.std.proofs.Common.{◌∙◌, sym, ap, ◌<◌, length, map, drop, ◌+◌, arith}
 use Rattle.std.specs.Prelude.{All}
 use Rattle.std.proofs.lemmas.List.{length-map}
-use Rattle.path_groups.specs.Given.{path_of, path_group_of, group_of}
+use Rattle.bwe_specs.specs.Given.{path_of, path_group_of, group_of}
 use Rattle.path_groups.specs.Faults.{first_fault, path_group_fault}
 use Rattle.path_groups.proofs.Lists.{All-map_item}
 use Rattle.path_groups.proofs.FirstFaults.{first_fault-next, first_fault-found, first_fault-end}

@@ -1,5 +1,5 @@
 use Rattle.std.proofs.Common.{◌≡◌, drop}
-use Rattle.path_groups.specs.Given.{group_of}
+use Rattle.bwe_specs.specs.Given.{group_of}
 use Rattle.path_groups.specs.Faults.{first_fault, path_group_fault}
 use Rattle.path_groups.proofs.check.fault_of_group.Given as goal
 

@@ -1,5 +1,5 @@
 use Rattle.std.proofs.Common.{◌≡◌, ◌∙◌, ◌≤◌, length, Bool, true, false, sym, ap, arith}
-use Rattle.path_groups.specs.Given.{group_of}
+use Rattle.bwe_specs.specs.Given.{group_of}
 use Rattle.path_groups.specs.Faults.{is_chain, repeats}
 use Rattle.path_groups.proofs.CauseOrder.{path_fault-long, path_fault-light, path_fault-heavy, path_fault-broken, path_fault-twice, path_fault-none}
 use Rattle.path_groups.proofs.check.fault_of_path.Goals as goal

@@ -1,6 +1,6 @@
 use Rattle.std.proofs.Common.{◌∙◌, sym, ◌<◌, length}
 use Rattle.std.specs.Prelude.{All}
-use Rattle.path_groups.specs.Given.{group_of}
+use Rattle.bwe_specs.specs.Given.{group_of}
 use Rattle.path_groups.specs.Faults.{plan_fault, group_fault}
 use Rattle.path_groups.proofs.Lists.{All-map_item}
 use Rattle.path_groups.proofs.FirstFaults.{first_fault-next, first_fault-found, first_fault-end}

@@ -1,5 +1,5 @@
 use Rattle.std.proofs.Common.{◌≡◌, drop}
-use Rattle.path_groups.specs.Given.{groups_of}
+use Rattle.bwe_specs.specs.Given.{groups_of}
 use Rattle.path_groups.specs.Faults.{first_fault, group_fault}
 use Rattle.path_groups.proofs.check.first_fault.Given as goal
 

@@ -1,7 +1,7 @@
 use Rattle.std.proofs.Common.{◌≡◌, ◌∙◌, ◌<◌, sym, ap, subst, [], ◌∷◌, ◌++◌, map, take, length, get_or, arith}
 use Rattle.std.proofs.lemmas.List.{take_more, take_all}
 use Rattle.bwe_specs.specs.Paths.{uses}
-use Rattle.path_groups.specs.Given.{path_of}
+use Rattle.bwe_specs.specs.Given.{path_of}
 use Rattle.path_groups.proofs.Parts.{IsUnderWay, IsUnderWay-start, IsUnderWay-link, IsUnderWay-path, IsUnderWay-end, uses-of}
 use Rattle.path_groups.proofs.part.parts_of.Goals as goal
 

@@ -1,5 +1,5 @@
 use Rattle.std.proofs.Common.{map, take, []}
-use Rattle.path_groups.specs.Given.{path_of}
+use Rattle.bwe_specs.specs.Given.{path_of}
 use Rattle.path_groups.proofs.Parts.{IsUnderWay}
 use Rattle.path_groups.proofs.part.parts_of.Given as goal
 

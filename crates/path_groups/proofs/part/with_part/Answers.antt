@@ -1,5 +1,5 @@
 use Rattle.std.proofs.Common.{◌∙◌, sym, ap, subst, arith, map}
-use Rattle.path_groups.specs.Given.{path_of}
+use Rattle.bwe_specs.specs.Given.{path_of}
 use Rattle.path_groups.specs.Parts.{has_part, HasPartToo}
 use Rattle.path_groups.proofs.Parts.{weights_over-le, weight_of-read, weight_over-read, HasPartToo-there, HasPartToo-push}
 use Rattle.path_groups.proofs.part.with_part.Goals as goal

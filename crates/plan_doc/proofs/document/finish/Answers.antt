@@ -1,5 +1,5 @@
 use Rattle.std.proofs.Common.{length, ap, sym, subst, ◌∙◌}
-use Rattle.path_groups.specs.Given.{AreInRange, groups_of}
+use Rattle.bwe_specs.specs.Given.{AreInRange, groups_of}
 use Rattle.doc_names.specs.NameTexts.{texts_of}
 use Rattle.doc_passes.specs.NumbersView.{numbers_view}
 use Rattle.doc_parts.specs.Document.{accepted}

@@ -1,7 +1,7 @@
 use Rattle.std.proofs.Common.{rules, subst, sym}
 use Rattle.std.specs.List.{All}
 use Rattle.bwe_specs.specs.declared.report.Report.{Report}
-use Rattle.demand_book.specs.Fit.{IsFit}
+use Rattle.bwe_specs.specs.Fit.{IsFit}
 use Rattle.doc_names.specs.NameTexts.{texts_of}
 use Rattle.bwe_specs.specs.Lists.{lists_of}
 use Rattle.text_scan.specs.Lines.{lines_of}

@@ -7,8 +7,8 @@ use Rattle.std.proofs.lemmas.List.Elements.{All-push}
 use Rattle.path_groups.specs.Plan.{IsPlan, IsBuiltOn}
 use Rattle.wan_topology.specs.Network.{Network}
 use Rattle.path_groups.specs.declared.fault.PathFault.{PathFault}
-use Rattle.path_groups.specs.declared.given.GroupSpec.{GroupSpec}
-use Rattle.path_groups.specs.Given.{groups_of, group_of, path_groups_of}
+use Rattle.bwe_specs.specs.declared.given.GroupSpec.{GroupSpec}
+use Rattle.bwe_specs.specs.Given.{groups_of, group_of, path_groups_of}
 use Rattle.path_groups.specs.Held.{path_groups_held, plan_held, HoldsParts, AllHoldParts}
 use Rattle.path_groups.specs.Faults.{plan_fault}
 use Rattle.path_groups.proofs.Sound.{IsSoundGroup, plan-sound}

@@ -1,7 +1,7 @@
 use Rattle.std.proofs.Common.{◌≡◌, ◌++◌}
 use Rattle.std.specs.Prelude.{All}
 use Rattle.std.specs.Vec.Iter.{into_iter_items}
-use Rattle.path_groups.specs.Given.{groups_of, path_groups_of}
+use Rattle.bwe_specs.specs.Given.{groups_of, path_groups_of}
 use Rattle.path_groups.specs.Held.{plan_held, AllHoldParts}
 use Rattle.path_groups.proofs.Sound.{IsSoundGroup}
 use Rattle.path_groups.proofs.plan.PathPlan.build.Given as goal

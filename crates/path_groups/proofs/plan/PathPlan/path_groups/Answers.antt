@@ -4,7 +4,7 @@ use Rattle.std.specs.Vec.Iter.{into_iter_items}
 use Rattle.std.proofs.lemmas.List.Elements.{All-push}
 use Rattle.bwe_specs.specs.Paths.{weight_of}
 use Rattle.path_groups.specs.declared.plan.PathGroup.{PathGroup}
-use Rattle.path_groups.specs.Given.{path_of, path_group_of}
+use Rattle.bwe_specs.specs.Given.{path_of, path_group_of}
 use Rattle.path_groups.specs.Parts.{AreParts}
 use Rattle.path_groups.specs.Held.{path_group_held, HoldsParts}
 use Rattle.path_groups.proofs.Parts.{weight_of-read}

@@ -2,7 +2,7 @@ use Rattle.std.proofs.Common.{◌≡◌, ◌++◌, ◌≤◌, map}
 use Rattle.std.specs.Prelude.{All}
 use Rattle.std.specs.Vec.Iter.{into_iter_items}
 use Rattle.bwe_specs.specs.Paths.{weight_of}
-use Rattle.path_groups.specs.Given.{path_group_of}
+use Rattle.bwe_specs.specs.Given.{path_group_of}
 use Rattle.path_groups.specs.Held.{path_groups_held, HoldsParts}
 use Rattle.path_groups.proofs.plan.PathPlan.path_groups.Given as goal
 

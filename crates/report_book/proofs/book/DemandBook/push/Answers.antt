@@ -3,7 +3,7 @@ use Rattle.std.proofs.lemmas.List.{length-map}
 use Rattle.bwe_specs.specs.declared.report.Report.{Report}
 use Rattle.report_book.specs.declared.told.Told.{Told}
 use Rattle.bwe_specs.specs.declared.limits.TheConstants.{MAX_REPORTS}
-use Rattle.demand_book.specs.Fit.{IsInRange}
+use Rattle.bwe_specs.specs.Fit.{IsInRange}
 use Rattle.bwe_specs.specs.Lists.{lists_of}
 use Rattle.report_book.specs.Book.{Book, AreKept, with_report, task_rows_after, link_rows_after}
 use Rattle.report_book.proofs.Keeping.{AreKept-push}

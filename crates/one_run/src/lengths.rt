@@ -1,21 +1,15 @@
 //! Inputs that have more bytes than they may, by what stands in them as the document.
-//!
-//! A command asks before anything else is looked at: here for an input that is one document, and
-//! `parted_input` for one of two parts. `solve` alone may read a document first, and ask where that
-//! is refused. The answer is exact (`specs/Lengths.antt`). An input of up to 67,108,864 bytes is not
-//! looked at, so its answer is what it was before version 4. Nothing is promised of time, nor that
-//! memory is there.
-#![tactic(auto)]
 
 ghost use Rattle.std.specs.Prelude.{◌≡◌, IfOk};
-ghost use Rattle.input_lengths.specs.Lengths.{document_is_too_long};
+ghost use Rattle.one_run.specs.Lengths.{document_is_too_long};
 
 use bwe_specs::{MAX_INPUT, OutOfMemory};
 use std::alloc::Global;
 use version_scan::is_of_version_4;
 
 /// Whether an input that is one document is too long: it has more than 67,108,864 bytes, and is not
-/// of version 4. A shorter one is not looked at.
+/// of version 4. A shorter one is not looked at, so its answer is what it was before version 4;
+/// `parted_input` asks the same of an input of two parts.
 ///
 /// A longer one is passed over once, in as much memory as it has bytes.
 pub fn document_is_too_long(alloc: Global, input: &[u8]) -> Result<bool, OutOfMemory>

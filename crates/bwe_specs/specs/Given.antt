@@ -3,8 +3,8 @@ use Rattle.std.specs.Prelude.{ℕ, ◌<◌, List, map, All, Vec, if◌then◌els
 use Rattle.std.specs.String.{string_bytes}
 use Rattle.std.proofs.Common.{Global}
 use Rattle.bwe_specs.specs.Paths.{Path, PathGroup, PathGroups, goes_over}
-use Rattle.path_groups.specs.declared.given.PathSpec.{PathSpec}
-use Rattle.path_groups.specs.declared.given.GroupSpec.{GroupSpec}
+use Rattle.bwe_specs.specs.declared.given.PathSpec.{PathSpec}
+use Rattle.bwe_specs.specs.declared.given.GroupSpec.{GroupSpec}
 
 -- a group as it is given: the sites where its traffic starts and ends, and its path groups
 pub record Group : Type 0 where
