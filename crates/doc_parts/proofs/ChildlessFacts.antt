@@ -6,7 +6,7 @@ use Rattle.std.proofs.Math.Bool.{or-false}
 use Rattle.std.proofs.lemmas.Iterator.Adapters.{position_from-zero}
 use Rattle.std.proofs.lemmas.List.{drop_all, length-map}
 use Rattle.std.proofs.lemmas.List.Folds.{list_any-append}
-use Rattle.capped_sum.specs.CappedSum.{without_demand}
+use Rattle.tree_spec.specs.Tasks.{without_demand}
 use Rattle.tree_spec.specs.States.{JobState, UserState, ClusterState, job_tasks, user_tasks, cluster_tasks}
 use Rattle.tree_spec.specs.Numbering.{numbered, numbered_task, numbered_job, numbered_user, numbered_cluster, numbered_clusters}
 use Rattle.tree_spec.specs.Walk.{Node, job_nodes, user_nodes, cluster_nodes, walk, is_childless}

@@ -2,7 +2,7 @@
 use Rattle.std.proofs.Common.{◌≡◌, ℕ, ◌+◌, List, [], ◌∷◌, length, map, refl, ap, ◌∙◌, arith, length-append}
 use Rattle.std.specs.List.{flat_map}
 use Rattle.std.proofs.lemmas.List.{length-map}
-use Rattle.capped_sum.specs.CappedSum.{without_demand}
+use Rattle.tree_spec.specs.Tasks.{without_demand}
 use Rattle.tree_spec.specs.States.{JobState, UserState, ClusterState, job_tasks, user_tasks, cluster_tasks}
 use Rattle.tree_spec.specs.Numbering.{numbered, numbered_task, numbered_tasks, numbered_job, numbered_jobs, numbered_user, numbered_users, numbered_cluster, numbered_clusters}
 use Rattle.tree_spec.specs.Trees as trees

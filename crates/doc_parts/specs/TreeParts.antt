@@ -1,7 +1,7 @@
 -- What a tree is built of: the functions and the weights of a document, with every demand 0.
 use Rattle.std.specs.Prelude.{ℕ, List, map, option_map}
 use Rattle.bw_function.specs.BwFunction.{Function, points_of}
-use Rattle.capped_sum.specs.CappedSum.{without_demand}
+use Rattle.tree_spec.specs.Tasks.{without_demand}
 use Rattle.tree_spec.specs.States.{JobState, UserState, ClusterState}
 use Rattle.raw_document.specs.Raw.{Task, Job, User, Group}
 

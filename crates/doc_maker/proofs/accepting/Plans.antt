@@ -14,7 +14,7 @@ use Rattle.bwe_specs.specs.Reports.{numbers}
 use Rattle.wan_topology.specs.Network as networks
 use Rattle.wan_topology.specs.Network.{Network, Sites, network_of, sites_of}
 use Rattle.path_groups.specs.Faults.{first_fault, leads, repeats, path_fault, path_group_fault, group_fault, plan_fault}
-use Rattle.capped_sum.specs.CappedSum.{without_demand}
+use Rattle.tree_spec.specs.Tasks.{without_demand}
 use Rattle.raw_document.specs.Raw.{Task}
 use Rattle.tree_spec.specs.States.{ClusterState, cluster_tasks}
 use Rattle.tree_spec.specs.Numbering.{numbered, numbered_task, numbered_tasks, numbered_job, numbered_user, numbered_cluster}
