@@ -12,7 +12,7 @@ use Rattle.raw_document.specs.Raw as raw
 use Rattle.doc_passes.specs.Limits.{sum_of}
 use Rattle.doc_passes.specs.Counts as counts
 use Rattle.doc_passes.proofs.Readings.{sum_of-one}
-use Rattle.doc_parts.specs.TreeParts.{weights_of, job_part, user_part, cluster_part}
+use Rattle.cluster_parts.specs.TreeParts.{weights_of, job_part, user_part, cluster_part}
 
 module _ {X Y Z : Type 0} (tasks : X → ℕ) (item : ℕ → X → Y) (f : Y → List Z) (size : X → ℕ) (sized : (first : ℕ) (x : X) → length (f (item first x)) ≡ size x) where
   flat_map-numbered : (first : ℕ) (xs : List X) → length (flat_map f (numbered tasks item first xs)) ≡ sum_of size xs

@@ -11,7 +11,7 @@ use Rattle.tree_spec.specs.declared.spec.ClusterSpec.{ClusterSpec}
 use Rattle.tree_spec.specs.States.{JobState, UserState, ClusterState}
 use Rattle.tree_spec.specs.Asked.{idle_job, idle_user, idle_cluster, HasTop, HasJobTop, HasUserTop, HasClusterTop, HasJobWeights, HasUserWeights, HasClusterWeights}
 use Rattle.raw_document.specs.Raw as raw
-use Rattle.doc_parts.specs.TreeParts.{function_part, weights_of, job_part, user_part, cluster_part}
+use Rattle.cluster_parts.specs.TreeParts.{function_part, weights_of, job_part, user_part, cluster_part}
 use Rattle.doc_passes.proofs.Readings.{All-anything}
 use Rattle.doc_passes.specs.InRange as ranges
 

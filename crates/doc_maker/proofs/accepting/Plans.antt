@@ -23,7 +23,7 @@ use Rattle.tree_spec.specs.Walk.{Node, OfCluster, OfUser, OfJob, cluster_nodes, 
 use Rattle.doc_passes.specs.Limits.{sum_of}
 use Rattle.doc_passes.specs.Counts.{group_tasks, task_count}
 use Rattle.doc_parts.specs.Links.{link_part}
-use Rattle.doc_parts.specs.TreeParts.{weights_of, job_part, user_part, cluster_part}
+use Rattle.cluster_parts.specs.TreeParts.{weights_of, job_part, user_part, cluster_part}
 use Rattle.doc_names.specs.Owners.{not_owned}
 use Rattle.doc_parts.specs.Document.{links_of, clusters_of, policy_fault}
 use Rattle.doc_parts.specs.TooMany.{clusters_fault}
