@@ -31,7 +31,7 @@ use Rattle.plan_doc.specs.Accepted.{IsAccepted}
 use Rattle.plan_doc.specs.Conditions.{IsUsable, link_count, reporter_count, tasks_in}
 use Rattle.doc_parts.specs.Document as documents
 use Rattle.doc_parts.specs.Document.{Accepted, accepted as accepted_by, clusters_of, document, document_by, document_of_raw, document_of_value, links_of, network_fault, policy_fault, over_limit, refused_by, unless, value_of}
-use Rattle.doc_parts.specs.Functions.{refused_in_groups}
+use Rattle.cluster_parts.specs.Functions.{refused_in_groups}
 use Rattle.doc_parts.proofs.TooManyFacts.{no_tree_fault}
 use Rattle.plan_doc.specs.Owners.{not_owned, owner_of}
 use Rattle.doc_refusals.specs.Refusals.{Refusal, bad_shape, not_owner, out_of_range, refused_function, refused_links, refused_paths, refused_tree, repeated_name, unknown_name}

@@ -20,9 +20,8 @@ use Rattle.raw_document.specs.declared.key.DocKey.TheVariants as keys
 use Rattle.raw_document.specs.declared.doc_path.PathStep.{PathStep}
 use Rattle.raw_document.specs.declared.doc_path.PathStep.TheVariants.{Index, Key}
 use Rattle.raw_document.specs.Raw.{Group, Job, User}
-use Rattle.doc_refusals.specs.Refusals.{RefusedFunction}
-use Rattle.doc_parts.specs.Functions.{below, first_refused, refused_configured, refused_here, refused_in_group, refused_in_groups, refused_in_job, refused_in_user}
-use Rattle.doc_parts.specs.TreeParts.{cluster_part, function_part, job_part, user_part}
+use Rattle.cluster_parts.specs.Functions.{RefusedFunction, below, first_refused, refused_configured, refused_here, refused_in_group, refused_in_groups, refused_in_job, refused_in_user}
+use Rattle.cluster_parts.specs.TreeParts.{cluster_part, function_part, job_part, user_part}
 
 below_none : (step : PathStep) (refused : Option RefusedFunction) → below step refused ≡ None → refused ≡ None
 below_none step None e = refl

@@ -6,7 +6,7 @@ use Rattle.bwe_specs.specs.Bounded.{greatest_upto}
 use Rattle.bwe_specs.specs.FunctionValue.{function_value}
 use Rattle.bwe_specs.proofs.Bounds.{greatest-found, over_false}
 use Rattle.capped_sum.specs.Index.{capped, IsMost}
-use Rattle.capped_sum.specs.CappedSum.{Tasks, tasks_value}
+use Rattle.tree_spec.specs.Tasks.{Tasks, tasks_value}
 use Rattle.capped_sum.proofs.Meanings.{capped-grows}
 
 -- the sum is at most the amount just where the amount per weight is at most that

@@ -5,10 +5,11 @@ use Rattle.std.proofs.Math.Nat.{le-div_iff_mul-le, div-lt_iff_lt-mul}
 use Rattle.std.proofs.lemmas.Bool.{cases_lt}
 use Rattle.std.proofs.lemmas.List.{take_all}
 use Rattle.std.proofs.lemmas.List.Sums.{sum_by-cons}
-use Rattle.capped_sum.specs.declared.task.Task.{Task}
+use Rattle.tree_spec.specs.declared.task.Task.{Task}
+use Rattle.tree_spec.specs.Tasks.{AreInRange}
 use Rattle.capped_sum.specs.declared.index.RankedTask.{RankedTask}
 use Rattle.capped_sum.specs.declared.index.SumsBefore.{SumsBefore}
-use Rattle.capped_sum.specs.Index.{capped, AreInRange, IsIndexOf, AreSumsWhenFull, IsMost}
+use Rattle.capped_sum.specs.Index.{capped, IsIndexOf, AreSumsWhenFull, IsMost}
 use Rattle.capped_sum.proofs.Sums.{ranked_capped, IsFound, found, sum-ranked}
 use Rattle.capped_sum.proofs.Meanings.{capped-grows, capped-none}
 

@@ -6,9 +6,9 @@ use Rattle.std.proofs.lemmas.List.Sums.{sum_by-cons}
 use Rattle.bwe_specs.specs.FunctionValue.{function_value}
 use Rattle.bwe_specs.specs.declared.limits.TheConstants.{MAX_TOTAL}
 use Rattle.bw_function.specs.Rise.{RisesAtMost}
-use Rattle.capped_sum.specs.declared.task.Task.{Task}
-use Rattle.capped_sum.specs.Index.{capped, AreInRange}
-use Rattle.capped_sum.specs.CappedSum.{Tasks, tasks_value}
+use Rattle.tree_spec.specs.declared.task.Task.{Task}
+use Rattle.tree_spec.specs.Tasks.{AreInRange, Tasks, tasks_value}
+use Rattle.capped_sum.specs.Index.{capped}
 use Rattle.capped_sum.proofs.Sums.{capped-few}
 
 -- where the function has at most so much more, so has each task for each unit of its weight

@@ -1,26 +1,15 @@
 -- The index of the tasks of a sum. `per_weight` is the value of the tasks' function.
-use Rattle.std.specs.Prelude.{◌≡◌, ℕ, ◌+◌, ◌*◌, ◌<◌, ◌≤◌, List, length, map, min, sum_by, take, slice_index_or, All, IsPermutation}
+use Rattle.std.specs.Prelude.{◌≡◌, ℕ, ◌+◌, ◌*◌, ◌<◌, ◌≤◌, List, length, map, min, sum_by, take, slice_index_or, IsPermutation}
 use Rattle.std.specs.Int.{div_ceil}
 use Rattle.std.specs.List.Sorted.{IsNonDecreasingBy}
-use Rattle.bwe_specs.specs.declared.limits.TheConstants.{MAX_AMOUNT, MAX_TASKS, MAX_TOTAL, MAX_WEIGHT}
-use Rattle.capped_sum.specs.declared.task.Task.{Task}
+use Rattle.bwe_specs.specs.declared.limits.TheConstants.{MAX_TASKS, MAX_TOTAL, MAX_WEIGHT}
+use Rattle.tree_spec.specs.declared.task.Task.{Task}
 use Rattle.capped_sum.specs.declared.index.RankedTask.{RankedTask}
 use Rattle.capped_sum.specs.declared.index.SumsBefore.{SumsBefore}
 
 -- a task's value where its function has so much
 abbrev pub capped : ℕ → Task → ℕ
 capped per_weight task = min (task.weight * per_weight) task.demand
-
--- a task's weight and demand are in their ranges
-pub record IsInRange (task : Task) : Type 0 where
-  pub low : 1 ≤ task.weight
-  pub weight : task.weight ≤ MAX_WEIGHT
-  pub demand : task.demand ≤ MAX_AMOUNT
-
--- so are those of all tasks, and their number is
-pub record AreInRange (tasks : List Task) : Type 0 where
-  pub few : length tasks ≤ MAX_TASKS
-  pub each : All IsInRange tasks
 
 -- a task with the least amount per weight at which it has its whole demand
 abbrev pub ranked_of : Task → RankedTask

@@ -3,18 +3,18 @@
 ghost use Rattle.std.specs.Prelude.{◌≡◌, ℕ, ◌+◌, ◌<◌, ◌≤◌, length, map, All, IfOk, OnOk, OnErr, vec_len};
 ghost use Rattle.bw_function.specs.Rise.{RisesAtMost};
 ghost use Rattle.function_sum.specs.Meaning.{IsMeaning};
-ghost use Rattle.capped_sum.specs.CappedSum.{tasks_value, task_at, with_demand, without_demand};
+ghost use Rattle.tree_spec.specs.Tasks.{tasks_value, task_at, with_demand, without_demand};
 
 use crate::index::{
     IndexedSum, RankedTask, SumsBefore, add_sums, all_weights, indexed_sum, per_weight_within,
     plain_sum, rebuild,
 };
-use crate::task::Task;
 use bw_function::{BwFunction, Look};
 use bwe_specs::{MAX_AMOUNT, MAX_TASKS, MAX_WEIGHT, OutOfMemory};
 use function_sum::{Outline, ShareFunction, Stretch};
 use std::alloc::{AllocError, Global};
 use std::marker::Model;
+use tree_spec::Task;
 
 // At how many full tasks an outline has a point.
 const MAX_FULL_TASKS: usize = 8;
@@ -31,7 +31,8 @@ pub struct CappedSum {
 }
 
 impl Model for CappedSum {
-    ghost use Rattle.capped_sum.specs.CappedSum.{Tasks, IsCappedSum};
+    ghost use Rattle.tree_spec.specs.Tasks.{Tasks};
+    ghost use Rattle.capped_sum.specs.CappedSum.{IsCappedSum};
 
     ghost Value = { Tasks };
 

@@ -2,7 +2,7 @@
 use Rattle.std.proofs.Common.{◌≡◌, ℕ, ◌+◌, List, [], ◌∷◌, length, map, refl, ap, ◌∙◌, arith, length-append}
 use Rattle.std.specs.List.{flat_map}
 use Rattle.std.proofs.lemmas.List.{length-map}
-use Rattle.capped_sum.specs.CappedSum.{without_demand}
+use Rattle.tree_spec.specs.Tasks.{without_demand}
 use Rattle.tree_spec.specs.States.{JobState, UserState, ClusterState, job_tasks, user_tasks, cluster_tasks}
 use Rattle.tree_spec.specs.Numbering.{numbered, numbered_task, numbered_tasks, numbered_job, numbered_jobs, numbered_user, numbered_users, numbered_cluster, numbered_clusters}
 use Rattle.tree_spec.specs.Trees as trees
@@ -12,7 +12,7 @@ use Rattle.raw_document.specs.Raw as raw
 use Rattle.doc_passes.specs.Limits.{sum_of}
 use Rattle.doc_passes.specs.Counts as counts
 use Rattle.doc_passes.proofs.Readings.{sum_of-one}
-use Rattle.doc_parts.specs.TreeParts.{weights_of, job_part, user_part, cluster_part}
+use Rattle.cluster_parts.specs.TreeParts.{weights_of, job_part, user_part, cluster_part}
 
 module _ {X Y Z : Type 0} (tasks : X → ℕ) (item : ℕ → X → Y) (f : Y → List Z) (size : X → ℕ) (sized : (first : ℕ) (x : X) → length (f (item first x)) ≡ size x) where
   flat_map-numbered : (first : ℕ) (xs : List X) → length (flat_map f (numbered tasks item first xs)) ≡ sum_of size xs

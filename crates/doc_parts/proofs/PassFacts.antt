@@ -10,7 +10,7 @@ use Rattle.doc_passes.specs.Ranges.{ranges}
 use Rattle.doc_names.specs.NameTexts.{NameTexts}
 use Rattle.doc_passes.specs.Names.{name_lists}
 use Rattle.doc_passes.specs.Numbers.{Numbers, numbers}
-use Rattle.doc_parts.specs.Functions.{refused_in_groups}
+use Rattle.cluster_parts.specs.Functions.{refused_in_groups}
 use Rattle.doc_names.specs.Owners.{not_owned}
 use Rattle.doc_refusals.specs.Refusals.{Refusal, unknown_name, refused_function, refused_links, refused_paths, refused_tree, not_owner}
 use Rattle.doc_parts.specs.Document as documents

@@ -17,12 +17,12 @@ use Rattle.raw_document.specs.Raw as raw
 use Rattle.doc_passes.specs.Counts.{task_count}
 use Rattle.doc_refusals.specs.declared.doc_error.DocError.{DocError}
 use Rattle.doc_parts.specs.Passing.{Makes}
-use Rattle.doc_parts.specs.Childless.{has_childless}
+use Rattle.cluster_parts.specs.Childless.{has_childless}
 use Rattle.doc_parts.specs.Document.{unless}
 use Rattle.doc_refusals.specs.Refusals.{Refusal, refused_tree, refusal_of}
 use Rattle.doc_parts.specs.TooMany.{links_fault, tasks_fault, clusters_fault}
-use Rattle.doc_parts.specs.TreeParts.{cluster_part}
-use Rattle.doc_parts.proofs.ChildlessFacts.{no_childless, childless_none}
+use Rattle.cluster_parts.specs.TreeParts.{cluster_part}
+use Rattle.cluster_parts.proofs.ChildlessFacts.{no_childless, childless_none}
 use Rattle.doc_parts.proofs.NodeFacts.{length-task_numbers}
 
 -- ---- links

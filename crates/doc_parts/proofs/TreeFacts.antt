@@ -3,15 +3,15 @@ use Rattle.std.proofs.Common.{◌≡◌, ℕ, ◌≤◌, List, [], ◌∷◌, ma
 use Rattle.std.specs.Prelude.{All}
 use Rattle.std.proofs.lemmas.List.Elements.{All-nil, All-cons, All-head, All-tail, All-same, All-map}
 use Rattle.bw_function.specs.BwFunction.{Function}
-use Rattle.capped_sum.specs.declared.task.Task.{Task}
-use Rattle.capped_sum.specs.CappedSum.{without_demand}
+use Rattle.tree_spec.specs.declared.task.Task.{Task}
+use Rattle.tree_spec.specs.Tasks.{without_demand}
 use Rattle.tree_spec.specs.declared.spec.JobSpec.{JobSpec}
 use Rattle.tree_spec.specs.declared.spec.UserSpec.{UserSpec}
 use Rattle.tree_spec.specs.declared.spec.ClusterSpec.{ClusterSpec}
 use Rattle.tree_spec.specs.States.{JobState, UserState, ClusterState}
 use Rattle.tree_spec.specs.Asked.{idle_job, idle_user, idle_cluster, HasTop, HasJobTop, HasUserTop, HasClusterTop, HasJobWeights, HasUserWeights, HasClusterWeights}
 use Rattle.raw_document.specs.Raw as raw
-use Rattle.doc_parts.specs.TreeParts.{function_part, weights_of, job_part, user_part, cluster_part}
+use Rattle.cluster_parts.specs.TreeParts.{function_part, weights_of, job_part, user_part, cluster_part}
 use Rattle.doc_passes.proofs.Readings.{All-anything}
 use Rattle.doc_passes.specs.InRange as ranges
 

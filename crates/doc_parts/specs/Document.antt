@@ -22,8 +22,8 @@ use Rattle.doc_passes.specs.Ranges.{ranges}
 use Rattle.doc_names.specs.NameTexts.{NameTexts}
 use Rattle.doc_passes.specs.Names.{name_lists}
 use Rattle.doc_passes.specs.Numbers.{Numbers, numbers}
-use Rattle.doc_parts.specs.Functions.{refused_in_groups}
-use Rattle.doc_parts.specs.TreeParts.{cluster_part}
+use Rattle.cluster_parts.specs.Functions.{refused_in_groups}
+use Rattle.cluster_parts.specs.TreeParts.{cluster_part}
 use Rattle.doc_parts.specs.Links.{link_part}
 use Rattle.doc_parts.specs.TooMany.{links_fault, clusters_fault}
 use Rattle.doc_names.specs.Owners.{not_owned}

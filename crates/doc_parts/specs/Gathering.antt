@@ -14,9 +14,9 @@ use Rattle.doc_parts.specs.declared.gathered.Named.{Named}
 use Rattle.doc_parts.specs.declared.gathered.TreeParts.{TreeParts}
 use Rattle.doc_parts.specs.declared.gathered.Built.{Built}
 use Rattle.doc_parts.specs.declared.gathered.Gathered.{Gathered}
-use Rattle.doc_parts.specs.Functions.{refused_in_groups}
-use Rattle.doc_parts.specs.TreeParts.{cluster_part}
-use Rattle.doc_parts.specs.Childless.{has_childless}
+use Rattle.cluster_parts.specs.Functions.{refused_in_groups}
+use Rattle.cluster_parts.specs.TreeParts.{cluster_part}
+use Rattle.cluster_parts.specs.Childless.{has_childless}
 use Rattle.doc_refusals.specs.Refusals.{Refusal}
 use Rattle.doc_parts.specs.Document.{Accepted, document_by, document_of_raw, links_of, network_fault}
 use Rattle.doc_parts.specs.Passing.{NamesRefusal}

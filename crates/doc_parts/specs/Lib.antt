@@ -1,7 +1,4 @@
-pub mod Functions
-pub mod TreeParts
 pub mod Links
-pub mod Childless
 pub mod TooMany
 pub mod Tables
 pub mod Document

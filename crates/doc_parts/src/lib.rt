@@ -9,16 +9,15 @@
 //! there is a refusal (`Gathers` in `specs/Gathering.antt`).
 //!
 //! What is read is the tree of the text's JSON value (`raw_shape`), and of it the raw document,
-//! whose names the text lends. Names, numbers, clusters and topology are gathered of it, and then
-//! it is let go. Nothing of the built tree is needed for that, only what one is built of
-//! (`tree_spec`).
+//! whose names the text lends. Names, numbers, clusters (`cluster_parts`) and topology are gathered
+//! of it, and then it is let go. Nothing of the built tree is needed for that, only what one is
+//! built of (`tree_spec`).
 //!
 //! Each name is hashed once where it stands, and once where it is referred to unless it is found
 //! where it is likely; no name is looked for in a list. Each pass is linear. Nothing is promised of
 //! time, of how much memory is taken, and nothing of which growth is refused where memory runs out.
 #![tactic(auto)]
 
-mod functions;
 mod gathered;
 mod names;
 mod nodes;

@@ -1,6 +1,5 @@
 -- Why a document is refused, and what of it the code answers.
 use Rattle.std.specs.Prelude.{◌≡◌, ℕ, List, Option, Some, None}
-use Rattle.bw_function.specs.declared.fault.FunctionFault.{FunctionFault}
 use Rattle.wan_topology.specs.declared.fault.TopologyFault.{TopologyFault}
 use Rattle.path_groups.specs.declared.fault.PathFault.{PathFault}
 use Rattle.tree_spec.specs.declared.fault.TreeFault.{TreeFault}
@@ -8,15 +7,11 @@ use Rattle.raw_document.specs.declared.doc_path.PathStep.{PathStep}
 use Rattle.raw_document.specs.declared.doc_path.Fault.{Fault}
 use Rattle.raw_document.specs.declared.doc_path.Fault.TheVariants as faults
 use Rattle.doc_passes.specs.declared.limit.What.{What}
-use Rattle.doc_refusals.specs.declared.build_error.BuildError.{BuildError}
-use Rattle.doc_refusals.specs.declared.build_error.BuildError.TheVariants as builds
+use Rattle.cluster_parts.specs.declared.build_error.BuildError.{BuildError}
+use Rattle.cluster_parts.specs.declared.build_error.BuildError.TheVariants as builds
+use Rattle.cluster_parts.specs.Functions.{RefusedFunction}
 use Rattle.doc_refusals.specs.declared.doc_error.DocError.{DocError}
 use Rattle.doc_refusals.specs.declared.doc_error.DocError.TheVariants as errors
-
--- a function that is refused: its path from here on, and why
-pub record RefusedFunction : Type 0 where
-  pub path : List PathStep
-  pub cause : FunctionFault
 
 -- the refusals, in the order of their numbers
 pub data Refusal : Type 0 where

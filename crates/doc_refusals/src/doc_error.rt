@@ -2,9 +2,9 @@
 
 ghost use Rattle.std.specs.Prelude.{◌≡◌};
 
-use crate::build_error::BuildError;
 use bw_function::FunctionFault;
 use bwe_specs::OutOfMemory;
+use cluster_parts::BuildError;
 use doc_passes::What;
 use path_groups::PathFault;
 use raw_document::{DocPath, Fault};

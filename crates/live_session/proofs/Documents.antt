@@ -29,7 +29,7 @@ use Rattle.doc_passes.specs.Numbers.{Numbers, numbers}
 use Rattle.doc_passes.specs.Passed.{HasPassed, IsReport}
 use Rattle.doc_parts.specs.Document as documents
 use Rattle.doc_parts.specs.Document.{Accepted, accepted as accepted_by, document, document_by, document_of_raw, document_of_value, links_of, network_fault, policy_fault, over_limit, refused_by, unless, value_of}
-use Rattle.doc_parts.specs.Functions.{refused_in_groups}
+use Rattle.cluster_parts.specs.Functions.{refused_in_groups}
 use Rattle.doc_parts.specs.Plans.{plan_of}
 use Rattle.doc_refusals.specs.Refusals.{Refusal, bad_shape, not_owner, out_of_range, refused_function, refused_links, refused_paths, refused_tree, repeated_name, unknown_name}
 use Rattle.doc_parts.proofs.PassFacts.{passed_of}

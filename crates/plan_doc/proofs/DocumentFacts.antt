@@ -18,7 +18,7 @@ use Rattle.doc_passes.specs.Counts.{task_count}
 use Rattle.doc_names.specs.NameTexts.{texts_of}
 use Rattle.doc_passes.specs.Numbers.{Numbers, numbers}
 use Rattle.doc_passes.specs.NumbersView.{numbers_view}
-use Rattle.doc_parts.specs.TreeParts.{cluster_part}
+use Rattle.cluster_parts.specs.TreeParts.{cluster_part}
 use Rattle.doc_names.specs.Owners.{not_owned}
 use Rattle.doc_parts.specs.Document.{accepted, links_of, clusters_of}
 use Rattle.plan_doc.specs.Accepted.{tree_of, IsDocumentOf}

@@ -10,7 +10,7 @@ use Rattle.doc_names.specs.NameTexts.{NameTexts}
 use Rattle.doc_names.specs.Owners.{not_owned}
 use Rattle.doc_passes.specs.Numbers.{Numbers}
 use Rattle.doc_refusals.specs.Refusals.{Refusal, refused_paths, refused_tree, not_owner}
-use Rattle.doc_parts.specs.Functions.{refused_in_groups}
+use Rattle.cluster_parts.specs.Functions.{refused_in_groups}
 use Rattle.doc_parts.specs.Document.{◌>>=◌, unless, links_of, network_fault, policy_fault, document_by}
 use Rattle.plan_doc.specs.Last.{last_refusals}
 

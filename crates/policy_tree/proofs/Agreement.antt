@@ -8,8 +8,8 @@ use Rattle.bwe_specs.specs.FunctionValue.{Point}
 use Rattle.bwe_specs.specs.Tree.{task_value, node_value, inner_share, task_values, job_value, job_values, user_value, user_values, cluster_value}
 use Rattle.bwe_specs.specs.Distribution.{children_sum}
 use Rattle.bw_function.specs.BwFunction.{Function}
-use Rattle.capped_sum.specs.declared.task.Task.{Task}
-use Rattle.capped_sum.specs.CappedSum.{tasks_value}
+use Rattle.tree_spec.specs.declared.task.Task.{Task}
+use Rattle.tree_spec.specs.Tasks.{tasks_value}
 use Rattle.tree_spec.specs.States.{transformed}
 use Rattle.policy_tree.specs.States.{JobState, UserState, ClusterState, job_tasks, user_tasks, cluster_tasks, job_meaning, jobs_meaning, user_meaning, users_meaning, cluster_meaning}
 use Rattle.policy_tree.specs.Asked.{HasTop}

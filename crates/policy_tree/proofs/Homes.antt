@@ -6,8 +6,8 @@ use Rattle.std.proofs.lemmas.List.{length-map, length-append, get_or-map, take-m
 use Rattle.std.proofs.lemmas.List.Concat.{get_or-flat_map}
 use Rattle.std.proofs.lemmas.List.Folds.{length-flat_map-take}
 use Rattle.std.proofs.lemmas.List.Sums.{sum_by-cons}
-use Rattle.capped_sum.specs.declared.task.Task.{Task}
-use Rattle.capped_sum.specs.CappedSum.{task_at}
+use Rattle.tree_spec.specs.declared.task.Task.{Task}
+use Rattle.tree_spec.specs.Tasks.{task_at}
 use Rattle.policy_tree.specs.declared.home.Home.{Home}
 use Rattle.policy_tree.specs.States.{JobState, UserState, ClusterState, job_tasks, cluster_tasks}
 use Rattle.policy_tree.specs.Changes.{job_at, user_at, cluster_at, cluster_with}

@@ -3,8 +3,8 @@ use Rattle.std.proofs.Common.{◌≡◌, ℕ, List, [], ◌∷◌, ◌++◌, len
 use Rattle.std.proofs.lemmas.List.{length-map, replicate-append-replicate}
 use Rattle.std.proofs.lemmas.List.Elements.{All-map, All-weaker}
 use Rattle.std.proofs.lemmas.List.Sums.{sum_by-cons}
-use Rattle.capped_sum.specs.declared.task.Task.{Task}
-use Rattle.capped_sum.specs.CappedSum.{without_demand}
+use Rattle.tree_spec.specs.declared.task.Task.{Task}
+use Rattle.tree_spec.specs.Tasks.{without_demand}
 use Rattle.policy_tree.specs.Numbering.{job_demands, user_demands, cluster_demands, demands_of}
 use Rattle.policy_tree.specs.Kept.{HaveJobTop, HaveUserTop, HaveClusterTop}
 use Rattle.tree_spec.specs.declared.spec.JobSpec.{JobSpec}

@@ -7,9 +7,8 @@ use Rattle.bwe_specs.specs.Distribution.{children_sum}
 use Rattle.bwe_specs.proofs.ShareFunctions.{sum-cons}
 use Rattle.bw_function.specs.BwFunction.{Function}
 use Rattle.function_sum.specs.Meaning.{IsMeaning}
-use Rattle.capped_sum.specs.declared.task.Task.{Task}
-use Rattle.capped_sum.specs.Index.{IsInRange}
-use Rattle.capped_sum.specs.CappedSum.{Tasks, tasks_value}
+use Rattle.tree_spec.specs.declared.task.Task.{Task}
+use Rattle.tree_spec.specs.Tasks.{IsInRange, Tasks, tasks_value}
 use Rattle.capped_sum.proofs.Meanings.{tasks-meaning}
 use Rattle.tree_spec.specs.States.{transformed}
 use Rattle.policy_tree.specs.States.{JobState, UserState, ClusterState, job_tasks, user_tasks, cluster_tasks, job_meaning, jobs_meaning, user_meaning, users_meaning, cluster_meaning, IsJobState, IsUserState, IsClusterState}

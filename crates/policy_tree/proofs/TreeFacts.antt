@@ -17,8 +17,8 @@ use Rattle.bwe_specs.proofs.HandedOut.{cluster-at}
 use Rattle.bwe_specs.proofs.ShareFunctions.{cluster_value-is_share_function}
 use Rattle.bwe_specs.proofs.Sums.{sum_below-list}
 use Rattle.bw_function.specs.BwFunction.{Function}
-use Rattle.capped_sum.specs.declared.task.Task.{Task}
-use Rattle.capped_sum.specs.Index.{IsInRange}
+use Rattle.tree_spec.specs.declared.task.Task.{Task}
+use Rattle.tree_spec.specs.Tasks.{IsInRange}
 use Rattle.policy_tree.specs.declared.home.Home.{Home}
 use Rattle.policy_tree.specs.States.{JobState, UserState, ClusterState, job_tasks, user_tasks, cluster_tasks, cluster_meaning, IsKeptFunction, IsJobState, IsUserState, IsClusterState}
 use Rattle.policy_tree.specs.Asked.{HasTop}

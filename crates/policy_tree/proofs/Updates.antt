@@ -3,7 +3,7 @@ use Rattle.std.proofs.Common.{◌≡◌, ℕ, zero, suc, ◌<◌, ◌≤◌, Lis
 use Rattle.std.proofs.lemmas.List.{length-set}
 use Rattle.std.proofs.lemmas.List.Sums.{sum_by-cons}
 use Rattle.std.proofs.lemmas.List.Elements.{All-set, All-get_or}
-use Rattle.capped_sum.specs.Index.{IsInRange}
+use Rattle.tree_spec.specs.Tasks.{IsInRange}
 use Rattle.policy_tree.specs.States.{JobState, UserState, ClusterState, job_tasks, user_tasks, cluster_tasks, IsJobState, IsUserState, IsClusterState}
 use Rattle.policy_tree.specs.Changes.{job_at, user_at, job_with, user_with, cluster_with}
 

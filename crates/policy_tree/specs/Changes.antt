@@ -1,6 +1,6 @@
 -- One demand of a node changes.
 use Rattle.std.specs.Prelude.{ℕ, List, [], None, slice_index_or, slice_set}
-use Rattle.capped_sum.specs.CappedSum.{with_demand}
+use Rattle.tree_spec.specs.Tasks.{with_demand}
 use Rattle.policy_tree.specs.States.{JobState, UserState, ClusterState}
 
 -- a node by its place among its siblings, or one of no tasks

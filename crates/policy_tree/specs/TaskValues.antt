@@ -1,7 +1,7 @@
 -- What the tasks of a tree may have at each share.
 use Rattle.std.specs.Prelude.{◌≡◌, ℕ, ◌<◌, List, map, flat_map, slice_index_or}
 use Rattle.bwe_specs.specs.Tree.{User, Cluster, task_value, task_values}
-use Rattle.capped_sum.specs.CappedSum.{task_at}
+use Rattle.tree_spec.specs.Tasks.{task_at}
 use Rattle.policy_tree.specs.States.{JobState, job_tasks}
 use Rattle.policy_tree.specs.Trees.{Tree, demand_in}
 

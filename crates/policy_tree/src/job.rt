@@ -1,8 +1,7 @@
 //! A job of the tree.
 
 ghost use Rattle.std.specs.Prelude.{◌≡◌, ℕ, ◌<◌, ◌≤◌, length, OnOk, OnErr};
-ghost use Rattle.capped_sum.specs.Index.{AreInRange};
-ghost use Rattle.capped_sum.specs.CappedSum.{task_at, tasks_value};
+ghost use Rattle.tree_spec.specs.Tasks.{AreInRange, task_at, tasks_value};
 ghost use Rattle.function_sum.specs.Meaning.{IsMeaning};
 ghost use Rattle.policy_tree.specs.States.{job_meaning, job_tasks, IsJobState, IsKeptFunction};
 ghost use Rattle.policy_tree.specs.Asked.{HasJobWeights, job_weights, idle_job};

@@ -2,7 +2,7 @@
 use Rattle.std.specs.Prelude.{ℕ, List, map, zip, flat_map}
 use Rattle.bwe_specs.specs.Tree.{task_value}
 use Rattle.bwe_specs.specs.Distribution.{distribution}
-use Rattle.capped_sum.specs.CappedSum.{Tasks}
+use Rattle.tree_spec.specs.Tasks.{Tasks}
 use Rattle.policy_tree.specs.States.{JobState, UserState, ClusterState, job_meaning, user_meaning}
 use Rattle.push_down.specs.declared.TaskLimit.{TaskLimit}
 

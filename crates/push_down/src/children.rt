@@ -3,7 +3,7 @@
 ghost use Rattle.std.specs.Prelude.{◌≡◌, ℕ, ◌<◌, ◌≤◌, List, length, map, nat_le, slice_index_or};
 ghost use Rattle.bwe_specs.specs.Bounded.{greatest_upto};
 ghost use Rattle.bwe_specs.specs.Distribution.{children_sum};
-ghost use Rattle.capped_sum.specs.Index.{AreInRange};
+ghost use Rattle.tree_spec.specs.Tasks.{AreInRange};
 ghost use Rattle.function_sum.specs.Meaning.{IsMeaning};
 ghost use Rattle.push_down.specs.Limits.{tasks_values};
 

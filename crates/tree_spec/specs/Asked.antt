@@ -2,7 +2,7 @@
 use Rattle.std.specs.Prelude.{◌≡◌, ℕ, ◌≤◌, List, length, map, Option, Some, None, All, sum_by}
 use Rattle.bwe_specs.specs.declared.limits.TheConstants.{MAX_WEIGHT}
 use Rattle.bw_function.specs.BwFunction.{Function}
-use Rattle.capped_sum.specs.CappedSum.{without_demand}
+use Rattle.tree_spec.specs.Tasks.{without_demand}
 use Rattle.tree_spec.specs.declared.spec.JobSpec.{JobSpec}
 use Rattle.tree_spec.specs.declared.spec.UserSpec.{UserSpec}
 use Rattle.tree_spec.specs.declared.spec.ClusterSpec.{ClusterSpec}

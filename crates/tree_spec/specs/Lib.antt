@@ -1,3 +1,4 @@
+pub mod Tasks
 pub mod States
 pub mod Asked
 pub mod Numbering

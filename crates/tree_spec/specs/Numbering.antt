@@ -3,7 +3,7 @@ use Rattle.std.specs.Prelude.{ℕ, ◌+◌, List, [], ◌∷◌, map, flat_map, 
 use Rattle.bwe_specs.specs.FunctionValue.{Point}
 use Rattle.bwe_specs.specs.Tree.{Weighted, Job, User, Cluster}
 use Rattle.bw_function.specs.BwFunction.{Function}
-use Rattle.capped_sum.specs.declared.task.Task.{Task}
+use Rattle.tree_spec.specs.declared.task.Task.{Task}
 use Rattle.tree_spec.specs.States.{JobState, UserState, ClusterState, job_tasks, user_tasks, cluster_tasks}
 
 -- each item of a list, told the number of its first task, where the list begins at a number

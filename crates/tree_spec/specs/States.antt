@@ -4,8 +4,7 @@ use Rattle.bwe_specs.specs.declared.limits.TheConstants.{MAX_TASKS}
 use Rattle.bwe_specs.specs.Distribution.{children_sum}
 use Rattle.bwe_specs.specs.Tree.{inner_share}
 use Rattle.bw_function.specs.BwFunction.{Function, IsBwFunction}
-use Rattle.capped_sum.specs.Index.{AreInRange}
-use Rattle.capped_sum.specs.CappedSum.{Tasks, tasks_value}
+use Rattle.tree_spec.specs.Tasks.{AreInRange, Tasks, tasks_value}
 
 -- a job: its configured function, its tasks' function, and its tasks
 pub record JobState : Type 0 where

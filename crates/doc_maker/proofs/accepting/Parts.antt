@@ -10,7 +10,7 @@ use Rattle.bwe_specs.specs.Reports.{numbers}
 use Rattle.bwe_specs.specs.declared.limits.TheConstants.{MAX_AMOUNT}
 use Rattle.bw_function.specs.Faults.{later_fault, function_fault}
 use Rattle.wan_topology.specs.Faults.{link_fault, first_link_fault, topology_fault}
-use Rattle.doc_parts.specs.Functions.{first_refused, refused_configured, refused_in_job, refused_in_user, refused_in_group, refused_in_groups}
+use Rattle.cluster_parts.specs.Functions.{first_refused, refused_configured, refused_in_job, refused_in_user, refused_in_group, refused_in_groups}
 use Rattle.doc_parts.specs.Links.{link_part}
 use Rattle.doc_parts.specs.Document.{links_of, network_fault}
 use Rattle.doc_parts.proofs.TooManyFacts.{few_links}

@@ -14,7 +14,7 @@ use Rattle.bwe_specs.specs.Reports.{numbers}
 use Rattle.wan_topology.specs.Network as networks
 use Rattle.wan_topology.specs.Network.{Network, Sites, network_of, sites_of}
 use Rattle.path_groups.specs.Faults.{first_fault, leads, repeats, path_fault, path_group_fault, group_fault, plan_fault}
-use Rattle.capped_sum.specs.CappedSum.{without_demand}
+use Rattle.tree_spec.specs.Tasks.{without_demand}
 use Rattle.raw_document.specs.Raw.{Task}
 use Rattle.tree_spec.specs.States.{ClusterState, cluster_tasks}
 use Rattle.tree_spec.specs.Numbering.{numbered, numbered_task, numbered_tasks, numbered_job, numbered_user, numbered_cluster}
@@ -23,7 +23,7 @@ use Rattle.tree_spec.specs.Walk.{Node, OfCluster, OfUser, OfJob, cluster_nodes, 
 use Rattle.doc_passes.specs.Limits.{sum_of}
 use Rattle.doc_passes.specs.Counts.{group_tasks, task_count}
 use Rattle.doc_parts.specs.Links.{link_part}
-use Rattle.doc_parts.specs.TreeParts.{weights_of, job_part, user_part, cluster_part}
+use Rattle.cluster_parts.specs.TreeParts.{weights_of, job_part, user_part, cluster_part}
 use Rattle.doc_names.specs.Owners.{not_owned}
 use Rattle.doc_parts.specs.Document.{links_of, clusters_of, policy_fault}
 use Rattle.doc_parts.specs.TooMany.{clusters_fault}

@@ -1,5 +1,5 @@
 use Rattle.std.proofs.Common.{rules, ◌≡◌, length, sym, subst}
-use Rattle.capped_sum.specs.Index.{AreInRange}
+use Rattle.tree_spec.specs.Tasks.{AreInRange}
 use Rattle.capped_sum.proofs.Meanings.{idle-in_range, length-idle}
 use Rattle.capped_sum.proofs.capped_sum.CappedSum.new.Goals as goal
 

@@ -1,5 +1,5 @@
 use Rattle.std.proofs.Common.{arith, ◌∙◌, ap, sum_by, List}
-use Rattle.capped_sum.specs.declared.task.Task.{Task}
+use Rattle.tree_spec.specs.declared.task.Task.{Task}
 use Rattle.capped_sum.proofs.Rise.{seen-few, seen-rises}
 use Rattle.capped_sum.proofs.capped_sum.CappedSum.steepest.Goals as goal
 

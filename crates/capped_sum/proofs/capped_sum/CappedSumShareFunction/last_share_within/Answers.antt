@@ -1,5 +1,5 @@
 use Rattle.std.proofs.Common.{ℕ, ◌≤◌, List, sum_by, ◌∙◌, subst}
-use Rattle.capped_sum.specs.declared.task.Task.{Task}
+use Rattle.tree_spec.specs.declared.task.Task.{Task}
 use Rattle.capped_sum.specs.Index.{capped, IsMost}
 use Rattle.capped_sum.proofs.Meanings.{seen-meaning}
 use Rattle.capped_sum.proofs.Inverse.{last-most, last-all}

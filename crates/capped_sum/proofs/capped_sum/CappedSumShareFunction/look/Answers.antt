@@ -1,5 +1,5 @@
 use Rattle.function_sum.specs.Meaning.{IsMeaning}
-use Rattle.capped_sum.specs.CappedSum.{tasks_value}
+use Rattle.tree_spec.specs.Tasks.{tasks_value}
 use Rattle.capped_sum.proofs.Meanings.{seen-meaning}
 use Rattle.capped_sum.proofs.capped_sum.CappedSumShareFunction.look.Goals as goal
 use Rattle.capped_sum.proofs.capped_sum.CappedSumShareFunction.look.Goals.{After-look-per_weight}

@@ -1,6 +1,6 @@
 use Rattle.std.proofs.Common.{◌≡◌, ◌<◌, ◌∙◌, sym, ap, subst, length, arith, List}
 use Rattle.std.proofs.lemmas.List.{get_or_read}
-use Rattle.capped_sum.specs.CappedSum.{task_at}
+use Rattle.tree_spec.specs.Tasks.{task_at}
 use Rattle.policy_tree.specs.States.{JobState, UserState, ClusterState, job_tasks}
 use Rattle.policy_tree.specs.Changes.{job_at, user_at, cluster_at}
 use Rattle.policy_tree.specs.TaskValues.{value_at, task_value_in}

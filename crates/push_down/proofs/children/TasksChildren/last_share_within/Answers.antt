@@ -3,7 +3,7 @@ use Rattle.std.proofs.Math.Path.{fun_ext}
 use Rattle.bwe_specs.specs.Bounded.{greatest_upto}
 use Rattle.bwe_specs.specs.Tree.{task_value}
 use Rattle.function_sum.specs.Meaning.{IsMeaning}
-use Rattle.capped_sum.specs.declared.task.Task.{Task}
+use Rattle.tree_spec.specs.declared.task.Task.{Task}
 use Rattle.policy_tree.proofs.Meanings.{nodes-sum}
 use Rattle.push_down.proofs.children.TasksChildren.last_share_within.Goals as goal
 

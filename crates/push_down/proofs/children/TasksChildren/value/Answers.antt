@@ -2,8 +2,8 @@ use Rattle.std.proofs.Common.{◌<◌, length, arith}
 use Rattle.std.proofs.lemmas.List.{length-map}
 use Rattle.std.proofs.lemmas.List.Elements.{All-get_or}
 use Rattle.bwe_specs.specs.Tree.{task_value}
-use Rattle.capped_sum.specs.declared.task.Task.{Task}
-use Rattle.capped_sum.specs.Index.{IsInRange}
+use Rattle.tree_spec.specs.declared.task.Task.{Task}
+use Rattle.tree_spec.specs.Tasks.{IsInRange}
 use Rattle.push_down.proofs.children.TasksChildren.value.Goals as goal
 
 pub overflow_cast-task : goal.overflow_cast-task

@@ -1,7 +1,7 @@
 use Rattle.std.proofs.Common.{◌≡◌, ◌+◌, ◌-◌, ◌∷◌, [], length, map, sym, ap, ◌∙◌, arith}
 use Rattle.std.specs.List.{range_with_len}
 use Rattle.std.proofs.lemmas.List.{map-append}
-use Rattle.capped_sum.specs.CappedSum.{Tasks}
+use Rattle.tree_spec.specs.Tasks.{Tasks}
 use Rattle.policy_tree.specs.States.{job_tasks}
 use Rattle.bwe_specs.specs.Lists.{lists_of}
 use Rattle.tree_nodes.proofs.ChildLists.{job-lists}

@@ -1,0 +1,4 @@
+pub mod Functions
+pub mod Building
+pub mod TreeParts
+pub mod Childless
