@@ -1,1 +1,4 @@
 pub mod LastReports
+pub mod Equal
+pub mod Changing
+pub mod Followed

@@ -1,1 +1,4 @@
 pub mod Fit
+pub mod Changes
+pub mod TableChanges
+pub mod Following
