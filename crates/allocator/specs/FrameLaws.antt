@@ -8,7 +8,7 @@ use Rattle.bwe_specs.specs.Paths.{path_group_count}
 use Rattle.bwe_specs.specs.Reports.{numbers, demand_after}
 use Rattle.bwe_specs.specs.Allocation.{Plan, wan_after, group_line, limits_of, allocation}
 use Rattle.bwe_specs.proofs.Plans.{length-capacities_after}
-use Rattle.limit_table.specs.Tables.{Frame, frame_of}
+use Rattle.demand_book.specs.TableChanges.{Frame, frame_of}
 use Rattle.plain_table.proofs.Lengths.{length-limits_of}
 use Rattle.allocator.specs.Frames.{task_count, frame_of_plan}
 

@@ -3,7 +3,7 @@ use Rattle.std.specs.Prelude.{ℕ, length, map}
 use Rattle.bwe_specs.specs.Paths.{path_group_count}
 use Rattle.bwe_specs.specs.Reports.{numbers}
 use Rattle.bwe_specs.specs.Allocation.{Plan}
-use Rattle.limit_table.specs.Tables.{Frame}
+use Rattle.demand_book.specs.TableChanges.{Frame}
 use Rattle.policy_tree.specs.Trees.{task_numbers}
 
 -- how many tasks a plan has

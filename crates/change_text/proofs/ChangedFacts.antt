@@ -11,7 +11,7 @@ use Rattle.std.proofs.lemmas.Slice.Eq.{bytes_eq-Decides}
 use Rattle.bwe_specs.specs.declared.network.Closing.{Closing}
 use Rattle.bwe_specs.specs.Allocation.{GroupLine, PlaceLine, Table}
 use Rattle.bwe_specs.specs.Reports.{numbers}
-use Rattle.limit_table.specs.Tables.{Frame, frame_of}
+use Rattle.demand_book.specs.TableChanges.{Frame, frame_of}
 use Rattle.doc_names.specs.NameTexts.{IsPlain, NameTexts, entry_at}
 use Rattle.text_scan.specs.Lines.{lines_of}
 use Rattle.text_scan.specs.Words.{words_of}

@@ -8,7 +8,7 @@ use Rattle.std.proofs.lemmas.Slice.Eq.{bytes_eq-Decides}
 use Rattle.bwe_specs.specs.declared.network.Closing.{Closing}
 use Rattle.bwe_specs.specs.Allocation.{Table, GroupLine}
 use Rattle.bwe_specs.specs.Reports.{numbers}
-use Rattle.limit_table.specs.Tables.{Frame, frame_of}
+use Rattle.demand_book.specs.TableChanges.{Frame, frame_of}
 use Rattle.doc_names.specs.NameTexts.{NameTexts}
 use Rattle.table_text.specs.TableText.{link_line, group_lines, task_line, text_of}
 use Rattle.change_text.specs.ChangeText.{changed, changed_closings, closing_lines}

@@ -4,7 +4,7 @@ use Rattle.std.specs.Prelude.{◌≡◌, ◌≢◌, ◌<◌, ◌≤◌, ℕ, ◌
 use Rattle.bwe_specs.specs.declared.network.Closing.{Closing}
 use Rattle.bwe_specs.specs.Allocation.{Table}
 use Rattle.bwe_specs.specs.Reports.{numbers}
-use Rattle.limit_table.specs.Tables.{frame_of}
+use Rattle.demand_book.specs.TableChanges.{frame_of}
 use Rattle.doc_names.specs.NameTexts.{IsPlain, NameTexts, entry_at}
 use Rattle.table_text.specs.TableText.{link_line, group_lines, task_line, text_of}
 use Rattle.change_text.specs.ChangeText.{change_text_of, changed, changed_closings, closing_lines}

@@ -2,12 +2,13 @@
 
 ghost use Rattle.std.specs.Prelude.{◌≡◌, ◌++◌, ◌<◌, ◌^◌, IfOk, OnOk, flat_map, length, string_bytes};
 ghost use Rattle.bwe_specs.specs.Reports.{numbers};
-ghost use Rattle.limit_table.specs.Tables.{frame_of};
+ghost use Rattle.demand_book.specs.TableChanges.{frame_of};
 ghost use Rattle.doc_names.specs.NameTexts.{texts_of};
 ghost use Rattle.table_text.specs.TableText.{closing_line, group_lines, value_line};
 ghost use Rattle.change_text.specs.ChangeText.{change_text_of, changed, changed_closings, closing_lines};
 
 use bwe_specs::{Closing, OutOfMemory};
+use demand_book::is_equal_line;
 use doc_names::{NameList, Names};
 use limit_table::{GroupLine, LimitTable, total_in};
 use std::alloc::{AllocError, Global};
@@ -167,7 +168,7 @@ fn push_changed_group(
 {
     let before = &earlier[group];
     let after = &later[group];
-    if before.is_equal(after) {
+    if is_equal_line(before, after) {
         return Ok(());
     }
     if before.share != after.share || before.amount != after.amount {

@@ -5,7 +5,7 @@ ghost use Rattle.bwe_specs.specs.declared.limits.TheConstants.{MAX_REPORTS};
 ghost use Rattle.bwe_specs.specs.declared.report.Report.{Report};
 ghost use Rattle.bwe_specs.specs.Allocation.{allocation};
 ghost use Rattle.bwe_specs.specs.Fit.{IsFit};
-ghost use Rattle.limit_table.specs.Tables.{frame_of};
+ghost use Rattle.demand_book.specs.TableChanges.{frame_of};
 ghost use Rattle.last_reports.specs.Snapshot.{snapshot};
 ghost use Rattle.live_core.specs.Live.{IsLive, links_of, plan_of, reports_of, tasks_of};
 

@@ -5,7 +5,7 @@ use Rattle.std.proofs.lemmas.List.FromFn.{length-map-range_with_len}
 use Rattle.bwe_specs.specs.declared.report.Report.{Report}
 use Rattle.bwe_specs.specs.Paths.{path_group_count}
 use Rattle.bwe_specs.specs.Allocation.{GroupLine, Table, allocation}
-use Rattle.limit_table.specs.Tables.{Frame}
+use Rattle.demand_book.specs.TableChanges.{Frame}
 use Rattle.allocator.specs.Frames.{task_count}
 use Rattle.allocator.specs.FrameLaws.{frame_of-allocation, one_frame-allocation}
 use Rattle.doc_parts.specs.Document.{Accepted, document}

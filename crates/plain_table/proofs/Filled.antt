@@ -18,7 +18,7 @@ use Rattle.mpfa_fill.specs.declared.filling.Filling.{Filling}
 use Rattle.mpfa_fill.specs.Filling.{IsFilling}
 use Rattle.mpfa_fill.specs.Rows.{amount_at, AreShaped}
 use Rattle.plain_table.specs.Lines.{HasRows, line_in, line_of_place}
-use Rattle.limit_table.proofs.Equal.{line_parts}
+use Rattle.limit_table.proofs.Parts.{line_parts}
 
 abbrev pub place_parts : ℕ → Option ℕ → PlaceLine
 place_parts amount closed = record { amount = amount; closed = closed }

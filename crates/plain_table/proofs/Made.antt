@@ -12,7 +12,7 @@ use Rattle.bwe_specs.specs.Values.{AreValues, NeverFalls}
 use Rattle.bwe_specs.specs.Allocation.{GroupLine, group_line, limits_of}
 use Rattle.bwe_specs.proofs.Sums.{sum_by-numbers}
 use Rattle.limit_table.specs.Tables.{IsTable}
-use Rattle.limit_table.proofs.Followed.{table_parts}
+use Rattle.limit_table.proofs.Parts.{table_parts}
 use Rattle.mpfa_fill.specs.declared.filling.Filling.{Filling}
 use Rattle.mpfa_fill.specs.Filling.{IsFilling}
 use Rattle.policy_tree.specs.Trees.{IsTree, demand_in, value_in}

@@ -10,9 +10,8 @@ use Rattle.bwe_specs.specs.Reports.{numbers}
 use Rattle.doc_names.specs.NameTexts.{IsPlain, NameTexts, entry_at}
 use Rattle.table_text.specs.TableText.{closing_line, link_line, closed_text, place_line, group_lines, task_line, text_of}
 use Rattle.table_laws.specs.Printing.{AreTelling, IsNamed, IsNamedClosing, IsNamedLine, IsNamedPlace}
-use Rattle.limit_table.proofs.Followed.{same-parts}
 use Rattle.table_laws.proofs.Reading.{in_word, IsWord, word-read, number-read, nest5, nest8, nest10, walk, walk-is, walk-plain, walk-mark, walk-read}
-use Rattle.limit_table.proofs.Equal.{line_parts}
+use Rattle.limit_table.proofs.Parts.{line_parts, same-parts}
 
 -- a text that begins with this byte, or has it as its second
 abbrev first_is : ℕ → List ℕ → Bool

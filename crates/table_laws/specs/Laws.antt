@@ -6,14 +6,14 @@ use Rattle.bwe_specs.specs.Reports.{numbers}
 use Rattle.bwe_specs.specs.Values.{NeverFalls}
 use Rattle.bwe_specs.specs.TreeFunctions.{AreClusters}
 use Rattle.bwe_specs.specs.Allocation.{Plan, Table, group_line, table_under}
-use Rattle.limit_table.specs.Tables.{Change}
+use Rattle.demand_book.specs.TableChanges.{Change}
 use Rattle.table_laws.specs.Tasks.{AreNumbered, AreAskedFor}
 use Rattle.table_laws.specs.Tables.{IsSharedAlike, IsWithoutWaste}
 use Rattle.doc_names.specs.NameTexts.{NameTexts}
 use Rattle.table_text.specs.TableText.{text_of}
 use Rattle.table_laws.specs.Printing.{AreTelling, IsNamed}
 use Rattle.table_laws.specs.Order.{IsOrder, AreAlike, reordered}
-use Rattle.limit_table.specs.Following.{LeadAlong, last_of, with_changes}
+use Rattle.demand_book.specs.Following.{LeadAlong, last_of, with_changes}
 
 -- No more than asked: in the table of a plan each task's limit is at most its demand, and at most
 -- its weight times what its job's task function gives at the top share

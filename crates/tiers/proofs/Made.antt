@@ -13,7 +13,7 @@ use Rattle.bwe_specs.specs.Allocation.{GroupLine, PlaceLine}
 use Rattle.bwe_specs.proofs.Bounds.{sum_below-mono, sum_below-term}
 use Rattle.bwe_specs.proofs.Sums.{sum_by-numbers}
 use Rattle.plain_table.specs.Lines.{line_of_place}
-use Rattle.limit_table.proofs.Equal.{line_parts}
+use Rattle.limit_table.proofs.Parts.{line_parts}
 use Rattle.plain_table.proofs.Filled.{map-numbers, no_line, no_place, place_parts, sum-numbers}
 use Rattle.tiers.specs.Tiered.{amounts_below, filling_of_tier, wan_of_tier, tier_closings, tier_count, tiered_amounts, tiered_line}
 use Rattle.tiers.specs.Fillings.{Fillings, AreFilled, HasLine, line_in_tier, row_of, rows_by, stops_by}

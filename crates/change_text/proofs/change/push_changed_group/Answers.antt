@@ -7,8 +7,8 @@ use Rattle.change_text.proofs.ChangeFacts.{nothing_put, ok_put, other_group, sam
 use Rattle.change_text.proofs.change.push_changed_group.Goals as goal
 use Rattle.change_text.proofs.change.push_changed_group.Goals.{then-before-after-via-then-before-after, then-before-after-via-else-before-after+then-before-after-2}
 
-pub returns-then-is_equal : goal.returns-then-is_equal
-returns-then-is_equal c =
+pub returns-then-is_equal_line : goal.returns-then-is_equal_line
+returns-then-is_equal_line c =
     nothing_put (string_bytes c.args.text.now) _
     (same_group (texts_of c.args.names.now) c.args.earlier.now c.args.later.now c.args.group c.index-earlier-group.result c.index-later-group.result
     (omega arith) (omega arith) c.index-earlier-group.is c.index-later-group.is (search rules))

@@ -1,5 +1,5 @@
 use Rattle.std.proofs.Common.{sym, ◌∙◌, ap}
-use Rattle.limit_table.specs.Tables.{frame_of}
+use Rattle.demand_book.specs.TableChanges.{frame_of}
 use Rattle.allocator.specs.Allocators.{plan_in}
 use Rattle.allocator.specs.FrameLaws.{one_frame-allocation}
 use Rattle.live_core.proofs.live.LiveCore.post.Goals as goal

@@ -1,6 +1,0 @@
-use Rattle.std.proofs.Common.{take}
-use Rattle.limit_table.specs.Changes.{Changes}
-use Rattle.limit_table.proofs.change.changed_numbers.Given as goal
-
-abbrev pub invariant-loop-at : goal.invariant-loop-at
-invariant-loop-at l = Changes 0 (take l.at l.old) (take l.at l.new) l.entries.items

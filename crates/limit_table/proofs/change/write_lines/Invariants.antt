@@ -1,6 +1,0 @@
-use Rattle.std.proofs.Common.{◌≡◌}
-use Rattle.limit_table.proofs.Changing.{written}
-use Rattle.limit_table.proofs.change.write_lines.Given as goal
-
-abbrev pub invariant-loop-at : goal.invariant-loop-at
-invariant-loop-at l = l.lines ≡ written l.yielded l.initial.lines

@@ -1,5 +1,0 @@
-use Rattle.limit_table.proofs.Followed.{kept-along}
-use Rattle.limit_table.proofs.table.LimitTablePosted.change_to.Goals as goal
-
-pub returns-clause-kept : goal.returns-clause-kept
-returns-clause-kept c = kept-along c.args.self.now c.args.later.now c.change_between.result c.change_between.ensures
