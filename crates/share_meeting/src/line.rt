@@ -5,7 +5,7 @@
 use function_sum::{Look, Stretch};
 
 /// Which mark moved last.
-#[derive(Clone, Copy, PartialEq, Eq, Drop)]
+#[derive(Clone, Copy, Debug, PartialEq, Eq, Drop)]
 enum Moved {
     Neither,
     Low,
@@ -13,7 +13,7 @@ enum Moved {
 }
 
 /// A share, and how far the sum there is from half a unit above the amount, counted twice.
-#[derive(Clone, Copy, Drop)]
+#[derive(Clone, Copy, Debug, Drop)]
 pub(crate) struct Mark {
     share: u64,
     apart: u64,
