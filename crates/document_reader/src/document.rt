@@ -19,9 +19,9 @@ ghost use Rattle.doc_parts.specs.Gathering.{AreTreeParts, IsGathered, Gathers};
 ghost use Rattle.plan_doc.specs.Conditions.{IsUsable};
 
 use crate::gathered::{gathered_by_tokens, gathered_on_threads};
+use crate::refusal::shape_refusal;
 use bwe_specs::{GroupSpec, MAX_GROUPS};
 use doc_names::find_not_owned;
-use fault_scan::find_fault;
 use path_groups::PathPlan;
 use plan_doc::{
     Built, DocError, Document, Gathered, Named, TreeParts, build_plan, build_tree, check_owners,
@@ -115,13 +115,6 @@ fn finish_on_threads<R: Threads + Sync>(
     })
 }
 
-// Refusal 2, where one walk over the tokens finds the first fault.
-fn shape_refusal(alloc: Global, bytes: &[u8]) -> Option<DocError>
-    ensures { IfSome result (λ error. Answers (Err error) (document bytes.now)) }
-{
-    Some(DocError::shape(find_fault(alloc, bytes)?))
-}
-
 // The document of the bytes, of which this was found straight from the tokens.
 fn document_from(
     alloc: Global,
@@ -195,6 +188,9 @@ pub fn read_document(alloc: Global, bytes: &[u8]) -> Result<Document, DocError>
 /// What runs at once ends before any of its refusals is answered, and the one of the lowest number
 /// is, as by `read_document`. What it makes stands in memory at the same time. Where no thread can
 /// be started, one does it all. Nothing is promised of time, nor that any two ran at once.
+///
+/// Of a text above 67,108,864 bytes that was not read in stretches the first fault is looked for
+/// before it is read as a whole, which would take as many bytes as it has beside all that was read.
 pub fn read_document_on_threads<R: Threads + Sync>(
     rt: &R,
     alloc: Global,

@@ -26,6 +26,7 @@ ghost use Rattle.doc_passes.specs.NumbersView.{numbers_view};
 ghost use Rattle.doc_passes.specs.Limits.{overrun};
 ghost use Rattle.doc_passes.specs.Ranges.{ranges};
 
+use crate::refusal::long_shape_refusal;
 use bwe_specs::MAX_SHARE;
 use doc_names::Names;
 use doc_passes::DocumentNumbers;
@@ -267,8 +268,24 @@ fn gathered_in_stretches<R: Threads + Sync>(
     Some(gather_on_threads(rt, alloc, &raw))
 }
 
+// The same of a text that is read as a whole, by one thread.
+fn gathered_as_a_whole<R: Threads + Sync>(
+    rt: &R,
+    alloc: Global,
+    bytes: &[u8],
+) -> Option<Result<Gathered, DocError>>
+    ensures { IfSome result (λ found. Gathers found (document bytes.now)) }
+{
+    let mut scratch = Scratch::new(alloc);
+    let raw = read_straight(alloc, bytes, &mut scratch)?;
+    Some(gather_on_threads(rt, alloc, &raw))
+}
+
 /// The same on threads: a long text is read in stretches, and then one thread looks at ranges and
 /// names, and another builds clusters and topology.
+///
+/// Reading a text as a whole takes as much memory as it has bytes beside what is read of it, so the
+/// first fault of a very long one, whose stretches were not read, is looked for before.
 pub fn gathered_on_threads<R: Threads + Sync>(
     rt: &R,
     alloc: Global,
@@ -279,7 +296,8 @@ pub fn gathered_on_threads<R: Threads + Sync>(
     if let Some(found) = gathered_in_stretches(rt, alloc, bytes) {
         return Some(found);
     }
-    let mut scratch = Scratch::new(alloc);
-    let raw = read_straight(alloc, bytes, &mut scratch)?;
-    Some(gather_on_threads(rt, alloc, &raw))
+    if let Some(error) = long_shape_refusal(alloc, bytes) {
+        return Some(Err(error));
+    }
+    gathered_as_a_whole(rt, alloc, bytes)
 }

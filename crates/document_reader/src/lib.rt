@@ -17,5 +17,6 @@
 
 mod document;
 mod gathered;
+mod refusal;
 
 pub use document::{read_document, read_document_on_threads};

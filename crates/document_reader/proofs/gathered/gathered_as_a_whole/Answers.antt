@@ -1,7 +1,7 @@
 use Rattle.std.proofs.Common.{subst}
 use Rattle.doc_parts.specs.Gathering.{Gathers}
 use Rattle.plan_doc.proofs.GatheringFacts.{from_shape}
-use Rattle.document_reader.proofs.gathered.gathered_on_threads.Goals as goal
+use Rattle.document_reader.proofs.gathered.gathered_as_a_whole.Goals as goal
 
 pub returns : goal.returns
 returns g c =

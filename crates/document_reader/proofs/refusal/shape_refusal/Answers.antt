@@ -10,7 +10,7 @@ use Rattle.doc_refusals.specs.declared.doc_error.DocError.{DocError}
 use Rattle.doc_parts.specs.Passing.{NamesRefusal}
 use Rattle.doc_parts.specs.Document.{document, document_of_value}
 use Rattle.doc_refusals.specs.Refusals.{IsRefusalBy, bad_shape}
-use Rattle.document_reader.proofs.document.shape_refusal.Goals as goal
+use Rattle.document_reader.proofs.refusal.shape_refusal.Goals as goal
 
 from_fault : (bytes : List ℕ) (d : Data) (fault : Fault) (error : DocError) → json bytes ≡ Some d → Fails fault (document_at d) → IsRefusalBy bad_shape fault error → NamesRefusal (document bytes) error
 unfolding document document_of_value
