@@ -11,8 +11,6 @@
 
 mod lengths;
 
-pub use lengths::document_is_too_long;
-
 ghost use Rattle.std.specs.Prelude.{◌≡◌, ◌≢◌, ◌+◌, Err, true, false, IfOk, IsErrOf, MatchResult};
 ghost use Rattle.bwe_io.specs.Bytes.{Takes};
 ghost use Rattle.bwe_io.specs.Faults.{HasRisen};
@@ -20,6 +18,7 @@ ghost use Rattle.one_run.specs.Endings.{IsInput, IsSilent, Writes, far_too_long_
 
 use bwe_io::{ReadError, Sink, Source, read_all, write_all};
 use bwe_specs::{MAX_LONG_INPUT, OutOfMemory};
+pub use lengths::document_is_too_long;
 use std::alloc::Global;
 use std::marker::Model;
 
