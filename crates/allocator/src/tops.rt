@@ -5,7 +5,7 @@ ghost use Rattle.parallel_values.specs.Levels.{levels_in};
 
 use mpfa_fill::GroupValues;
 use policy_tree::PolicyTree;
-use tree_bounds::{group_ceiling, group_floor, is_full};
+use tree_bounds::{group_ceiling, group_floor, group_last_share_within, is_full, is_searched};
 
 /// What each group of a tree may have at a share, where that at the greatest share, in kilobits per
 /// second, is known. A filling asks for it at its begin, at its end, and where it looks at a link
@@ -48,5 +48,13 @@ impl GroupValues for ToppedValues<'_> {
 
     fn is_full(&self, group: u32, share: u64, most: u64) -> bool {
         is_full(self.tree, group, share, most)
+    }
+
+    fn last_share_within(&self, group: u32, amount: u64) -> Option<u64> {
+        group_last_share_within(self.tree, group, amount)
+    }
+
+    fn is_searched(&self, group: u32) -> bool {
+        is_searched(self.tree, group)
     }
 }

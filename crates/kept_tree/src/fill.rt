@@ -16,7 +16,7 @@ use path_groups::PathPlan;
 use policy_tree::PolicyTree;
 use std::alloc::Global;
 use std::marker::Brand;
-use tree_bounds::{group_ceiling, group_floor, is_full};
+use tree_bounds::{group_ceiling, group_floor, group_last_share_within, is_full, is_searched};
 use wan_topology::Topology;
 
 /// The groups of a tree with what is kept of them. What else is asked for is listed by group, and
@@ -91,6 +91,18 @@ impl<K: Meant> GroupValues for KnownValues<'_, K> {
 
     fn is_full(&self, group: u32, share: u64, most: u64) -> bool {
         is_full(self.tree, group, share, most)
+    }
+
+    // Under a configured function that takes a search, and values that are kept take none.
+    fn last_share_within(&self, group: u32, amount: u64) -> Option<u64> {
+        if is_searched(self.tree, group) {
+            return None;
+        }
+        group_last_share_within(self.tree, group, amount)
+    }
+
+    fn is_searched(&self, group: u32) -> bool {
+        is_searched(self.tree, group)
     }
 }
 

@@ -41,13 +41,13 @@ impl<V: GroupValues, K: Meant> GroupValues for KeptValues<'_, V, K> {
         self.values.top()
     }
 
-    // A value of which no ceiling is told takes no search, so it is not kept.
+    // A value that takes no search is not kept.
     fn value(&self, group: u32, share: u64) -> u64 {
         if let Some(value) = self.answers.value(group, share) {
             return value;
         }
         let value = self.values.value(group, share);
-        if self.values.ceiling(group, 0).is_some() {
+        if self.values.is_searched(group) {
             self.answers.list(group, share, value);
         }
         value
@@ -63,5 +63,13 @@ impl<V: GroupValues, K: Meant> GroupValues for KeptValues<'_, V, K> {
 
     fn is_full(&self, group: u32, share: u64, most: u64) -> bool {
         self.values.is_full(group, share, most)
+    }
+
+    fn last_share_within(&self, group: u32, amount: u64) -> Option<u64> {
+        self.values.last_share_within(group, amount)
+    }
+
+    fn is_searched(&self, group: u32) -> bool {
+        self.values.is_searched(group)
     }
 }

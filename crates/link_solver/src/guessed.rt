@@ -10,6 +10,7 @@ ghost use Rattle.mpfa_fill.specs.Growth.{AreTermsOn};
 ghost use Rattle.link_front.specs.Front.{wan_in, closings_in, added_in, AreKnown, IsFront};
 ghost use Rattle.link_solver.specs.Dues.{AreDues, IsLooked, IsNextClosing};
 
+use crate::alone::due_of_one;
 use crate::due::Due;
 use crate::guesses::Guesses;
 use crate::links::{first_dues, values_at};
@@ -242,6 +243,9 @@ fn searched<V: GroupValues, L: Ledger>(
     requires enough { due.share ≤ enough }
     ensures { IsLooked (wan_in V.meaning front.now) (closings_in front.now) link due result }
 {
+    if let Some(found) = due_of_one(front, terms, link, due.share, due.over.min(top), steps) {
+        return found;
+    }
     let enough = reach(terms, enough, top);
     let capacity = front.growth.capacity(link) as u128;
     let mut low = due.share;

@@ -12,6 +12,7 @@ ghost use Rattle.link_solver.specs.Counts.{places_ahead};
 ghost use Rattle.link_solver.specs.Dues.{due_at, load_at, AreDues, IsHalved, IsLooked};
 ghost use Rattle.link_solver.specs.Looks.{halvings, looks_at, looks_ahead};
 
+use crate::alone::due_of_one;
 use crate::due::{Due, mark};
 use crate::winners::Winners;
 use bwe_specs::{Closing, OutOfMemory};
@@ -26,7 +27,8 @@ use std::sync::ledger::Ledger;
 ///
 /// It asks for the values of the groups that grow over the link, once for each look, and of no
 /// others; where the value is known at the share of the look, not for that. Where it is one group,
-/// it goes on until it is known at which share the link is over first, whatever is enough.
+/// it goes on until it is known at which share the link is over first, whatever is enough; and it
+/// asks for the last share within an amount, where the group's values tell that.
 pub(crate) fn looked<V: GroupValues, L: Ledger>(
     front: &Front<V>,
     alloc: Global,
@@ -234,6 +236,11 @@ fn halved<V: GroupValues, L: Ledger>(
     ensures some { due.share + 1 < due.over → steps.old < steps.new }
     ensures more { steps.old ≤ steps.new }
 {
+    if due.over - due.share > 1
+        && let Some(found) = due_of_one(front, terms, link, due.share, due.over, steps)
+    {
+        return found;
+    }
     let capacity = front.growth.capacity(link) as u128;
     let mut low = due.share;
     let mut high = due.over;

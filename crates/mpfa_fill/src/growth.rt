@@ -49,13 +49,13 @@ pub struct Growth<'a, V: GroupValues> {
 /// asked for there.
 #[derive(Clone, Copy)]
 pub struct Term {
-    group: u32,
-    place: u32,
-    amount: u64,
-    value: u64,
-    part: LinkPart,
-    held: u64,
-    known: Option<ValueAt>,
+    pub group: u32,
+    pub place: u32,
+    pub amount: u64,
+    pub value: u64,
+    pub part: LinkPart,
+    pub held: u64,
+    pub known: Option<ValueAt>,
 }
 
 /// A value at a share.
@@ -320,6 +320,15 @@ impl<'a, V: GroupValues> Growth<'a, V> {
         ensures { result ≡ slice_index (wan_in V.meaning self.now).capacities link }
     {
         self.topology.capacity(link)
+    }
+
+    /// What was added puts so much on the link.
+    pub fn load(&self, link: u32) -> u64
+        requires growth { IsGrowth V.meaning self.now }
+        requires link { link < length (wan_in V.meaning self.now).capacities }
+        ensures { result ≡ link_load (wan_in V.meaning self.now).groups (added_in self.now) link }
+    {
+        self.sums.load(link)
     }
 
     /// The load of the link at the share, if nothing closes on the way there. The terms are the

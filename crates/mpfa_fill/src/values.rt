@@ -1,6 +1,7 @@
 //! What is filled.
 
-ghost use Rattle.std.specs.Prelude.{◌≡◌, ◌<◌, ◌≤◌, IfSome, IsTrue};
+ghost use Rattle.std.specs.Prelude.{◌≡◌, ◌<◌, ◌≤◌, nat_le, IfSome, IsTrue};
+ghost use Rattle.bwe_specs.specs.Bounded.{greatest_upto};
 ghost use Rattle.mpfa_fill.specs.GroupValues.{Values, AreGroupValues};
 
 /// What each group may have at each share, in kilobits per second.
@@ -49,4 +50,15 @@ pub trait GroupValues {
         requires share { share ≤ (meaning self.now).top }
         requires most { most ≡ (meaning self.now).value group (meaning self.now).top }
         ensures { IsTrue result → (meaning self.now).value group share ≡ most };
+
+    /// The last share up to the top at which the group has at most so much, or `None` where that is
+    /// not told.
+    fn last_share_within(&self, group: u32, amount: u64) -> Option<u64>
+        requires { group < (meaning self.now).groups }
+        ensures { IfSome result (λ last. last ≡ greatest_upto (meaning self.now).top
+            (λ share. nat_le ((meaning self.now).value group share) amount)) };
+
+    /// Whether a value of the group takes a search, so that to keep it pays.
+    fn is_searched(&self, group: u32) -> bool
+        requires { group < (meaning self.now).groups };
 }

@@ -80,6 +80,14 @@ impl GroupValues for Slopes {
     fn is_full(&self, _group: u32, _share: u64, _most: u64) -> bool {
         false
     }
+
+    fn last_share_within(&self, _group: u32, _amount: u64) -> Option<u64> {
+        None
+    }
+
+    fn is_searched(&self, _group: u32) -> bool {
+        false
+    }
 }
 
 // The value of one group.

@@ -38,4 +38,12 @@ impl GroupValues for PlainValues<'_> {
     fn is_full(&self, _group: u32, _share: u64, _most: u64) -> bool {
         false
     }
+
+    fn last_share_within(&self, _group: u32, _amount: u64) -> Option<u64> {
+        None
+    }
+
+    fn is_searched(&self, _group: u32) -> bool {
+        false
+    }
 }

@@ -6,7 +6,7 @@ ghost use Rattle.tiers.specs.Fillings.{values_of_tier};
 
 use mpfa_fill::GroupValues;
 use policy_tree::PolicyTree;
-use tree_bounds::{group_ceiling, group_floor, is_full};
+use tree_bounds::{group_ceiling, group_floor, group_last_share_within, is_full, is_searched};
 
 /// What each group may have at a share in the filling of one tier, under the demands of a tree: its
 /// value where it is one of the tier, and 0 else.
@@ -54,6 +54,18 @@ impl GroupValues for TierValues<'_> {
 
     fn is_full(&self, group: u32, share: u64, most: u64) -> bool {
         is_in_tier(self.tiers, self.tier, group) && is_full(self.tree, group, share, most)
+    }
+
+    fn last_share_within(&self, group: u32, amount: u64) -> Option<u64> {
+        if is_in_tier(self.tiers, self.tier, group) {
+            group_last_share_within(self.tree, group, amount)
+        } else {
+            None
+        }
+    }
+
+    fn is_searched(&self, group: u32) -> bool {
+        is_in_tier(self.tiers, self.tier, group) && is_searched(self.tree, group)
     }
 }
 

@@ -5,8 +5,10 @@
 //! `is_full`, which tells that a group has all that it may have. They ask a configured function,
 //! and where there is none the children. A floor is what the function gives, less what the children
 //! rise at most from one share to the next, and no more than they have at the top. Where a group
-//! has no configured function nothing is told. Nothing is promised of how near the bounds are, nor
-//! of time.
+//! has no configured function nothing is told. `group_last_share_within` turns the values round,
+//! where a node's children are one, or under a function by one search among them. `is_searched`
+//! tells whether a function is configured. Nothing is promised of how near the bounds are, nor of
+//! time.
 #![tactic(auto)]
 
 mod ceiling;
@@ -14,4 +16,4 @@ mod cluster;
 mod floor;
 mod groups;
 
-pub use groups::{group_ceiling, group_floor, is_full};
+pub use groups::{group_ceiling, group_floor, group_last_share_within, is_full, is_searched};

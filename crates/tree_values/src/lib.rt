@@ -9,7 +9,7 @@ ghost use Rattle.plain_table.specs.Values.{values_of};
 
 use mpfa_fill::GroupValues;
 use policy_tree::PolicyTree;
-use tree_bounds::{group_ceiling, group_floor, is_full};
+use tree_bounds::{group_ceiling, group_floor, group_last_share_within, is_full, is_searched};
 
 /// What each group of a tree may have at a share, under the demands that are set.
 #[derive(Drop)]
@@ -42,5 +42,13 @@ impl GroupValues for TreeValues<'_> {
 
     fn is_full(&self, group: u32, share: u64, most: u64) -> bool {
         is_full(self.tree, group, share, most)
+    }
+
+    fn last_share_within(&self, group: u32, amount: u64) -> Option<u64> {
+        group_last_share_within(self.tree, group, amount)
+    }
+
+    fn is_searched(&self, group: u32) -> bool {
+        is_searched(self.tree, group)
     }
 }

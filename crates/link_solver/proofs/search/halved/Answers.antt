@@ -4,6 +4,16 @@ use Rattle.link_front.specs.Front.{wan_in, closings_in}
 use Rattle.link_solver.proofs.Looks.{one-less}
 use Rattle.link_solver.proofs.search.halved.Goals as goal
 
+pub returns-clause-ticks : goal.returns-clause-ticks
+returns-clause-ticks g c =
+    let found = c.in-Some.ensures.found in
+    let width : c.args.due.over - c.args.due.share ≤ 1_000_000_000 = omega (arith, c.requires.within, c.requires.front.growth.known.top_small) in
+    omega (
+      arith,
+      c.in-Some.ensures.look,
+      one-less (c.args.due.over - c.args.due.share) (c.in-Some.found.over - c.in-Some.found.share) width (omega (arith, c.if-due-gt1.true)) (omega (arith, found.next, c.if-due-gt1.true)),
+    )
+
 pub loop-high-preserved-then-load-capacity : goal.loop-high-preserved-then-load-capacity
 loop-high-preserved-then-load-capacity g c =
     let i = c.loop-high.invariant in
