@@ -20,6 +20,7 @@ ghost use Rattle.plan_doc.specs.Conditions.{IsUsable};
 
 use crate::gathered::{gathered_by_tokens, gathered_on_threads};
 use crate::refusal::shape_refusal;
+use apart::join_apart;
 use bwe_specs::{GroupSpec, MAX_GROUPS};
 use doc_names::find_not_owned;
 use path_groups::PathPlan;
@@ -29,7 +30,7 @@ use plan_doc::{
 };
 use policy_tree::PolicyTree;
 use std::alloc::Global;
-use std::thread::{Threads, join};
+use std::thread::Threads;
 use wan_topology::Topology;
 
 // Paths and tree of so long a text are built on two threads. Those of a shorter one take less time
@@ -75,7 +76,7 @@ fn plan_beside_tree<R: Threads + Sync>(
             (λ tree. tree ≡ idle_tree parts.spec) }
     { build_tree(theirs, version, tasks, parts) };
     // a thread is started for the first one
-    let (tree, plan) = join(rt, tree, plan);
+    let (tree, plan) = join_apart(rt, tree, plan);
     (plan, tree)
 }
 

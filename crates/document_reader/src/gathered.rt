@@ -27,6 +27,7 @@ ghost use Rattle.doc_passes.specs.Limits.{overrun};
 ghost use Rattle.doc_passes.specs.Ranges.{ranges};
 
 use crate::refusal::long_shape_refusal;
+use apart::join_apart;
 use bwe_specs::MAX_SHARE;
 use doc_names::Names;
 use doc_passes::DocumentNumbers;
@@ -38,7 +39,7 @@ use plan_doc::{
 use raw_document::{Fault, RawDocument};
 use raw_reader::{read_straight, read_straight_on_threads, scratches_of};
 use std::alloc::{AllocError, Global};
-use std::thread::{Threads, join};
+use std::thread::Threads;
 use threaded_passes::document_numbers_on_threads;
 
 // A document with so many groups or reports has its names read on threads.
@@ -77,7 +78,7 @@ fn numbers_beside_names<R: Threads + Sync>(
             &tables.reporters,
         )
     };
-    join(rt, numbered, copied)
+    join_apart(rt, numbered, copied)
 }
 
 // The names in the tables and the numbers, or refusal 6, of a document whose ranges are looked at
@@ -158,7 +159,7 @@ fn ranges_beside_names<R: Threads + Sync>(
         ensures { ranges (raw_view raw.entry.now) ≡ Ok tt
             → LeavesNames (raw_view raw.entry.now) result (document_named (raw_view raw.entry.now)) }
     { names_on_threads(rt, alloc, raw) };
-    join(rt, range, names)
+    join_apart(rt, range, names)
 }
 
 // Names and numbers, or the first of the refusals 4 to 6. Threads take longer to start than a short
@@ -204,7 +205,7 @@ fn halves<R: Threads + Sync>(
         requires { (1 ≤ raw.now.top) × (raw.now.top ≤ MAX_SHARE) }
         ensures { BuildsParts (raw_view raw.entry.now) result }
     { build_parts(theirs, raw) };
-    join(rt, names, parts)
+    join_apart(rt, names, parts)
 }
 
 // What both halves gathered, or the first refusal. Those of the names have the lower numbers.

@@ -18,10 +18,11 @@ use crate::guess::guess_at_ends;
 use crate::joined::Joined;
 use crate::pieces::Piece;
 use crate::runs::{RunPieces, read_run, runs_of};
+use apart::map_apart;
 use json::Scratch;
 use raw_document::RawDocument;
 use std::alloc::{AllocError, Global};
-use std::thread::{Threads, map_vec};
+use std::thread::Threads;
 
 // How many threads read a text at most.
 const MOST_THREADS: usize = 4;
@@ -98,7 +99,7 @@ fn read_text_on_threads<'a, R: Threads + Sync>(
     let version = guess_at_ends(text)?;
     let stretches = stretches_of(alloc, version, text)?;
     let runs = runs_of(alloc, stretches, scratches)?;
-    let found = map_vec(rt, runs, &read_run).ok()?;
+    let found = map_apart(rt, runs, &read_run).ok()?;
     document_of_runs(alloc, version, found)
 }
 

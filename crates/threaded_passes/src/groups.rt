@@ -12,10 +12,11 @@ ghost use Rattle.doc_passes.specs.NumbersView.{group_numbers_view};
 ghost use Rattle.threaded_passes.specs.Parts.{fold_member_from};
 
 use crate::walk::walk_member_from;
+use apart::join_apart;
 use doc_passes::{GroupNumbers, GroupTables, NameTable, group_numbers};
 use raw_document::{DocKey, Fault, RawGroup};
 use std::alloc::Global;
-use std::thread::{Threads, join};
+use std::thread::Threads;
 
 // The numbers of the groups from this place on, told from the list of all.
 fn late_group_numbers(
@@ -77,7 +78,7 @@ fn group_halves<R: Threads + Sync>(
             (spec.add_group_numbers links.entry.now reporters.entry.now) ([], [])
             (map group_view first.entry.now)) }
     { group_numbers(alloc, first, task_count, links, reporters) };
-    join(rt, early, late)
+    join_apart(rt, early, late)
 }
 
 // The numbers of all groups, of those of the first and those of the last.

@@ -12,11 +12,12 @@ ghost use Rattle.doc_passes.specs.NumbersView.{numbers_view, group_numbers_view}
 
 use crate::groups::group_numbers_on_threads;
 use crate::script::script_numbers_on_threads;
+use apart::join_apart;
 use bwe_specs::Report;
 use doc_passes::{DocumentNumbers, GroupNumbers, NameTable, closings_numbers, link_owners};
 use raw_document::{Fault, RawDocument};
 use std::alloc::Global;
-use std::thread::{Threads, join};
+use std::thread::Threads;
 
 // The numbers of groups and script, each by halves in a thread of its own. Both end before it
 // answers.
@@ -47,7 +48,7 @@ fn groups_beside_script<R: Threads + Sync>(
             (spec.add_group_numbers links.entry.now reporters.entry.now) ([], [])
             (raw_view raw.entry.now).groups) }
     { group_numbers_on_threads(rt, alloc, &raw.groups, tasks.len(), links, reporters) };
-    join(rt, groups, script)
+    join_apart(rt, groups, script)
 }
 
 /// The document with each name that refers to another replaced by its number, or the path of the

@@ -7,11 +7,12 @@ ghost use Rattle.raw_document.specs.declared.key.DocKey.TheVariants as keys;
 ghost use Rattle.raw_document.specs.declared.doc_path.PathStep.TheVariants.{Key};
 ghost use Rattle.doc_passes.specs.Numbers as spec;
 
+use apart::join_apart;
 use bwe_specs::Report;
 use doc_passes::{NameTable, each_report_from, script_numbers};
 use raw_document::{DocKey, Fault, PathStep, RawReport, under};
 use std::alloc::Global;
-use std::thread::{Threads, join};
+use std::thread::Threads;
 
 // The numbers of so many reports are worth a thread.
 const MANY_REPORTS: usize = 32_768;
@@ -48,7 +49,7 @@ fn script_halves<R: Threads + Sync>(
             (each (spec.report_numbers links.entry.now tasks.entry.now reporters.entry.now) 0
             (map report_view first.entry.now)) }
     { each_report_from(alloc, first, 0, links, tasks, reporters, &[]) };
-    join(rt, early, late)
+    join_apart(rt, early, late)
 }
 
 // The numbers of each report, half of them in a thread of its own.

@@ -27,12 +27,12 @@ returns g c =
     let version = c.in_ok-version.version in
     let runs = c.in_ok-runs.runs.items in
     let found = c.in_ok-found.found.items in
-    let given : c.map_vec.result ≡ Ok c.in_ok-found.found = search rules in
-    let lens = of_ok c.map_vec.result c.in_ok-found.found _ given c.map_vec.ensures.len in
+    let given : c.map_apart.result ≡ Ok c.in_ok-found.found = search rules in
+    let lens = of_ok c.map_apart.result c.in_ok-found.found _ given c.map_apart.ensures.len in
     let same : length found ≡ length runs = sym c.in_ok-found.found.ok.0 ∙ lens ∙ c.in_ok-runs.runs.ok.0 in
     let cut : AreStretches version text (stretches_in runs) = subst (AreStretches version text) (sym c.in_ok-runs.ensures) c.in_ok-stretches.ensures in
     let each : (i : ℕ) (run : Run) (r : Option (Vec (Vec Piece))) → i < length runs → IsRunRead (slice_index_or runs i run) (slice_index_or found i r) = λ i run r lt.
-    let job = (of_ok c.map_vec.result c.in_ok-found.found _ given c.map_vec.ensures.each i r lt).1 in
+    let job = (of_ok c.map_apart.result c.in_ok-found.found _ given c.map_apart.ensures.each i r lt).1 in
     subst (λ t. IsRunRead t (slice_index_or found i r)) (sym (job.job_is run)) job.call.met in
     of_these c.document_of_runs.result text runs (λ text runs. AreStretches version text (stretches_in runs)) (λ runs. AreRunsRead runs found) (λ raw text. (d : Data) × (read text ≡ Some d) × (document_at d ≡ Ok (raw_view raw)))
     c.document_of_runs.ensures cut (are_read runs found same each)
